@@ -142,6 +142,7 @@ fn put_call(text: &mut String, call: &Call) -> Result<(), AllocError> {
         Call::Acquire { handle, mode } => put_lock(text, "Acquire", handle, *mode),
         Call::TryAcquire { handle, mode } => put_lock(text, "TryAcquire", handle, *mode),
         Call::CheckSequencer(bytes) => put_bytes(text, "CheckSequencer", bytes.as_slice()),
+        Call::Leave => text.push_str(" Leave"),
         _ => Ok(()),
     }
 }

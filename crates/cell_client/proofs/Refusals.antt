@@ -29,11 +29,11 @@ use Rattle.client_core.specs.declared.plans.Plan.{Plan}
 use Rattle.client_core.specs.declared.plans.Plan.TheVariants as plans
 use Rattle.client_core.specs.State.{ClientState, standing_then}
 use Rattle.client_core.specs.Serves.{open_served, read_served}
-use Rattle.client_core.specs.Asks.{send_plan, served_or, close_plan, poison_plan, node_plan, sequencer_plan, plan_of, ask_step}
+use Rattle.client_core.specs.Asks.{fault_then, has_given_up, send_plan, served_or, close_plan, poison_plan, node_plan, sequencer_plan, plan_of, ask_step}
 use Rattle.client_core.specs.Gives.{give_step}
 use Rattle.client_core.specs.Cases.{noted_moment, AskCase, asked_in, GiveCase, given_in}
 use Rattle.client_core.specs.Cases.AskCase.{AskedTooLate, Unsafe, Refused, ReadServed, AbsenceServed, Shared, OutOfHandles, Released, OutOfCalls, Sent, Poisoned}
-use Rattle.client_core.specs.Cases.GiveCase.{GivenTooLate, OfAnother, Started, StartedUnfit, StartedDropped, LeaseTaken, LeaseStays, AliveUnfit, AliveDropped, OutOfNumbers, Replied, Installed, ReplyDropped, NotAwaited, Learns, Lost, TurnedAway, RefusalDropped}
+use Rattle.client_core.specs.Cases.GiveCase.{GivenTooLate, OfAnother, Started, StartedUnfit, StartedDropped, LeaseTaken, LeaseStays, AliveUnfit, AliveDropped, OutOfNumbers, Replied, Installed, Departed, ReplyDropped, NotAwaited, Learns, Lost, TurnedAway, RefusalDropped}
 use Rattle.client_core.proofs.AskCases.{ask_case}
 use Rattle.client_core.proofs.Cached.{cached_is}
 use Rattle.client_core.proofs.GiveCases.{give_case}
@@ -124,6 +124,7 @@ plan_own s moment (asks.Node number call) = node_own s moment number call (usabl
 plan_own s moment (asks.SetSequencer number sequencer) =
     sequencer_own s number sequencer (usable_handle (handle_of s.handles number)) (usable_own (handle_of s.handles number))
 plan_own s moment (asks.CheckSequencer bytes) = sent_own s (calls.CheckSequencer bytes) None targets.Checking
+plan_own s moment asks.Leave = sent_own s calls.Leave None targets.Leaving
 
 -- ---- an ask
 
@@ -138,6 +139,11 @@ session_own sessions.Live standing = standing_own standing
 session_own sessions.Lost standing = record { no_want = λ e. cc; no_end = λ e. cc }
 session_own sessions.TurnedAway standing = record { no_want = λ e. cc; no_end = λ e. cc }
 
+-- also where the client has asked for the end of its session
+given_up_own : (b : Bool) (o : Option Fault) → OwnSome o → OwnSome (cond b (Some faults.NoSession) o)
+given_up_own true o h = record { no_want = λ e. cc; no_end = λ e. cc }
+given_up_own false o h = h
+
 -- the refusal by which an answered ask ends
 abbrev OwnAsked : ClientState × Result Asked Fault → Type 0
 OwnAsked (new, Ok asked) = OwnOutcome asked.outcome
@@ -145,10 +151,12 @@ OwnAsked (new, Err fault) = Unit {0}
 
 asked_own : (s : ClientState) (now : ℕ) (ask : Ask) (c : AskCase s now ask) → OwnAsked (asked_in s now ask c)
 asked_own s now ask (AskedTooLate late) = tt
-asked_own s now ask (Unsafe fault early is) = subst OwnSome is (session_own s.session (standing_then s (noted_moment s now)))
+asked_own s now ask (Unsafe fault early is) =
+    let moment = noted_moment s now in
+    subst OwnSome is (given_up_own (has_given_up s moment ask) (fault_then s moment) (session_own s.session (standing_then s moment)))
 asked_own s now ask (Refused fault safe is) = subst OwnErr is (plan_own s (noted_moment s now) ask)
 asked_own s now ask (ReadServed number handle call entry given safe is readable) = cached_is OwnAnswer (λ view. tt) (λ names. tt) stale_own handle call entry given readable.answers
-asked_own s now ask (AbsenceServed opening safe is plain cached) = record { no_want = λ e. cc; no_end = λ e. cc }
+asked_own s now ask (AbsenceServed opening safe stays is plain cached) = record { no_want = λ e. cc; no_end = λ e. cc }
 asked_own s now ask (Shared opening view handle safe is shared room) = tt
 asked_own s now ask (OutOfHandles opening view handle safe is shared last) = tt
 asked_own s now ask (Released number handle safe is found shared) = tt
@@ -181,6 +189,7 @@ given_own s now out (AliveDropped message heard is strange) = tt
 given_own s now out (OutOfNumbers message call heard is for last) = tt
 given_own s now out (Replied message call heard is for room kept plain) = tt
 given_own s now out (Installed message call taught stamp heard is for learned) = tt
+given_own s now out (Departed message call heard is for leaving done) = tt
 given_own s now out (ReplyDropped message call heard is for dropped) = tt
 given_own s now out (NotAwaited message heard is none) = tt
 given_own s now out (Learns message present heard is later) = tt

@@ -11,7 +11,7 @@ use Rattle.client_core.specs.Gives.{give_step}
 use Rattle.client_core.specs.Cases.{AskCase, asked_in, BeatCase, beaten_in, GiveCase, given_in}
 use Rattle.client_core.specs.Cases.AskCase.{AskedTooLate, Unsafe, Refused, ReadServed, AbsenceServed, Shared, OutOfHandles, Released, OutOfCalls, Sent, Poisoned}
 use Rattle.client_core.specs.Cases.BeatCase.{BeatTooLate, OutOfBeats, Starts, Beats, Quiet}
-use Rattle.client_core.specs.Cases.GiveCase.{GivenTooLate, OfAnother, Started, StartedUnfit, StartedDropped, LeaseTaken, LeaseStays, AliveUnfit, AliveDropped, OutOfNumbers, Replied, Installed, ReplyDropped, NotAwaited, Learns, Lost, TurnedAway, RefusalDropped}
+use Rattle.client_core.specs.Cases.GiveCase.{GivenTooLate, OfAnother, Started, StartedUnfit, StartedDropped, LeaseTaken, LeaseStays, AliveUnfit, AliveDropped, OutOfNumbers, Replied, Installed, Departed, ReplyDropped, NotAwaited, Learns, Lost, TurnedAway, RefusalDropped}
 use Rattle.client_core.proofs.AskCases.{ask_case, beat_case}
 use Rattle.client_core.proofs.GiveCases.{give_case}
 
@@ -25,7 +25,7 @@ asked_stays s now ask (AskedTooLate late) = refl
 asked_stays s now ask (Unsafe fault early is) = tt
 asked_stays s now ask (Refused fault safe is) = tt
 asked_stays s now ask (ReadServed number handle call entry given safe is readable) = tt
-asked_stays s now ask (AbsenceServed opening safe is plain cached) = tt
+asked_stays s now ask (AbsenceServed opening safe stays is plain cached) = tt
 asked_stays s now ask (Shared opening view handle safe is shared room) = tt
 asked_stays s now ask (OutOfHandles opening view handle safe is shared last) = refl
 asked_stays s now ask (Released number handle safe is found shared) = tt
@@ -53,6 +53,7 @@ given_stays s now out (AliveDropped message heard is strange) = tt
 given_stays s now out (OutOfNumbers message call heard is for last) = refl
 given_stays s now out (Replied message call heard is for room kept plain) = tt
 given_stays s now out (Installed message call taught stamp heard is for learned) = tt
+given_stays s now out (Departed message call heard is for leaving done) = tt
 given_stays s now out (ReplyDropped message call heard is for dropped) = tt
 given_stays s now out (NotAwaited message heard is none) = tt
 given_stays s now out (Learns message present heard is later) = tt

@@ -38,6 +38,7 @@ call_ask (calls.Release handle) sequencer = node_ask handle nodes.Release
 call_ask (calls.GetSequencer handle) sequencer = node_ask handle nodes.GetSequencer
 call_ask (calls.SetSequencer handle) sequencer = sequencer_ask handle sequencer
 call_ask (calls.CheckSequencer bytes) sequencer = Some (asks.CheckSequencer bytes)
+call_ask calls.Leave sequencer = Some asks.Leave
 
 -- the client puts its own number, its epoch and the call's number, whatever stands in the message
 abbrev pub request_ask : Request → Option Ask

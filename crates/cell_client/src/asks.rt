@@ -59,6 +59,7 @@ fn call_ask(call: Call, sequencer: &mut Option<Bytes>) -> Option<Ask>
         Call::GetSequencer(handle) => node_ask(handle, NodeCall::GetSequencer),
         Call::SetSequencer(handle) => sequencer_ask(handle, sequencer.take()),
         Call::CheckSequencer(bytes) => Some(Ask::CheckSequencer(bytes)),
+        Call::Leave => Some(Ask::Leave),
     }
 }
 

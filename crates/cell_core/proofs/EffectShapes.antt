@@ -196,6 +196,7 @@ module _ (s : MasterState) where
   of_node handle (calls.GetSequencer bytes) node = of_fault faults.BadHandle
   of_node handle (calls.SetSequencer bytes) node = of_fault faults.BadHandle
   of_node handle (calls.CheckSequencer bytes) node = of_fault faults.BadHandle
+  of_node handle calls.Leave node = of_fault faults.BadHandle
 
   -- ---- any call
 

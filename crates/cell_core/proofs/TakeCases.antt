@@ -1,6 +1,6 @@
 -- The arm of the table that a message takes.
 use Rattle.std.proofs.Common.{◌≡◌, ◌≢◌, ℕ, ◌<◌, List, [], Bool, true, false, cond, Option, Some, None, Result, Ok, Err, refl, arith, eqb, inl, inr}
-use Rattle.std.specs.Prelude.{◌==◌, ◌||◌, nat_lt, is_none}
+use Rattle.std.specs.Prelude.{◌==◌, ◌||◌, nat_lt, is_none, ◌&&◌, is_some}
 use Rattle.std.proofs.lemmas.Bool.Decides.{nat_tests}
 use Rattle.node_core.specs.declared.refusals.Fault.{Fault}
 use Rattle.node_core.specs.declared.refusals.Fault.TheVariants as faults
@@ -19,11 +19,12 @@ use Rattle.session_core.specs.Session.{beat_fault, kept_answer}
 use Rattle.cell_parts.specs.declared.pending.Task.TheVariants as tasks
 use Rattle.cell_parts.specs.declared.pending.Work.TheVariants as works
 use Rattle.cell_state.specs.State.{MasterState}
-use Rattle.cell_state.specs.Lookups.{session_of, kept_of, is_live, is_full, may_start, turned_away, refusal, nothing, is_spent, noted}
-use Rattle.cell_core.specs.Step.{queued, replied, is_cachable, granting, telling, waits, admission_for, admit_step, new_call_by, new_call, kept_step, call_step, start_step, beat_by, beat_step, take_at, take_step, is_past_end}
+use Rattle.cell_state.specs.Lookups.{session_of, kept_of, is_live, is_full, may_start, turned_away, refusal, nothing, is_spent, noted, repeated}
+use Rattle.cell_core.specs.Step.{queued, replied, is_cachable, granting, telling, waits, admission_for, admit_step, new_call_by, new_call, kept_step, call_step, start_step, beat_by, beat_step, take_at, take_step, is_past_end, ended_step}
 use Rattle.cell_state.specs.Updates.{with_note}
 use Rattle.cell_core.specs.Cases.{IsHeard, IsNew, TakeCase, taken_by}
-use Rattle.cell_core.specs.Cases.TakeCase.{StartRefused, StartRecovering, StartFull, StartQueued, OldBeat, BeatRefused, BeatParked, OldEpoch, NoSession, Repeated, OlderCall, Outstanding, Recovering, Answered, Granted, Waits}
+use Rattle.cell_core.specs.Cases.TakeCase.{StartRefused, StartRecovering, StartFull, StartQueued, OldBeat, BeatRefused, BeatParked, OldEpoch, NoSession, Repeated, OlderCall, Outstanding, Recovering, Answered, Granted, Waits, LeftBefore}
+use Rattle.tags_cell.specs.Messages.{is_leave}
 
 -- one of the cases is what is done
 abbrev pub IsCase : (s : MasterState) → Request → MasterState × Taken → Type 0
@@ -100,15 +101,36 @@ kept_case s request message (Some kept) heard is =
     let t = some_reply kept.reply e in
     new_case s request message (record { heard = heard; behind = rw is (t.0, t.1, high) }))))
 
+-- the session has ended
+ended_case : (s : MasterState) (request : Request) (message : CallMessage) (o : Option (Kept Reply)) → request ≡ requests.Call message → message.epoch ≡ s.epoch → is_live s message.client ≡ false → kept_of s message.client ≡ o → IsCase s request (ended_step s message (kept_answer o message.number))
+ended_case s request message None is epoch ended none = (NoSession message is epoch ended, refl)
+ended_case s request message (Some kept) is epoch ended some = by_number (message.number == kept.number) refl
+  where
+    away : IsCase s request (s, refusal s message.client message.number faults.NoSession)
+    away = (NoSession message is epoch ended, refl)
+
+    behind : (b c : Bool) → IsCase s request (ended_step s message (cond b (Err faults.Repeat) (cond c (Err faults.CallOutstanding) (Ok None))))
+    behind true c = away
+    behind false true = away
+    behind false false = away
+
+    by_number : (b : Bool) → (message.number == kept.number) ≡ b → IsCase s request (ended_step s message (cond b (Ok (Some kept)) (cond (nat_lt message.number kept.number) (Err faults.Repeat) (cond (is_none kept.reply) (Err faults.CallOutstanding) (Ok None)))))
+    by_number true e =
+        either s request (is_leave message.call && is_some kept.reply) (s, repeated kept) (s, refusal s message.client message.number faults.NoSession)
+        (λ left. (LeftBefore message kept is epoch ended some (same message.number kept.number e), refl))
+        (λ other. away)
+    by_number false e = behind (nat_lt message.number kept.number) (is_none kept.reply)
+
 call_case : (s : MasterState) (request : Request) (message : CallMessage) → request ≡ requests.Call message → IsCase s request (call_step s message)
 call_case s request message is =
     let kept = kept_step s message (kept_answer (kept_of s message.client) message.number) in
-    let live = cond (is_live s message.client) kept (s, refusal s message.client message.number faults.NoSession) in
+    let over = ended_step s message (kept_answer (kept_of s message.client) message.number) in
+    let live = cond (is_live s message.client) kept over in
     either s request (message.epoch == s.epoch) live (s, refusal s message.client message.number (faults.OldEpoch s.epoch)) (λ e.
     let epoch = same message.epoch s.epoch e in
-    either s request (is_live s message.client) kept (s, refusal s message.client message.number faults.NoSession)
+    either s request (is_live s message.client) kept over
     (λ alive. kept_case s request message (kept_of s message.client) (record { is_call = is; epoch = epoch; live = alive }) refl)
-    (λ ended. (NoSession message is epoch ended, refl)))
+    (λ ended. ended_case s request message (kept_of s message.client) is epoch ended refl))
     (λ e. (OldEpoch message is (other message.epoch s.epoch e), refl))
 
 -- ---- a Start

@@ -68,12 +68,17 @@ check_waits_never : (s : MasterState) (bytes : List ℕ) (o : Option Fault) → 
 check_waits_never s bytes None h = cc
 check_waits_never s bytes (Some fault) h = cc
 
+no_touch : (o : Option Handle) → ◌≡◌ {A = Option Touched} None (option_and_then (λ handle. touched_by handle calls.Leave) o)
+no_touch None = refl
+no_touch (Some handle) = refl
+
 -- a call that waits touches the name that it may change
 pub touched_is_changed : (s : MasterState) (client number : ℕ) (call : Call) (sequencer : Option (List ℕ)) → (admission_of s client number call sequencer).answer ≡ None → (admission_of s client number call sequencer).touched ≡ call_touched s.secret call
 touched_is_changed s client number (calls.Open opening) sequencer h =
     let under : Admission = admission_under s client number opening (sequencer_fault (name_space s) sequencer) in
     named_touched (option_map (λ create. WithParent opening.name) opening.create) (is_of_cell (name_space s) opening.name) under (results.Refused faults.OtherCell) h (under_touched s client number opening (sequencer_fault (name_space s) sequencer))
 touched_is_changed s client number (calls.CheckSequencer bytes) sequencer h = absurd (check_waits_never s bytes (sequencer_fault (name_space s) sequencer) h)
+touched_is_changed s client number calls.Leave sequencer h = no_touch (read_handle s.secret [])
 touched_is_changed s client number (calls.Close bytes) sequencer h = read_touched s client (calls.Close bytes) sequencer bytes (shown_handle s client bytes) refl h
 touched_is_changed s client number (calls.Read bytes) sequencer h = read_touched s client (calls.Read bytes) sequencer bytes (shown_handle s client bytes) refl h
 touched_is_changed s client number (calls.Stat bytes) sequencer h = read_touched s client (calls.Stat bytes) sequencer bytes (shown_handle s client bytes) refl h
@@ -238,6 +243,7 @@ told_is_shown s client number (calls.Open opening) sequencer name answer told an
     open_shown (IsShown s (calls.Open opening) name answer) (is_of_cell (name_space s) opening.name) under name answer (results.Refused faults.OtherCell) (under_shown s client number opening name answer (sequencer_fault (name_space s) sequencer)) told answers
 told_is_shown s client number (calls.Read bytes) sequencer name answer told answers = read_shown s client sequencer bytes name answer (shown_handle s client bytes) refl told answers
 told_is_shown s client number (calls.CheckSequencer bytes) sequencer name answer told answers = absurd (check_tells_nothing s bytes name (sequencer_fault (name_space s) sequencer) told)
+told_is_shown s client number calls.Leave sequencer name answer told answers = absurd cc
 told_is_shown s client number (calls.Close bytes) sequencer name answer told answers =
     silent_shown s (calls.Close bytes) sequencer name answer (shown_handle s client bytes) (λ handle. refl) told
 told_is_shown s client number (calls.Stat bytes) sequencer name answer told answers =

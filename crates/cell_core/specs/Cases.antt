@@ -78,6 +78,8 @@ pub data TakeCase (s : MasterState) (request : Request) : Type 0 where
   -- A CALL
   OldEpoch : (message : CallMessage) → request ≡ requests.Call message → message.epoch ≢ s.epoch → TakeCase s request
   NoSession : (message : CallMessage) → request ≡ requests.Call message → message.epoch ≡ s.epoch → is_live s message.client ≡ false → TakeCase s request
+  -- the session has ended, by this call
+  LeftBefore : (message : CallMessage) (kept : Kept Reply) → request ≡ requests.Call message → message.epoch ≡ s.epoch → is_live s message.client ≡ false → kept_of s message.client ≡ Some kept → message.number ≡ kept.number → TakeCase s request
   Repeated : (message : CallMessage) (kept : Kept Reply) → IsHeard s request message → kept_of s message.client ≡ Some kept → message.number ≡ kept.number → TakeCase s request
   OlderCall : (message : CallMessage) (kept : Kept Reply) → IsHeard s request message → kept_of s message.client ≡ Some kept → message.number < kept.number → TakeCase s request
   Outstanding : (message : CallMessage) (kept : Kept Reply) → IsHeard s request message → kept_of s message.client ≡ Some kept → kept.number < message.number → kept.reply ≡ None → TakeCase s request
@@ -98,6 +100,7 @@ taken_by s request (BeatRefused beat fault is same refused) = (s, refusal s beat
 taken_by s request (BeatParked beat is same taken) = (parked s beat, acked s beat)
 taken_by s request (OldEpoch message is other) = (s, refusal s message.client message.number (faults.OldEpoch s.epoch))
 taken_by s request (NoSession message is same ended) = (s, refusal s message.client message.number faults.NoSession)
+taken_by s request (LeftBefore message kept is same ended found number) = (s, repeated kept)
 taken_by s request (Repeated message kept heard is same) = (s, repeated kept)
 taken_by s request (OlderCall message kept heard is less) = (s, refusal s message.client message.number faults.Repeat)
 taken_by s request (Outstanding message kept heard is more none) = (s, refusal s message.client message.number faults.CallOutstanding)

@@ -268,6 +268,7 @@ change_at space now handle (calls.List bytes) node = refused faults.BadHandle
 change_at space now handle (calls.GetSequencer bytes) node = refused faults.BadHandle
 change_at space now handle (calls.SetSequencer bytes) node = refused faults.BadHandle
 change_at space now handle (calls.CheckSequencer bytes) node = refused faults.BadHandle
+change_at space now handle calls.Leave node = refused faults.BadHandle
 
 abbrev pub change_on : NameSpace → ℕ → Handle → Call → Effect
 change_on space now handle call = option_map_or (λ node. change_at space now handle call node) (node_of_handle space handle) (refused faults.StaleInstance)

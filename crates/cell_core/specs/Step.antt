@@ -1,5 +1,5 @@
 -- What a master does with a message.
-use Rattle.std.specs.Prelude.{ℕ, Bool, ◌||◌, ◌==◌, nat_le, List, [], ◌∷◌, map, Option, Some, None, Result, Ok, Err, if◌then◌else◌, is_none}
+use Rattle.std.specs.Prelude.{ℕ, Bool, ◌&&◌, ◌||◌, ◌==◌, nat_le, List, [], ◌∷◌, map, Option, Some, None, Result, Ok, Err, if◌then◌else◌, is_none, is_some}
 use Rattle.std.specs.Option.{option_and_then}
 use Rattle.node_core.specs.declared.refusals.Fault.{Fault}
 use Rattle.node_core.specs.Nodes.{with_parent}
@@ -30,6 +30,7 @@ use Rattle.cell_parts.specs.Keys.{key_of}
 use Rattle.cell_state.specs.NameSpace.{name_space, caller}
 use Rattle.cell_state.specs.State.{MasterState}
 use Rattle.cell_state.specs.Lookups.{session_of, kept_of, is_live, may_start, is_full, nothing, turned_away, refusal, reply_of, stamped_reply, sends, repeated, granted_lines, acknowledgement, handle_state_of, shown_handle, is_of_cell, plain_open, opened_answer, opened_note, sequencer_fault, check_answer, answer_on, noted, is_spent}
+use Rattle.tags_cell.specs.Messages.{is_leave}
 use Rattle.cell_parts.specs.Calls.{create_fault, bytes_of}
 use Rattle.cell_parts.specs.Answered.{answered_by}
 use Rattle.cell_parts.specs.Notes.{open_note}
@@ -160,6 +161,10 @@ abbrev pub open_admission : MasterState → ℕ → ℕ → Open → Option (Lis
 open_admission s client number opening sequencer =
     if is_of_cell (name_space s) opening.name then admission_under s client number opening (sequencer_fault (name_space s) sequencer) else answering (results.Refused faults.OtherCell)
 
+-- a client that ends its session waits for its turn, whatever sequencer it carries
+abbrev pub leave_admission : Admission
+leave_admission = record { note = None; touched = None; told = None; answer = None }
+
 -- the sequencer that it asks about is tested behind the one that it stands under
 abbrev pub check_admission : MasterState → List ℕ → Option Fault → Admission
 check_admission s bytes (Some fault) = answering (results.Refused fault)
@@ -181,6 +186,7 @@ touched_by handle (calls.Release bytes) = None
 touched_by handle (calls.GetSequencer bytes) = None
 touched_by handle (calls.SetSequencer bytes) = None
 touched_by handle (calls.CheckSequencer bytes) = None
+touched_by handle calls.Leave = None
 
 -- a handle that is shown is open from then on, where nothing is noted of it yet
 abbrev pub shown_note : MasterState → Handle → List ℕ → Option Note
@@ -200,6 +206,7 @@ handle_admission s call sequencer (Some handle) = record {
 abbrev pub admission_of : MasterState → ℕ → ℕ → Call → Option (List ℕ) → Admission
 admission_of s client number (calls.Open opening) sequencer = open_admission s client number opening sequencer
 admission_of s client number (calls.CheckSequencer bytes) sequencer = check_admission s bytes (sequencer_fault (name_space s) sequencer)
+admission_of s client number calls.Leave sequencer = leave_admission
 admission_of s client number call sequencer = handle_admission s call sequencer (shown_handle s client (bytes_of call))
 
 abbrev pub admission_for : MasterState → CallMessage → Admission
@@ -243,11 +250,17 @@ kept_step s message (Err fault) = (s, refusal s message.client message.number fa
 kept_step s message (Ok (Some kept)) = (s, repeated kept)
 kept_step s message (Ok None) = new_call s message
 
+-- of a session that has ended: the call by which its client ended it comes again, or there is none
+abbrev pub ended_step : MasterState → CallMessage → Result (Option (Kept Reply)) Fault → MasterState × Taken
+ended_step s message (Ok (Some kept)) =
+    if is_leave message.call && is_some kept.reply then (s, repeated kept) else (s, refusal s message.client message.number faults.NoSession)
+ended_step s message _ = (s, refusal s message.client message.number faults.NoSession)
+
 abbrev pub call_step : MasterState → CallMessage → MasterState × Taken
 call_step s message =
     if message.epoch == s.epoch
     then (if is_live s message.client then kept_step s message (kept_answer (kept_of s message.client) message.number)
-    else (s, refusal s message.client message.number faults.NoSession))
+    else ended_step s message (kept_answer (kept_of s message.client) message.number))
     else (s, refusal s message.client message.number (faults.OldEpoch s.epoch))
 
 abbrev pub take_at : MasterState → Request → MasterState × Taken

@@ -2,7 +2,7 @@
 ghost use Rattle.std.specs.Prelude.{◌≡◌, Some, None, IfOk};
 ghost use Rattle.std.specs.Option.{option_and_then};
 ghost use Rattle.tags_cell.specs.Handles.{read_handle};
-ghost use Rattle.cell_core.specs.Step.{admission_for, admission_of_open, open_admission, handle_admission, check_admission, answering, shown_note, touched_by, viewed_name, told_by_open};
+ghost use Rattle.cell_core.specs.Step.{admission_for, admission_of_open, open_admission, handle_admission, check_admission, leave_admission, answering, shown_note, touched_by, viewed_name, told_by_open};
 ghost use Rattle.cell_state.specs.NameSpace.{name_space};
 ghost use Rattle.cell_state.specs.Lookups.{sequencer_fault, is_of_cell};
 ghost use Rattle.cell_parts.specs.Calls.{bytes_of};
@@ -42,6 +42,18 @@ impl Admission {
         }
     }
 
+    // A client that ends its session waits for its turn.
+    fn leaving() -> Admission
+        ensures { result ≡ leave_admission }
+    {
+        Admission {
+            note: None,
+            touched: None,
+            told: None,
+            answer: None,
+        }
+    }
+
     fn refused(fault: Fault) -> Admission
         ensures { result ≡ answering (CallResult.Refused fault) }
     {
@@ -58,6 +70,7 @@ pub(crate) fn admission_for(master: &Master, message: &CallMessage) -> Result<Ad
     match &message.call {
         Call::Open(opening) => open_admission(master, client, number, opening, sequencer),
         Call::CheckSequencer(bytes) => check_admission(master, bytes, sequencer),
+        Call::Leave => Ok(Admission::leaving()),
         call => match master.shown_handle(client, bytes_of(call))? {
             None => Ok(Admission::refused(Fault::BadHandle)),
             Some(handle) => handle_admission(master, &handle, call, sequencer),
@@ -176,6 +189,7 @@ fn touched_by(handle: &Handle, call: &Call) -> Result<Option<Touched>, AllocErro
         Call::Open(_) | Call::Close(_) | Call::Read(_) | Call::Stat(_) | Call::List(_) => Ok(None),
         Call::Acquire { .. } | Call::TryAcquire { .. } | Call::Release(_) => Ok(None),
         Call::GetSequencer(_) | Call::SetSequencer(_) | Call::CheckSequencer(_) => Ok(None),
+        Call::Leave => Ok(None),
     }
 }
 

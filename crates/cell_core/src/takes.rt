@@ -1,6 +1,6 @@
 //! What a master does with a message.
 ghost use Rattle.std.specs.Prelude.{◌≡◌, ◌≢◌, true, false, Some, None, Ok, Err, IfOk, IfErr, OnOk, OnErr};
-ghost use Rattle.cell_core.specs.Step.{take_step, take_at, start_step, beat_step, call_step, kept_step, new_call, admit_step, telling, granting, is_cachable, with_right, waits, with_call, recorded, queued, replied, task_of};
+ghost use Rattle.cell_core.specs.Step.{take_step, take_at, start_step, beat_step, call_step, kept_step, ended_step, new_call, admit_step, telling, granting, is_cachable, with_right, waits, with_call, recorded, queued, replied, task_of};
 ghost use Rattle.cell_state.specs.Updates.{with_note};
 ghost use Rattle.cell_state.specs.Lookups.{kept_of, is_full, is_spent, nothing};
 ghost use Rattle.session_core.specs.Session.{kept_answer};
@@ -11,7 +11,7 @@ use crate::admissions::{Admission, admission_for};
 use crate::answers::{Answers, Thrice};
 use crate::asking::{Touched, ask};
 use crate::cells::Cell;
-use cell_parts::{Asked, Note, Taken, Task, Work, answered_by};
+use cell_parts::{Asked, Note, Taken, Task, Work, answered_by, is_leave};
 use cell_state::{Master, settle_note};
 use gate_core::Pending;
 use lease_core::MOMENT_LIMIT;
@@ -21,7 +21,9 @@ use plain::Items;
 use rights_core::Ending;
 use session_core::Kept;
 use std::alloc::AllocError;
-use tags_cell::{Beat, CallMessage, CallResult, ClientNumber, MessageNumber, Request, Start};
+use tags_cell::{
+    Beat, CallMessage, CallResult, ClientNumber, MessageNumber, Reply, Request, Start,
+};
 
 impl Cell {
     /// One step by a request that came. A moment, in milliseconds, that is earlier than the last one counts as that;
@@ -140,9 +142,36 @@ fn take_call<A: Answers>(master: &mut Master, message: &CallMessage) -> Result<A
         return A::of(master.refusal(client, number, Fault::OldEpoch(present))?);
     }
     if !master.is_live(client) {
-        return A::of(master.refusal(client, number, Fault::NoSession)?);
+        return A::of(of_ended(master, message)?);
     }
     by_kept(master, message)
+}
+
+// A session that has ended answers the call again by which its client ended it, and nothing else.
+fn of_ended(master: &Master, message: &CallMessage) -> Result<Taken, AllocError>
+    ensures { IfOk result (λ taken. ended_step master.now message.now (kept_answer (kept_of master.now message.now.client) message.now.number) ≡ (master.now, taken)) }
+{
+    let client = message.client;
+    let number = message.number;
+    match master.sessions().kept(client, number) {
+        Ok(Some(kept)) => left_before(master, message, kept),
+        Ok(None) => master.refusal(client, number, Fault::NoSession),
+        Err(_) => master.refusal(client, number, Fault::NoSession),
+    }
+}
+
+// Where the last call is that one, and was answered.
+fn left_before(
+    master: &Master,
+    message: &CallMessage,
+    kept: &Kept<Reply>,
+) -> Result<Taken, AllocError>
+    ensures { IfOk result (λ taken. ended_step master.now message.now (Ok (Some kept.now)) ≡ (master.now, taken)) }
+{
+    if is_leave(&message.call) && kept.reply.is_some() {
+        return master.repeated(kept);
+    }
+    master.refusal(message.client, message.number, Fault::NoSession)
 }
 
 // By the last call of the client.

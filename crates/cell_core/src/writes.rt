@@ -46,7 +46,7 @@ fn change_at(
         Call::Open(_) | Call::Close(_) | Call::Read(_) | Call::Stat(_) | Call::List(_) => {
             Ok(Effect::refused(Fault::BadHandle))
         }
-        Call::GetSequencer(_) | Call::SetSequencer(_) | Call::CheckSequencer(_) => {
+        Call::GetSequencer(_) | Call::SetSequencer(_) | Call::CheckSequencer(_) | Call::Leave => {
             Ok(Effect::refused(Fault::BadHandle))
         }
     }

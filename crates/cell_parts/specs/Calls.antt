@@ -62,3 +62,4 @@ bytes_of (calls.Release bytes) = bytes
 bytes_of (calls.GetSequencer bytes) = bytes
 bytes_of (calls.SetSequencer bytes) = bytes
 bytes_of (calls.CheckSequencer bytes) = []
+bytes_of calls.Leave = []

@@ -1,13 +1,14 @@
 //! What a call shows, and why it is refused by itself.
 ghost use Rattle.std.specs.Prelude.{◌≡◌, false, Some, None};
 ghost use Rattle.std.specs.Option.{SomeIff};
+ghost use Rattle.tags_cell.specs.Messages.{is_leave};
 ghost use Rattle.cell_parts.specs.Calls.{bytes_of, needing, write_fault, node_fault, create_fault, delay_fault, content_fault, is_too_long};
 
 use node_core::{CONTENT_LIMIT, Fault, Kind, Right};
 use plain::Bytes;
 use tags_cell::{Call, CallResult, Handle, LockDelay, NewNode, Open};
 
-/// The bytes of the handle that a call on a node shows; none for an Open and a CheckSequencer.
+/// The bytes of the handle that a call on a node shows; none for an Open, a CheckSequencer and a Leave.
 pub fn bytes_of(call: &Call) -> &[u8]
     ensures { result.now ≡ bytes_of call.now }
 {
@@ -26,6 +27,17 @@ pub fn bytes_of(call: &Call) -> &[u8]
         Call::GetSequencer(handle) => handle.as_slice(),
         Call::SetSequencer(handle) => handle.as_slice(),
         Call::CheckSequencer(_) => &[],
+        Call::Leave => &[],
+    }
+}
+
+/// Whether it is the call by which a client ends its session.
+pub fn is_leave(call: &Call) -> bool
+    ensures { result ≡ is_leave call.now }
+{
+    match call {
+        Call::Leave => true,
+        _ => false,
     }
 }
 

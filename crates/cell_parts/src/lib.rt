@@ -14,7 +14,9 @@ mod rows;
 mod tables;
 mod walks;
 
-pub use calls::{bytes_of, create_fault, delay_of, denied, denied_without, node_fault, set_answer};
+pub use calls::{
+    bytes_of, create_fault, delay_of, denied, denied_without, is_leave, node_fault, set_answer,
+};
 pub use handles::{HandleKey, HandleState, Note, OpenHandle, claim_of, owner_of};
 pub use nodes::{Nodes, is_ephemeral};
 pub use notices::{Notice, Telling, event_of, instance_of};

@@ -3,24 +3,25 @@ use Rattle.std.specs.Prelude.{ℕ, not, List, [], ◌∷◌, ◌++◌, map}
 use Rattle.node_core.specs.declared.lines.Line.{Line}
 use Rattle.tags_cell.specs.declared.messages.outs.Reply.{Reply}
 use Rattle.rights_core.specs.Rights.{numbers_ending}
+use Rattle.lock_core.specs.declared.partings.Parting.{Parting}
 use Rattle.lock_core.specs.declared.turns.Lapse.{Lapse}
 use Rattle.lock_core.specs.Turns.{is_nobody}
 use Rattle.lock_core.specs.Locks.{lapses}
 use Rattle.cell_state.specs.declared.updates.LockPut.{LockPut}
 use Rattle.cell_state.specs.State.{MasterState}
 use Rattle.cell_state.specs.Replies.{turn_replies, locked_lines, line_if, puts_of}
+use Rattle.cell_state.specs.Partings.{ending_by, right_line, lock_line}
 use Rattle.node_core.specs.declared.lines.Line.TheVariants as lines
-use Rattle.rights_core.specs.declared.endings.Ending.TheVariants as endings
 
 -- what the session held, a lock that is open again at once, and who got it
-abbrev pub lapse_lines : ℕ → Lapse → List Line
-lapse_lines client lapse =
-    line_if (not (is_nobody lapse.ended)) (lines.Lapsed client lapse.instance) ++ line_if lapse.reopens (lines.Reopened lapse.instance)
+abbrev pub lapse_lines : Parting → ℕ → Lapse → List Line
+lapse_lines parting client lapse =
+    line_if (not (is_nobody lapse.ended)) (lock_line parting client lapse.instance) ++ line_if lapse.reopens (lines.Reopened lapse.instance)
     ++ locked_lines lapse.instance lapse.turn
 
-abbrev pub lapses_lines : ℕ → List Lapse → List Line
-lapses_lines client [] = []
-lapses_lines client (lapse ∷ rest) = lapse_lines client lapse ++ lapses_lines client rest
+abbrev pub lapses_lines : Parting → ℕ → List Lapse → List Line
+lapses_lines parting client [] = []
+lapses_lines parting client (lapse ∷ rest) = lapse_lines parting client lapse ++ lapses_lines parting client rest
 
 -- the session's own waiters aren't told
 abbrev pub lapses_replies : MasterState → List Lapse → List Reply
@@ -32,10 +33,10 @@ lapses_puts s [] = []
 lapses_puts s (lapse ∷ rest) = puts_of s lapse.instance lapse.turn.lock ++ lapses_puts s rest
 
 -- each lock that the session held or awaited, as it is without it
-abbrev pub lapses_of : MasterState → ℕ → List Lapse
-lapses_of s client = lapses s.locks client s.clock
+abbrev pub lapses_of : Parting → MasterState → ℕ → List Lapse
+lapses_of parting s client = lapses parting s.locks client s.clock
 
 -- each right that ends with a session is printed, then what becomes of its locks, and then its end
-abbrev pub expiry_lines : MasterState → ℕ → List Lapse → List Line
-expiry_lines s client ended =
-    map lines.Expired (numbers_ending client endings.Expiry s.rights) ++ lapses_lines client ended ++ lines.Ended client ∷ []
+abbrev pub parting_lines : Parting → MasterState → ℕ → List Lapse → List Line
+parting_lines parting s client ended =
+    map (right_line parting) (numbers_ending client (ending_by parting) s.rights) ++ lapses_lines parting client ended ++ lines.Ended client ∷ []

@@ -21,4 +21,5 @@ pub mod Notices
 pub mod Concerned
 pub mod Updates
 pub mod Replies
+pub mod Partings
 pub mod Lapses

@@ -32,7 +32,7 @@ use Rattle.cell_parts.specs.Locks.{lock_rows}
 use Rattle.cell_state.specs.State.{MasterState}
 use Rattle.cell_state.specs.Lookups.{session_of}
 use Rattle.cell_parts.specs.declared.handles.Note.{Note}
-use Rattle.rights_core.specs.declared.endings.Ending.TheVariants as endings
+use Rattle.cell_state.specs.Partings.{ending_by}
 use Rattle.rights_core.specs.Rights as of_rights
 use Rattle.gate_core.specs.Gate as of_gate
 
@@ -118,8 +118,8 @@ rest_of update = record { session = session_rest update.session; kept = update.k
 
 abbrev pub with_session_rest : MasterState → Option SessionUpdate → MasterState
 with_session_rest s (Some (Prolongs client)) = record s { sessions = with_session s.sessions client (prolonged (s.clock + s.sessions.lease)) }
-with_session_rest s (Some (Ends client principal)) =
-    record s { sessions = with_session s.sessions client ended; rights = of_rights.ended client endings.Expiry s.rights }
+with_session_rest s (Some (Ends client principal parting)) =
+    record s { sessions = with_session s.sessions client ended; rights = of_rights.ended client (ending_by parting) s.rights }
 with_session_rest s (Some (Answers client)) = record s { sessions = with_session s.sessions client (answered s.sessions.lease s.clock) }
 with_session_rest s _ = s
 
@@ -183,7 +183,7 @@ lock_changes s puts = map (lock_change s.locks) puts
 -- a session that begins is put as live, and one that ends as ended
 abbrev pub session_edits : Option SessionUpdate → List Edit
 session_edits (Some (Begins client principal)) = PutSession client (record { principal = principal; live = true }) ∷ []
-session_edits (Some (Ends client principal)) = PutSession client (record { principal = principal; live = false }) ∷ []
+session_edits (Some (Ends client principal parting)) = PutSession client (record { principal = principal; live = false }) ∷ []
 session_edits _ = []
 
 abbrev pub edit_of : Mod → Edit

@@ -67,7 +67,7 @@ impl Master {
             Call::Release(_) => Ok(self.release_answer(handle)),
             Call::GetSequencer(_) => Ok(Some(self.sequencer_answer(handle)?)),
             Call::SetSequencer(_) => Ok(Some(CallResult::Done)),
-            Call::Open(_) | Call::Close(_) | Call::CheckSequencer(_) => Ok(None),
+            Call::Open(_) | Call::Close(_) | Call::CheckSequencer(_) | Call::Leave => Ok(None),
         }
     }
 

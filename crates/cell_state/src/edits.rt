@@ -35,7 +35,7 @@ fn session_edits(alloc: Global, update: &Option<SessionUpdate>) -> Result<Items<
             edits.push(put_session(client.get(), principal, true)?)?;
             Ok(edits)
         }
-        Some(SessionUpdate::Ends(client, principal)) => {
+        Some(SessionUpdate::Ends(client, principal, _)) => {
             let mut edits = Items::new(alloc);
             edits.push(put_session(*client, principal, false)?)?;
             Ok(edits)

@@ -8,6 +8,7 @@ mod lapses;
 mod locks;
 mod masters;
 mod opens;
+mod partings;
 mod replies;
 mod rights;
 mod sends;
@@ -16,7 +17,7 @@ mod tellings;
 mod updates;
 
 pub use edits::edits_of;
-pub use lapses::{expiry_lines, lapses_puts, lapses_replies};
+pub use lapses::{lapses_puts, lapses_replies, parting_lines};
 pub use masters::Master;
 pub use replies::{
     Told, line_if, locked_line, locked_lines, puts_of, replies_to, told_by, turn_replies,

@@ -8,12 +8,12 @@ ghost use Rattle.lock_core.specs.Locks.{with_lock};
 ghost use Rattle.cell_state.specs.Updates.{with_note, BeginsNew, with_begun, with_put, with_node, with_locks, grown, without_begun, without_note, without_node, without_locks, undone, session_rest, map_rest, rest_of, with_session_rest, with_kept_put, with_kept, with_map, with_rest};
 
 use crate::masters::Master;
+use crate::partings::ending_by;
 use cell_parts::{HandleKey, HandleState, Note};
-use lock_core::Lock;
+use lock_core::{Lock, Parting};
 use names_cell::{Name, Principal};
 use node_core::{Mod, Node};
 use plain::Items;
-use rights_core::Ending;
 use session_core::Kept;
 use std::alloc::AllocError;
 use tags_cell::{ClientNumber, Reply};
@@ -26,7 +26,7 @@ pub enum SessionUpdate {
     /// It lives for a lease from now on.
     Prolongs(ClientNumber),
     /// It has ended, which is committed. It holds no right any more.
-    Ends(u64, Principal),
+    Ends(u64, Principal, Parting),
     /// Its parked Beat is answered.
     Answers(ClientNumber),
 }
@@ -243,8 +243,8 @@ fn begin_session(
             Ok((Some(client), None))
         }
         SessionUpdate::Prolongs(client) => Ok((None, Some(SessionUpdate::Prolongs(client)))),
-        SessionUpdate::Ends(client, principal) => {
-            Ok((None, Some(SessionUpdate::Ends(client, principal))))
+        SessionUpdate::Ends(client, principal, parting) => {
+            Ok((None, Some(SessionUpdate::Ends(client, principal, parting))))
         }
         SessionUpdate::Answers(client) => Ok((None, Some(SessionUpdate::Answers(client)))),
     }
@@ -269,9 +269,9 @@ fn finish_session(master: &mut Master, update: Option<SessionUpdate>)
             let until = now + master.sessions().lease();
             master.tables.prolong(*client, until);
         }
-        Some(SessionUpdate::Ends(client, ..)) => {
+        Some(SessionUpdate::Ends(client, _, parting)) => {
             master.tables.expire(*client);
-            master.tables.end(*client, Ending::Expiry);
+            master.tables.end(*client, ending_by(*parting));
         }
         Some(SessionUpdate::Answers(client)) => master.tables.answer(*client, now),
         _ => {}

@@ -20,6 +20,7 @@ Steps, one a line, with one space between two words; blank lines and lines that 
   take I            message I comes to the master
   give I            message I comes to its client
   sweep             one sweep of the master
+  beats             the master answers one Beat, of a session whose time isn't up, and commits nothing
   settle            messages that never came are taken and given, and the master sweeps, until nothing is left
 
 Calls; H is the client's own handle number, 1, 2, .. in the order in which its Opens succeed:
@@ -45,6 +46,7 @@ Calls; H is the client's own handle number, 1, 2, .. in the order in which its O
   getseq H          the sequencer of the lock that the handle holds
   setseq H HEX      calls on the handle stand under this sequencer from then on
   checkseq HEX      whether this sequencer is valid
+  leave             ends the session: the client keeps nothing more and asks for nothing more
 CONTENT is hexadecimal in lower case, - for empty, or fill:N:HH for N times one byte.
 
 Limits:

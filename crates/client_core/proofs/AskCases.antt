@@ -36,13 +36,16 @@ use Rattle.client_core.specs.State.{ClientState, standing_then, session_behind, 
 use Rattle.client_core.specs.Handles.{handle_of, usable_handle}
 use Rattle.client_core.specs.Serves.{serve_answer, cached_served, share, entry_served}
 use Rattle.client_core.specs.Opens.{cached_answer, is_plain, only_reads, kept_handle}
-use Rattle.client_core.specs.Asks.{fault_then, send_plan, served_or, close_plan, poison_plan, node_plan, sequencer_plan, plan_of, asked_for, message_of, with_call, with_shared, ask_by, ask_in, ask_at, ask_step}
+use Rattle.client_core.specs.Asks.{fault_then, has_given_up, fault_for, send_plan, served_or, close_plan, poison_plan, node_plan, sequencer_plan, plan_of, asked_for, message_of, with_call, with_shared, ask_by, ask_in, ask_at, ask_step, asks_to_leave}
 use Rattle.client_core.specs.Calls.{call_on}
 use Rattle.client_core.specs.Beats.{start_message, beat_message, with_beat, beaten, sends, beat_by, beat_at, beat_step}
 use Rattle.client_core.specs.Cases.{noted_moment, IsSafe, IsUsable, IsShared, AskCase, asked_in, BeatCase, beaten_in}
 use Rattle.client_core.specs.Cases.AskCase.{AskedTooLate, Unsafe, Refused, ReadServed, AbsenceServed, Shared, OutOfHandles, Released, OutOfCalls, Sent, Poisoned}
 use Rattle.client_core.specs.Cases.BeatCase.{BeatTooLate, OutOfBeats, Starts, Beats, Quiet}
 use Rattle.client_core.proofs.Noting.{either, less, not_less, faultless, then_in}
+use Rattle.client_core.specs.Targets.{is_leaving}
+use Rattle.tags_cell.specs.Messages.{is_leave}
+use Rattle.client_core.specs.declared.parts.asks.NodeCall.TheVariants as node_calls
 
 -- ---- ask
 
@@ -54,23 +57,23 @@ IsAsked s now ask p = (c : AskCase s now ask) × (p ≡ asked_in s now ask c)
 abbrev IsDone : (s : ClientState) (now : ℕ) (ask : Ask) → Result Plan Fault → Type 0
 IsDone s now ask plan = plan_of s (noted_moment s now) ask ≡ plan → IsAsked s now ask (ask_by s (noted_moment s now) plan)
 
-send_case : (s : ClientState) (now : ℕ) (ask : Ask) (call : Call) (sequencer : Option (List ℕ)) (target : Target) → IsSafe s now → s.outstanding ≡ None → IsDone s now ask (Ok (plans.Send call sequencer target))
-send_case s now ask call sequencer target safe free is =
+send_case : (s : ClientState) (now : ℕ) (ask : Ask) (call : Call) (sequencer : Option (List ℕ)) (target : Target) → is_leaving target ≡ asks_to_leave ask → is_leave call ≡ is_leaving target → IsSafe s now → s.outstanding ≡ None → IsDone s now ask (Ok (plans.Send call sequencer target))
+send_case s now ask call sequencer target leaves ends safe free is =
     either (IsAsked s now ask) (nat_lt (s.calls + 1) number_end) (with_call s (noted_moment s now) call sequencer target, Ok (asked_for [] (outcomes.Sent (message_of s call sequencer)))) (s, Err faults.Exhausted)
-    (λ h. (Sent call sequencer target (record { safe = safe; is_plan = is; free = free }) (less (s.calls + 1) number_end h), refl))
-    (λ h. (OutOfCalls call sequencer target (record { safe = safe; is_plan = is; free = free }) (not_less (s.calls + 1) number_end h), refl))
+    (λ h. (Sent call sequencer target (record { safe = safe; is_plan = is; free = free; leaves = leaves; ends = ends }) (less (s.calls + 1) number_end h), refl))
+    (λ h. (OutOfCalls call sequencer target (record { safe = safe; is_plan = is; free = free; leaves = leaves; ends = ends }) (not_less (s.calls + 1) number_end h), refl))
 
-sends_beside : (s : ClientState) (now : ℕ) (ask : Ask) (call : Call) (sequencer : Option (List ℕ)) (target : Target) (o : Option Outstanding) → IsSafe s now → s.outstanding ≡ o → IsDone s now ask (cond (is_some o) (Err faults.CallOutstanding) (Ok (plans.Send call sequencer target)))
-sends_beside s now ask call sequencer target None safe free is = send_case s now ask call sequencer target safe free is
-sends_beside s now ask call sequencer target (Some former) safe busy is = (Refused faults.CallOutstanding safe is, refl)
+sends_beside : (s : ClientState) (now : ℕ) (ask : Ask) (call : Call) (sequencer : Option (List ℕ)) (target : Target) (o : Option Outstanding) → is_leaving target ≡ asks_to_leave ask → is_leave call ≡ is_leaving target → IsSafe s now → s.outstanding ≡ o → IsDone s now ask (cond (is_some o) (Err faults.CallOutstanding) (Ok (plans.Send call sequencer target)))
+sends_beside s now ask call sequencer target None leaves ends safe free is = send_case s now ask call sequencer target leaves ends safe free is
+sends_beside s now ask call sequencer target (Some former) leaves ends safe busy is = (Refused faults.CallOutstanding safe is, refl)
 
-sends_case : (s : ClientState) (now : ℕ) (ask : Ask) (call : Call) (sequencer : Option (List ℕ)) (target : Target) → IsSafe s now → IsDone s now ask (send_plan s call sequencer target)
-sends_case s now ask call sequencer target safe is = sends_beside s now ask call sequencer target s.outstanding safe refl is
+sends_case : (s : ClientState) (now : ℕ) (ask : Ask) (call : Call) (sequencer : Option (List ℕ)) (target : Target) → is_leaving target ≡ asks_to_leave ask → is_leave call ≡ is_leaving target → IsSafe s now → IsDone s now ask (send_plan s call sequencer target)
+sends_case s now ask call sequencer target leaves ends safe is = sends_beside s now ask call sequencer target s.outstanding leaves ends safe refl is
 
 -- ---- an Open
 
-share_case : (s : ClientState) (now : ℕ) (opening : Open) (view : View) (handle : NewHandle) → IsSafe s now → IsShared s now opening view handle → IsAsked s now (asks.Open opening) (ask_by s (noted_moment s now) (Ok (share s opening view handle)))
-share_case s now opening view handle safe shared =
+share_case : (s : ClientState) (now : ℕ) (opening : Open) (view : View) (handle : NewHandle) → IsSafe s now → s.leaving ≡ false → IsShared s now opening view handle → IsAsked s now (asks.Open opening) (ask_by s (noted_moment s now) (Ok (share s opening view handle)))
+share_case s now opening view handle safe stays shared =
     either (IsAsked s now (asks.Open opening)) (nat_lt (s.opened + 1) number_end)
     (with_shared s (noted_moment s now) (kept_handle handle opening true), Ok (asked_for (lines.Served s.number opening.name (Some view) ∷ lines.Done s.number 0 (answers.Opened (s.opened + 1)) ∷ []) (outcomes.Served (answers.Opened (s.opened + 1)))))
     (s, Err faults.Exhausted)
@@ -81,28 +84,28 @@ share_case s now opening view handle safe shared =
 abbrev sent_open : ClientState → Open → Result Plan Fault
 sent_open s opening = send_plan s (calls.Open opening) None targets.NewHandle
 
-kept_case : (s : ClientState) (now : ℕ) (opening : Open) (view : View) (k : Option NewHandle) → IsSafe s now → is_plain opening ≡ true → answer s.cache (noted_moment s now) opening.name ≡ Some (Some view) → only_reads opening ≡ true → serving s.kept opening.name view.node.instance ≡ k → IsDone s now (asks.Open opening) (served_or (option_map (share s opening view) k) (sent_open s opening))
-kept_case s now opening view None safe plain cached reads kept is = sends_case s now (asks.Open opening) (calls.Open opening) None targets.NewHandle safe is
-kept_case s now opening view (Some handle) safe plain cached reads kept is = share_case s now opening view handle safe (record { plain = plain; reads = reads; cached = cached; kept = kept })
+kept_case : (s : ClientState) (now : ℕ) (opening : Open) (view : View) (k : Option NewHandle) → IsSafe s now → s.leaving ≡ false → is_plain opening ≡ true → answer s.cache (noted_moment s now) opening.name ≡ Some (Some view) → only_reads opening ≡ true → serving s.kept opening.name view.node.instance ≡ k → IsDone s now (asks.Open opening) (served_or (option_map (share s opening view) k) (sent_open s opening))
+kept_case s now opening view None safe stays plain cached reads kept is = sends_case s now (asks.Open opening) (calls.Open opening) None targets.NewHandle refl refl safe is
+kept_case s now opening view (Some handle) safe stays plain cached reads kept is = share_case s now opening view handle safe stays (record { stays = stays; plain = plain; reads = reads; cached = cached; kept = kept })
 
-view_case : (s : ClientState) (now : ℕ) (opening : Open) (view : View) (b : Bool) → IsSafe s now → is_plain opening ≡ true → answer s.cache (noted_moment s now) opening.name ≡ Some (Some view) → only_reads opening ≡ b → IsDone s now (asks.Open opening) (served_or (cond b (option_map (share s opening view) (serving s.kept opening.name view.node.instance)) None) (sent_open s opening))
-view_case s now opening view true safe plain cached reads is = kept_case s now opening view (serving s.kept opening.name view.node.instance) safe plain cached reads refl is
-view_case s now opening view false safe plain cached reads is = sends_case s now (asks.Open opening) (calls.Open opening) None targets.NewHandle safe is
+view_case : (s : ClientState) (now : ℕ) (opening : Open) (view : View) (b : Bool) → IsSafe s now → s.leaving ≡ false → is_plain opening ≡ true → answer s.cache (noted_moment s now) opening.name ≡ Some (Some view) → only_reads opening ≡ b → IsDone s now (asks.Open opening) (served_or (cond b (option_map (share s opening view) (serving s.kept opening.name view.node.instance)) None) (sent_open s opening))
+view_case s now opening view true safe stays plain cached reads is = kept_case s now opening view (serving s.kept opening.name view.node.instance) safe stays plain cached reads refl is
+view_case s now opening view false safe stays plain cached reads is = sends_case s now (asks.Open opening) (calls.Open opening) None targets.NewHandle refl refl safe is
 
-entry_case : (s : ClientState) (now : ℕ) (opening : Open) (o : Option (Option View)) → IsSafe s now → is_plain opening ≡ true → answer s.cache (noted_moment s now) opening.name ≡ o → IsDone s now (asks.Open opening) (served_or (entry_served s opening o) (sent_open s opening))
-entry_case s now opening None safe plain cached is = sends_case s now (asks.Open opening) (calls.Open opening) None targets.NewHandle safe is
-entry_case s now opening (Some None) safe plain cached is = (AbsenceServed opening safe refl plain cached, refl)
-entry_case s now opening (Some (Some view)) safe plain cached is = view_case s now opening view (only_reads opening) safe plain cached refl is
+entry_case : (s : ClientState) (now : ℕ) (opening : Open) (o : Option (Option View)) → IsSafe s now → s.leaving ≡ false → is_plain opening ≡ true → answer s.cache (noted_moment s now) opening.name ≡ o → IsDone s now (asks.Open opening) (served_or (entry_served s opening o) (sent_open s opening))
+entry_case s now opening None safe stays plain cached is = sends_case s now (asks.Open opening) (calls.Open opening) None targets.NewHandle refl refl safe is
+entry_case s now opening (Some None) safe stays plain cached is = (AbsenceServed opening safe stays refl plain cached, refl)
+entry_case s now opening (Some (Some view)) safe stays plain cached is = view_case s now opening view (only_reads opening) safe stays plain cached refl is
 
-plain_case : (s : ClientState) (now : ℕ) (opening : Open) (b : Bool) → IsSafe s now → is_plain opening ≡ b → IsDone s now (asks.Open opening) (served_or (cond b (entry_served s opening (answer s.cache (noted_moment s now) opening.name)) None) (sent_open s opening))
-plain_case s now opening true safe plain is = entry_case s now opening (answer s.cache (noted_moment s now) opening.name) safe plain refl is
-plain_case s now opening false safe plain is = sends_case s now (asks.Open opening) (calls.Open opening) None targets.NewHandle safe is
+plain_case : (s : ClientState) (now : ℕ) (opening : Open) (b : Bool) → IsSafe s now → s.leaving ≡ false → is_plain opening ≡ b → IsDone s now (asks.Open opening) (served_or (cond b (entry_served s opening (answer s.cache (noted_moment s now) opening.name)) None) (sent_open s opening))
+plain_case s now opening true safe stays plain is = entry_case s now opening (answer s.cache (noted_moment s now) opening.name) safe stays plain refl is
+plain_case s now opening false safe stays plain is = sends_case s now (asks.Open opening) (calls.Open opening) None targets.NewHandle refl refl safe is
 
 -- ---- a call on a handle
 
 shared_case : (s : ClientState) (now number : ℕ) (handle : ClientHandle) (b : Bool) → IsSafe s now → handle_of s.handles number ≡ Some handle → handle.shared ≡ b → IsDone s now (asks.Close number) (cond b (Ok (plans.Release number)) (send_plan s (calls.Close handle.bytes) None (targets.Closing number)))
 shared_case s now number handle true safe found shared is = (Released number handle safe refl found shared, refl)
-shared_case s now number handle false safe found shared is = sends_case s now (asks.Close number) (calls.Close handle.bytes) None (targets.Closing number) safe is
+shared_case s now number handle false safe found shared is = sends_case s now (asks.Close number) (calls.Close handle.bytes) None (targets.Closing number) refl refl safe is
 
 close_case : (s : ClientState) (now number : ℕ) (h : Option ClientHandle) → IsSafe s now → handle_of s.handles number ≡ h → IsDone s now (asks.Close number) (close_plan s number h)
 close_case s now number None safe found is = (Refused faults.BadHandle safe is, refl)
@@ -120,39 +123,52 @@ poison_case s now number (Some handle) safe found is = poisoned_case s now numbe
 abbrev sent_call : ClientState → ℕ → ClientHandle → NodeCall → Result Plan Fault
 sent_call s number handle call = send_plan s (call_on handle.bytes call) handle.sequencer (targets.Handle number)
 
+-- a call on a node doesn't end the session
+pub on_node : (bytes : List ℕ) (call : NodeCall) → is_leave (call_on bytes call) ≡ false
+on_node bytes node_calls.Read = refl
+on_node bytes node_calls.Stat = refl
+on_node bytes node_calls.List = refl
+on_node bytes (node_calls.Set content generation) = refl
+on_node bytes (node_calls.SetAcl acls generation) = refl
+on_node bytes node_calls.Delete = refl
+on_node bytes (node_calls.Acquire mode) = refl
+on_node bytes (node_calls.TryAcquire mode) = refl
+on_node bytes node_calls.Release = refl
+on_node bytes node_calls.GetSequencer = refl
+
 sent_case : (s : ClientState) (now number : ℕ) (handle : ClientHandle) (call : NodeCall) → IsSafe s now → IsDone s now (asks.Node number call) (sent_call s number handle call)
-sent_case s now number handle call safe is = sends_case s now (asks.Node number call) (call_on handle.bytes call) handle.sequencer (targets.Handle number) safe is
+sent_case s now number handle call safe is = sends_case s now (asks.Node number call) (call_on handle.bytes call) handle.sequencer (targets.Handle number) refl (on_node handle.bytes call) safe is
 
-answer_case : (s : ClientState) (now number : ℕ) (handle : ClientHandle) (call : NodeCall) (entry : Option View) (o : Option Answer) → IsSafe s now → IsUsable s number handle → handle.mode.read ≡ true → handle.sequencer ≡ None → answer s.cache (noted_moment s now) handle.name ≡ Some entry → cached_answer handle call entry ≡ o → IsDone s now (asks.Node number call) (served_or (option_map (serve_answer s handle entry) o) (sent_call s number handle call))
-answer_case s now number handle call entry None safe usable reads unsequenced cached answered is = sent_case s now number handle call safe is
-answer_case s now number handle call entry (Some given) safe usable reads unsequenced cached answered is = (ReadServed number handle call entry given safe refl (record { of_handle = usable; reads = reads; unsequenced = unsequenced; cached = cached; answers = answered }), refl)
+answer_case : (s : ClientState) (now number : ℕ) (handle : ClientHandle) (call : NodeCall) (entry : Option View) (o : Option Answer) → IsSafe s now → s.leaving ≡ false → IsUsable s number handle → handle.mode.read ≡ true → handle.sequencer ≡ None → answer s.cache (noted_moment s now) handle.name ≡ Some entry → cached_answer handle call entry ≡ o → IsDone s now (asks.Node number call) (served_or (option_map (serve_answer s handle entry) o) (sent_call s number handle call))
+answer_case s now number handle call entry None safe stays usable reads unsequenced cached answered is = sent_case s now number handle call safe is
+answer_case s now number handle call entry (Some given) safe stays usable reads unsequenced cached answered is = (ReadServed number handle call entry given safe refl (record { stays = stays; of_handle = usable; reads = reads; unsequenced = unsequenced; cached = cached; answers = answered }), refl)
 
-cached_case : (s : ClientState) (now number : ℕ) (handle : ClientHandle) (call : NodeCall) (o : Option (Option View)) → IsSafe s now → IsUsable s number handle → handle.mode.read ≡ true → handle.sequencer ≡ None → answer s.cache (noted_moment s now) handle.name ≡ o → IsDone s now (asks.Node number call) (served_or (cached_served s handle call o) (sent_call s number handle call))
-cached_case s now number handle call None safe usable reads unsequenced cached is = sent_case s now number handle call safe is
-cached_case s now number handle call (Some entry) safe usable reads unsequenced cached is = answer_case s now number handle call entry (cached_answer handle call entry) safe usable reads unsequenced cached refl is
+cached_case : (s : ClientState) (now number : ℕ) (handle : ClientHandle) (call : NodeCall) (o : Option (Option View)) → IsSafe s now → s.leaving ≡ false → IsUsable s number handle → handle.mode.read ≡ true → handle.sequencer ≡ None → answer s.cache (noted_moment s now) handle.name ≡ o → IsDone s now (asks.Node number call) (served_or (cached_served s handle call o) (sent_call s number handle call))
+cached_case s now number handle call None safe stays usable reads unsequenced cached is = sent_case s now number handle call safe is
+cached_case s now number handle call (Some entry) safe stays usable reads unsequenced cached is = answer_case s now number handle call entry (cached_answer handle call entry) safe stays usable reads unsequenced cached refl is
 
-unsequenced_case : (s : ClientState) (now number : ℕ) (handle : ClientHandle) (call : NodeCall) (o : Option (List ℕ)) → IsSafe s now → IsUsable s number handle → handle.mode.read ≡ true → handle.sequencer ≡ o → IsDone s now (asks.Node number call) (served_or (cond (is_none o) (cached_served s handle call (answer s.cache (noted_moment s now) handle.name)) None) (sent_call s number handle call))
-unsequenced_case s now number handle call None safe usable reads at is = cached_case s now number handle call (answer s.cache (noted_moment s now) handle.name) safe usable reads at refl is
-unsequenced_case s now number handle call (Some sequencer) safe usable reads at is = sent_case s now number handle call safe is
+unsequenced_case : (s : ClientState) (now number : ℕ) (handle : ClientHandle) (call : NodeCall) (o : Option (List ℕ)) → IsSafe s now → s.leaving ≡ false → IsUsable s number handle → handle.mode.read ≡ true → handle.sequencer ≡ o → IsDone s now (asks.Node number call) (served_or (cond (is_none o) (cached_served s handle call (answer s.cache (noted_moment s now) handle.name)) None) (sent_call s number handle call))
+unsequenced_case s now number handle call None safe stays usable reads at is = cached_case s now number handle call (answer s.cache (noted_moment s now) handle.name) safe stays usable reads at refl is
+unsequenced_case s now number handle call (Some sequencer) safe stays usable reads at is = sent_case s now number handle call safe is
 
-reads_case : (s : ClientState) (now number : ℕ) (handle : ClientHandle) (call : NodeCall) (b : Bool) → IsSafe s now → IsUsable s number handle → handle.mode.read ≡ b → IsDone s now (asks.Node number call) (served_or (cond (b && is_none handle.sequencer) (cached_served s handle call (answer s.cache (noted_moment s now) handle.name)) None) (sent_call s number handle call))
-reads_case s now number handle call true safe usable reads is = unsequenced_case s now number handle call handle.sequencer safe usable reads refl is
-reads_case s now number handle call false safe usable reads is = sent_case s now number handle call safe is
+reads_case : (s : ClientState) (now number : ℕ) (handle : ClientHandle) (call : NodeCall) (b : Bool) → IsSafe s now → s.leaving ≡ false → IsUsable s number handle → handle.mode.read ≡ b → IsDone s now (asks.Node number call) (served_or (cond (b && is_none handle.sequencer) (cached_served s handle call (answer s.cache (noted_moment s now) handle.name)) None) (sent_call s number handle call))
+reads_case s now number handle call true safe stays usable reads is = unsequenced_case s now number handle call handle.sequencer safe stays usable reads refl is
+reads_case s now number handle call false safe stays usable reads is = sent_case s now number handle call safe is
 
-call_case : (s : ClientState) (now number : ℕ) (handle : ClientHandle) (call : NodeCall) → IsSafe s now → IsUsable s number handle → IsDone s now (asks.Node number call) (node_plan s (noted_moment s now) number call (Ok handle))
-call_case s now number handle call safe usable is = reads_case s now number handle call handle.mode.read safe usable refl is
+call_case : (s : ClientState) (now number : ℕ) (handle : ClientHandle) (call : NodeCall) → IsSafe s now → s.leaving ≡ false → IsUsable s number handle → IsDone s now (asks.Node number call) (node_plan s (noted_moment s now) number call (Ok handle))
+call_case s now number handle call safe stays usable is = reads_case s now number handle call handle.mode.read safe stays usable refl is
 
-usable_case : (s : ClientState) (now number : ℕ) (handle : ClientHandle) (call : NodeCall) (b : Bool) → IsSafe s now → handle_of s.handles number ≡ Some handle → handle.poisoned ≡ b → IsDone s now (asks.Node number call) (node_plan s (noted_moment s now) number call (cond b (Err faults.Poisoned) (Ok handle)))
-usable_case s now number handle call true safe found at is = (Refused faults.Poisoned safe is, refl)
-usable_case s now number handle call false safe found at is = call_case s now number handle call safe (record { found = found; usable = at }) is
+usable_case : (s : ClientState) (now number : ℕ) (handle : ClientHandle) (call : NodeCall) (b : Bool) → IsSafe s now → s.leaving ≡ false → handle_of s.handles number ≡ Some handle → handle.poisoned ≡ b → IsDone s now (asks.Node number call) (node_plan s (noted_moment s now) number call (cond b (Err faults.Poisoned) (Ok handle)))
+usable_case s now number handle call true safe stays found at is = (Refused faults.Poisoned safe is, refl)
+usable_case s now number handle call false safe stays found at is = call_case s now number handle call safe stays (record { found = found; usable = at }) is
 
-node_case : (s : ClientState) (now number : ℕ) (call : NodeCall) (h : Option ClientHandle) → IsSafe s now → handle_of s.handles number ≡ h → IsDone s now (asks.Node number call) (node_plan s (noted_moment s now) number call (usable_handle h))
-node_case s now number call None safe found is = (Refused faults.BadHandle safe is, refl)
-node_case s now number call (Some handle) safe found is = usable_case s now number handle call handle.poisoned safe found refl is
+node_case : (s : ClientState) (now number : ℕ) (call : NodeCall) (h : Option ClientHandle) → IsSafe s now → s.leaving ≡ false → handle_of s.handles number ≡ h → IsDone s now (asks.Node number call) (node_plan s (noted_moment s now) number call (usable_handle h))
+node_case s now number call None safe stays found is = (Refused faults.BadHandle safe is, refl)
+node_case s now number call (Some handle) safe stays found is = usable_case s now number handle call handle.poisoned safe stays found refl is
 
 set_case : (s : ClientState) (now number : ℕ) (sequencer : List ℕ) (handle : ClientHandle) (b : Bool) → IsSafe s now → IsDone s now (asks.SetSequencer number sequencer) (sequencer_plan s number sequencer (cond b (Err faults.Poisoned) (Ok handle)))
 set_case s now number sequencer handle true safe is = (Refused faults.Poisoned safe is, refl)
-set_case s now number sequencer handle false safe is = sends_case s now (asks.SetSequencer number sequencer) (calls.SetSequencer handle.bytes) (Some sequencer) (targets.Sequencing number) safe is
+set_case s now number sequencer handle false safe is = sends_case s now (asks.SetSequencer number sequencer) (calls.SetSequencer handle.bytes) (Some sequencer) (targets.Sequencing number) refl refl safe is
 
 sequencer_case : (s : ClientState) (now number : ℕ) (sequencer : List ℕ) (h : Option ClientHandle) → IsSafe s now → IsDone s now (asks.SetSequencer number sequencer) (sequencer_plan s number sequencer (usable_handle h))
 sequencer_case s now number sequencer None safe is = (Refused faults.BadHandle safe is, refl)
@@ -160,25 +176,35 @@ sequencer_case s now number sequencer (Some handle) safe is = set_case s now num
 
 -- ---- the lemma
 
-plan_case : (s : ClientState) (now : ℕ) (ask : Ask) → IsSafe s now → IsAsked s now ask (ask_by s (noted_moment s now) (plan_of s (noted_moment s now) ask))
-plan_case s now (asks.Open opening) safe = plain_case s now opening (is_plain opening) safe refl refl
-plan_case s now (asks.Close number) safe = close_case s now number (handle_of s.handles number) safe refl refl
-plan_case s now (asks.Poison number) safe = poison_case s now number (handle_of s.handles number) safe refl refl
-plan_case s now (asks.Node number call) safe = node_case s now number call (handle_of s.handles number) safe refl refl
-plan_case s now (asks.SetSequencer number sequencer) safe = sequencer_case s now number sequencer (handle_of s.handles number) safe refl
-plan_case s now (asks.CheckSequencer bytes) safe = sends_case s now (asks.CheckSequencer bytes) (calls.CheckSequencer bytes) None targets.Checking safe refl
+stays_of : (b : Bool) → (b && true) ≡ false → b ≡ false
+stays_of true h = cc
+stays_of false h = refl
 
-fault_case : (s : ClientState) (now : ℕ) (ask : Ask) (o : Option Fault) → now < moment_limit → fault_then s (noted_moment s now) ≡ o → IsAsked s now ask (ask_in s (noted_moment s now) ask o)
+plan_case : (s : ClientState) (now : ℕ) (ask : Ask) → IsSafe s now → has_given_up s (noted_moment s now) ask ≡ false → IsAsked s now ask (ask_by s (noted_moment s now) (plan_of s (noted_moment s now) ask))
+plan_case s now (asks.Open opening) safe h = plain_case s now opening (is_plain opening) safe (stays_of s.leaving h) refl refl
+plan_case s now (asks.Close number) safe h = close_case s now number (handle_of s.handles number) safe refl refl
+plan_case s now (asks.Poison number) safe h = poison_case s now number (handle_of s.handles number) safe refl refl
+plan_case s now (asks.Node number call) safe h = node_case s now number call (handle_of s.handles number) safe (stays_of s.leaving h) refl refl
+plan_case s now (asks.SetSequencer number sequencer) safe h = sequencer_case s now number sequencer (handle_of s.handles number) safe refl
+plan_case s now (asks.CheckSequencer bytes) safe h = sends_case s now (asks.CheckSequencer bytes) (calls.CheckSequencer bytes) None targets.Checking refl refl safe refl
+plan_case s now asks.Leave safe h = sends_case s now asks.Leave calls.Leave None targets.Leaving refl refl safe refl
+
+not_given_up : (b : Bool) (o : Option Fault) → cond b (Some faults.NoSession) o ≡ None → (b ≡ false) × (o ≡ None)
+not_given_up true o h = cc
+not_given_up false o h = (refl, h)
+
+fault_case : (s : ClientState) (now : ℕ) (ask : Ask) (o : Option Fault) → now < moment_limit → fault_for s (noted_moment s now) ask ≡ o → IsAsked s now ask (ask_in s (noted_moment s now) ask o)
 fault_case s now ask (Some fault) early is = (Unsafe fault early is, refl)
 fault_case s now ask None early is =
-    let r = faultless s (noted_moment s now) is in
-    plan_case s now ask (record { early = early; live = r.live; safe = r.safe; leased = r.leased })
+    let t = not_given_up (has_given_up s (noted_moment s now) ask) (fault_then s (noted_moment s now)) is in
+    let r = faultless s (noted_moment s now) t.1 in
+    plan_case s now ask (record { early = early; live = r.live; safe = r.safe; leased = r.leased }) t.0
 
 pub ask_case : (s : ClientState) (now : ℕ) (ask : Ask) → IsAsked s now ask (ask_step s now ask)
 unfolding ask_step
 ask_case s now ask =
     either {A = Result ℕ Fault} (λ m. IsAsked s now ask (ask_at s ask m)) (nat_lt now moment_limit) (Ok (max s.clock now)) (Err faults.Exhausted)
-    (λ h. fault_case s now ask (fault_then s (noted_moment s now)) (less now moment_limit h) refl) (λ h. (AskedTooLate (not_less now moment_limit h), refl))
+    (λ h. fault_case s now ask (fault_for s (noted_moment s now) ask) (less now moment_limit h) refl) (λ h. (AskedTooLate (not_less now moment_limit h), refl))
 
 -- ---- beat
 

@@ -27,13 +27,16 @@ use Rattle.client_core.specs.Opens.{Lesson}
 use Rattle.client_core.specs.Lessons.{is_safe, is_fresh, may_install, taught, lesson}
 use Rattle.client_core.specs.Targets.{unknown_lines}
 use Rattle.client_core.specs.Handles.{has_number}
-use Rattle.client_core.specs.Gives.{is_live, is_unstarted, is_span, told, passed_over, rejected, offered, begun, with_processed, takes_offer, bettered, with_lease, safe_lines, kept_alive, is_numbered, target_for, awaited, answer_of, ended_plainly, ended, finish_step, reply_for, lost, lose_step, later_epoch, learned, learn_step, taken, taken_own, give_at, give_step}
+use Rattle.client_core.specs.Gives.{is_live, is_unstarted, is_span, told, passed_over, rejected, offered, begun, with_processed, takes_offer, bettered, with_lease, safe_lines, kept_alive, is_numbered, target_for, awaited, answer_of, ended_plainly, ended, finish_step, reply_for, lost, lose_step, later_epoch, learned, learn_step, taken, taken_own, give_at, give_step, leave_step, departed}
 use Rattle.client_core.specs.Invalidations.{is_in_order}
 use Rattle.client_core.specs.Events.{are_events_in_order, event_lines}
 use Rattle.client_core.specs.Sessions.{session_without, session_after}
 use Rattle.client_core.specs.Cases.{noted_moment, IsHeard, IsLive, IsStarted, IsAlive, IsFit, IsAwaited, GiveCase, given_in}
-use Rattle.client_core.specs.Cases.GiveCase.{GivenTooLate, OfAnother, Started, StartedUnfit, StartedDropped, LeaseTaken, LeaseStays, AliveUnfit, AliveDropped, OutOfNumbers, Replied, Installed, ReplyDropped, NotAwaited, Learns, Lost, TurnedAway, RefusalDropped}
+use Rattle.client_core.specs.Cases.GiveCase.{GivenTooLate, OfAnother, Started, StartedUnfit, StartedDropped, LeaseTaken, LeaseStays, AliveUnfit, AliveDropped, OutOfNumbers, Replied, Installed, Departed, ReplyDropped, NotAwaited, Learns, Lost, TurnedAway, RefusalDropped}
 use Rattle.client_core.proofs.Noting.{either, less, not_less, same, other, up_to, both, safely, live_before, unstarted_before, noted_lease}
+use Rattle.tags_cell.specs.declared.messages.outs.CallResult.{CallResult}
+use Rattle.tags_cell.specs.declared.messages.outs.CallResult.TheVariants as results
+use Rattle.node_core.specs.declared.answers.Answer.TheVariants as answers
 
 -- one of the cases is what is done
 abbrev pub IsGiven : (s : ClientState) (now : ℕ) (out : Out) → ClientState × Result Given Fault → Type 0
@@ -183,6 +186,22 @@ finish_case : (s : ClientState) (now : ℕ) (out : Out) (message : Reply) (call 
 finish_case s now out message call target heard is for at kept =
     subst (λ t. IsGiven s now out (finish_step s (noted_moment s now) message t)) at (room_case s now out message call (has_number s.opened message.result) heard is for (λ e. kept (sym at ∙ e)) refl)
 
+-- ---- the reply to the call that ends the session
+
+refused_leave : (s : ClientState) (now : ℕ) (out : Out) (message : Reply) (call : Outstanding) → IsHeard s now out → out ≡ outs.Reply message → IsAwaited s now message call → call.target ≡ targets.Leaving → IsGiven s now out (finish_step s (noted_moment s now) message targets.Leaving)
+refused_leave s now out message call heard is for at = finish_case s now out message call targets.Leaving heard is for at (λ e. cc)
+
+leaving_case : (s : ClientState) (now : ℕ) (out : Out) (message : Reply) (call : Outstanding) (result : CallResult) → IsHeard s now out → out ≡ outs.Reply message → IsAwaited s now message call → call.target ≡ targets.Leaving → message.result ≡ result → IsGiven s now out (leave_step s (noted_moment s now) message result)
+leaving_case s now out message call results.Done heard is for at done =
+    (Departed message call heard is for at done, in_session s now (λ n. (departed n, Ok (told s (noted_moment s now) (lines.Done s.number message.number answers.Okay ∷ []) None))) for.live.live)
+leaving_case s now out message call (results.Opened handle) heard is for at other = refused_leave s now out message call heard is for at
+leaving_case s now out message call results.Closed heard is for at other = refused_leave s now out message call heard is for at
+leaving_case s now out message call (results.Viewed view) heard is for at other = refused_leave s now out message call heard is for at
+leaving_case s now out message call (results.Stated stat) heard is for at other = refused_leave s now out message call heard is for at
+leaving_case s now out message call (results.Listed view) heard is for at other = refused_leave s now out message call heard is for at
+leaving_case s now out message call (results.Sequencer bytes) heard is for at other = refused_leave s now out message call heard is for at
+leaving_case s now out message call (results.Refused fault) heard is for at other = refused_leave s now out message call heard is for at
+
 -- ---- its tests, one behind the other
 
 target_case : (s : ClientState) (now : ℕ) (out : Out) (message : Reply) (call : Outstanding) (target : Target) → IsHeard s now out → out ≡ outs.Reply message → IsAwaited s now message call → call.target ≡ target → IsGiven s now out (reply_for s (noted_moment s now) message (Some target))
@@ -191,6 +210,7 @@ target_case s now out message call (targets.Closing number) heard is for at = fi
 target_case s now out message call (targets.Handle number) heard is for at = finish_case s now out message call (targets.Handle number) heard is for at (λ e. cc)
 target_case s now out message call (targets.Sequencing number) heard is for at = finish_case s now out message call (targets.Sequencing number) heard is for at (λ e. cc)
 target_case s now out message call targets.Checking heard is for at = finish_case s now out message call targets.Checking heard is for at (λ e. cc)
+target_case s now out message call targets.Leaving heard is for at = leaving_case s now out message call message.result heard is for at refl
 target_case s now out message call targets.Dropped heard is for at =
     (ReplyDropped message call heard is for at, in_session s now (λ n. (record n { outstanding = None }, Ok (told s (noted_moment s now) [] None))) for.live.live)
 

@@ -1,10 +1,10 @@
 -- The changes of the cache that are asked for before a step lead to the cache behind it.
-use Rattle.std.proofs.Common.{◌≡◌, ℕ, ◌+◌, ◌<◌, Bool, true, false, cond, List, [], ◌∷◌, ◌++◌, Option, Some, None, Result, Ok, Err, refl, sym, ap, ◌∙◌, subst, arith}
-use Rattle.std.specs.Prelude.{◌==◌, ◌&&◌, nat_lt, IfOk}
+use Rattle.std.proofs.Common.{◌≡◌, ◌≢◌, ℕ, ◌+◌, ◌<◌, Bool, true, false, cond, List, [], ◌∷◌, ◌++◌, Option, Some, None, Result, Ok, Err, refl, sym, ap, ◌∙◌, subst, arith, ◌⊎◌, inl, inr}
+use Rattle.std.specs.Prelude.{◌==◌, ◌&&◌, nat_lt, IfOk, is_none, is_some, not}
 use Rattle.std.proofs.lemmas.Bool.Decides.{nat_tests}
 use Rattle.std.proofs.lemmas.List.Sums.{fold-append}
 use Rattle.lease_core.specs.Lease.{LeaseTerms, moment_limit, is_unexpired}
-use Rattle.cache_core.specs.Caches.{CacheState, takes_lease, flushed}
+use Rattle.cache_core.specs.Caches.{CacheState, takes_lease, flushed, is_leased}
 use Rattle.cache_core.specs.Changes.{applied, applied_all}
 use Rattle.cache_core.specs.declared.changes.CacheOp.{CacheOp}
 use Rattle.cache_core.specs.declared.changes.CacheOp.TheVariants.{Flush, Clear}
@@ -13,24 +13,37 @@ use Rattle.node_core.specs.declared.refusals.Fault.TheVariants as faults
 use Rattle.tags_cell.specs.declared.messages.beats.Alive.{Alive}
 use Rattle.tags_cell.specs.declared.messages.beats.Invalidation.{Invalidation}
 use Rattle.tags_cell.specs.declared.messages.outs.CallResult.{CallResult}
+use Rattle.tags_cell.specs.declared.messages.outs.Reply.{Reply}
 use Rattle.tags_cell.specs.declared.messages.outs.CallResult.TheVariants as results
 use Rattle.client_core.specs.declared.parts.asks.Ask.{Ask}
 use Rattle.client_core.specs.declared.parts.targets.Target.{Target}
 use Rattle.client_core.specs.Invalidations.{all_flushed}
-use Rattle.client_core.specs.Leased.{under}
+use Rattle.client_core.specs.Leased.{under, shut, shut_if}
 use Rattle.client_core.specs.Moments.{moment}
 use Rattle.client_core.specs.PartOps.{losses, with_flushes, lease_ops}
-use Rattle.client_core.specs.State.{ClientState, note_in, note}
-use Rattle.client_core.specs.Asks.{ask_step}
+use Rattle.client_core.specs.State.{ClientState, note_in, note, standing_then, session_then, session_in, session_behind}
+use Rattle.client_core.specs.Asks.{ask_step, ask_at, asks_to_leave, fault_then, fault_for, leaves, plan_of}
 use Rattle.client_core.specs.Beats.{beat_step}
-use Rattle.client_core.specs.Gives.{offered, takes_offer, with_processed, with_lease, ended_plainly}
+use Rattle.client_core.specs.Gives.{offered, takes_offer, with_processed, with_lease, ended_plainly, is_live, leave_step, finish_step}
 use Rattle.client_core.specs.Ops.{LeadTo}
-use Rattle.client_core.specs.Cases.{noted_moment, IsSafe, AskCase, asked_in, BeatCase, beaten_in}
+use Rattle.client_core.specs.Cases.{noted_moment, IsSafe, AskCase, asked_in, BeatCase, beaten_in, IsSendable}
 use Rattle.client_core.specs.Cases.AskCase.{AskedTooLate, Unsafe, Refused, ReadServed, AbsenceServed, Shared, OutOfHandles, Released, OutOfCalls, Sent, Poisoned}
 use Rattle.client_core.specs.Cases.BeatCase.{BeatTooLate, OutOfBeats, Starts, Beats, Quiet}
-use Rattle.client_core.proofs.Noting.{relied_note}
+use Rattle.client_core.proofs.Noting.{relied_note, note_leaving}
 use Rattle.client_core.proofs.AskCases.{ask_case, beat_case}
 use Rattle.client_core.proofs.Leases.{note_keeps}
+use Rattle.client_core.specs.Targets.{is_leaving}
+use Rattle.client_core.specs.Sessions.{session_fault}
+use Rattle.client_core.specs.declared.plans.Plan.{Plan}
+use Rattle.client_core.specs.declared.plans.Plan.TheVariants as plans
+use Rattle.client_core.specs.declared.parts.targets.Outstanding.{Outstanding}
+use Rattle.client_core.specs.declared.parts.targets.Target.TheVariants as targets
+use Rattle.client_core.specs.declared.parts.asks.Ask.TheVariants as asks
+use Rattle.client_core.specs.declared.parts.sessions.Session.{Session}
+use Rattle.client_core.specs.declared.parts.sessions.Session.TheVariants as sessions
+use Rattle.tags_cell.specs.declared.messages.calls.Call.TheVariants as calls
+use Rattle.cache_core.specs.Standings.{standing_at}
+use Rattle.cache_core.specs.declared.standings.Standing.TheVariants as standings
 
 -- ---- lists of changes
 
@@ -75,7 +88,7 @@ offer_same s n message beats sent lease =
 processed_cache : (s n : ClientState) (message : Alive) (ops : List CacheOp) → applied_all s.cache ops ≡ n.cache → n.processed ≡ s.processed → applied_all s.cache (with_flushes s.processed ops message.invalidations) ≡ (with_processed n message).cache
 processed_cache s n message ops h processed = flushes s.processed s.cache ops n.cache message.invalidations h ∙ ap (λ x. record n.cache { entries = all_flushed x n.cache.entries message.invalidations }) (sym processed)
 
-taken_cache : (p : ClientState) (moment : ℕ) (message : Alive) (b : Bool) → b ≡ true → takes_offer p message ≡ b → under p.cache (offered p message.span) moment ≡ (with_lease p moment message).cache
+taken_cache : (p : ClientState) (moment : ℕ) (message : Alive) (b : Bool) → b ≡ true → takes_offer p message ≡ b → shut_if p.leaving (under p.cache (offered p message.span) moment) ≡ (with_lease p moment message).cache
 taken_cache p moment message true h is = rw is refl
 taken_cache p moment message false h is = cc
 
@@ -92,15 +105,41 @@ stays_under s moment message ops h worse =
     let same = offer_same s n message k.of_beats.beats k.of_beats.sent k.of_session.lease ∙ worse in
     processed_cache s n message ops h k.of_session.processed ∙ left_cache p moment message (takes_offer p message) same refl
 
+-- what empties a cache and turns it off
+pub shuts : (cache : CacheState) (ops : List CacheOp) (behind : CacheState) → applied_all cache ops ≡ behind → applied_all cache (ops ++ losses) ≡ shut behind
+shuts cache ops behind h = loses cache ops behind h
+
+-- the changes behind which a client that ends its session has nothing
+abbrev pub shut_ops : Bool → List CacheOp → List CacheOp
+shut_ops leaving ops = cond leaving (ops ++ losses) ops
+
+shuts_if : (b : Bool) (cache : CacheState) (ops : List CacheOp) (behind : CacheState) → applied_all cache ops ≡ behind → applied_all cache (shut_ops b ops) ≡ shut_if b behind
+shuts_if true cache ops behind h = shuts cache ops behind h
+shuts_if false cache ops behind h = h
+
 -- it is
-pub goes_under : (s : ClientState) (moment : ℕ) (message : Alive) (ops : List CacheOp) → applied_all s.cache ops ≡ (note s moment).cache → takes_offer s message ≡ true → applied_all s.cache (with_flushes s.processed ops message.invalidations ++ lease_ops (offered s message.span) moment) ≡ (with_lease (with_processed (note s moment) message) moment message).cache
+pub goes_under : (s : ClientState) (moment : ℕ) (message : Alive) (ops : List CacheOp) → applied_all s.cache ops ≡ (note s moment).cache → takes_offer s message ≡ true → applied_all s.cache (shut_ops s.leaving (with_flushes s.processed ops message.invalidations ++ lease_ops (offered s message.span) moment)) ≡ (with_lease (with_processed (note s moment) message) moment message).cache
 goes_under s moment message ops h better =
     let k = note_keeps s moment in
     let n = note s moment in
     let p = with_processed n message in
     let same = offer_same s n message k.of_beats.beats k.of_beats.sent k.of_session.lease ∙ better in
-    leases s.cache (with_flushes s.processed ops message.invalidations) p.cache (offered s message.span) moment (processed_cache s n message ops h k.of_session.processed)
-    ∙ (ap (λ x. under p.cache (record { sent = x; span = message.span }) moment) (sym k.of_beats.sent) ∙ taken_cache p moment message (takes_offer p message) same refl)
+    let given = with_flushes s.processed ops message.invalidations ++ lease_ops (offered s message.span) moment in
+    shuts_if s.leaving s.cache given (under p.cache (offered s message.span) moment)
+    (leases s.cache (with_flushes s.processed ops message.invalidations) p.cache (offered s message.span) moment (processed_cache s n message ops h k.of_session.processed))
+    ∙ (ap (λ x. shut_if s.leaving (under p.cache (record { sent = x; span = message.span }) moment)) (sym k.of_beats.sent)
+    ∙ (ap (λ b. shut_if b (under p.cache (offered p message.span) moment)) (sym (note_leaving s s.session moment)) ∙ taken_cache p moment message (takes_offer p message) same refl))
+
+-- by a client that ends its session, and by one that doesn't
+pub goes_shut : (s : ClientState) (moment : ℕ) (message : Alive) (ops : List CacheOp) → applied_all s.cache ops ≡ (note s moment).cache → takes_offer s message ≡ true → s.leaving ≡ true → applied_all s.cache ((with_flushes s.processed ops message.invalidations ++ lease_ops (offered s message.span) moment) ++ losses) ≡ (with_lease (with_processed (note s moment) message) moment message).cache
+goes_shut s moment message ops h better leaves =
+    ap (λ b. applied_all s.cache (shut_ops b (with_flushes s.processed ops message.invalidations ++ lease_ops (offered s message.span) moment))) (sym leaves)
+    ∙ goes_under s moment message ops h better
+
+pub goes_on : (s : ClientState) (moment : ℕ) (message : Alive) (ops : List CacheOp) → applied_all s.cache ops ≡ (note s moment).cache → takes_offer s message ≡ true → s.leaving ≡ false → applied_all s.cache (with_flushes s.processed ops message.invalidations ++ lease_ops (offered s message.span) moment) ≡ (with_lease (with_processed (note s moment) message) moment message).cache
+goes_on s moment message ops h better stays =
+    ap (λ b. applied_all s.cache (shut_ops b (with_flushes s.processed ops message.invalidations ++ lease_ops (offered s message.span) moment))) (sym stays)
+    ∙ goes_under s moment message ops h better
 
 -- ---- a Reply
 
@@ -114,6 +153,28 @@ plainly n target (results.Listed view) = refl
 plainly n target (results.Sequencer bytes) = refl
 plainly n target results.Done = refl
 plainly n target (results.Refused fault) = refl
+
+-- the session is over that the client has ended
+pub left : (s : ClientState) (moment : ℕ) (message : Reply) (result : CallResult) → result ≡ results.Done → (ops more : List CacheOp) → applied_all s.cache ops ≡ (note s moment).cache → more ≡ ops ++ losses → LeadTo s.cache more (leave_step s moment message result)
+left s moment message results.Done is ops more h j = ap (applied_all s.cache) j ∙ shuts s.cache ops (note s moment).cache h
+left s moment message (results.Opened handle) is ops more h j = cc
+left s moment message results.Closed is ops more h j = cc
+left s moment message (results.Viewed view) is ops more h j = cc
+left s moment message (results.Stated stat) is ops more h j = cc
+left s moment message (results.Listed view) is ops more h j = cc
+left s moment message (results.Sequencer bytes) is ops more h j = cc
+left s moment message (results.Refused fault) is ops more h j = cc
+
+-- its end was refused
+pub left_refused : (s : ClientState) (moment : ℕ) (message : Reply) (result : CallResult) → result ≢ results.Done → leave_step s moment message result ≡ finish_step s moment message targets.Leaving
+left_refused s moment message results.Done other = absurd (other refl)
+left_refused s moment message (results.Opened handle) other = refl
+left_refused s moment message results.Closed other = refl
+left_refused s moment message (results.Viewed view) other = refl
+left_refused s moment message (results.Stated stat) other = refl
+left_refused s moment message (results.Listed view) other = refl
+left_refused s moment message (results.Sequencer bytes) other = refl
+left_refused s moment message (results.Refused fault) other = refl
 
 -- a step that may be refused
 pub leads_if : {X : Type 0} (b : Bool) (cache : CacheState) (ops : List CacheOp) (new old : ClientState) (answer : X) (fault : Fault) → applied_all cache ops ≡ new.cache → LeadTo cache ops (cond b (new, Ok answer) (old, Err fault))
@@ -137,18 +198,104 @@ IsNoting s now ops = now < moment_limit → applied_all s.cache ops ≡ (note s 
 safely_leads : (s : ClientState) (now : ℕ) (ops : List CacheOp) → IsNoting s now ops → IsSafe s now → applied_all s.cache ops ≡ s.cache
 safely_leads s now ops h safe = h safe.early ∙ safe_cache s now safe
 
-asked_leads : (s : ClientState) (now : ℕ) (ask : Ask) (ops : List CacheOp) (c : AskCase s now ask) → IsNoting s now ops → LeadTo s.cache ops (asked_in s now ask c)
-asked_leads s now ask ops (AskedTooLate late) h = tt
-asked_leads s now ask ops (Unsafe fault early is) h = h early
-asked_leads s now ask ops (Refused fault safe is) h = safely_leads s now ops h safe
-asked_leads s now ask ops (ReadServed number handle call entry given safe is readable) h = safely_leads s now ops h safe
-asked_leads s now ask ops (AbsenceServed opening safe is plain cached) h = safely_leads s now ops h safe
-asked_leads s now ask ops (Shared opening view handle safe is shared room) h = safely_leads s now ops h safe
-asked_leads s now ask ops (OutOfHandles opening view handle safe is shared last) h = tt
-asked_leads s now ask ops (Released number handle safe is found shared) h = safely_leads s now ops h safe
-asked_leads s now ask ops (OutOfCalls call sequencer target sendable last) h = tt
-asked_leads s now ask ops (Sent call sequencer target sendable room) h = safely_leads s now ops h sendable.safe
-asked_leads s now ask ops (Poisoned number handle safe is usable) h = safely_leads s now ops h safe
+-- what a client that is asked does to its cache: it notes the time, or it ends its session
+abbrev pub AsksSo : ClientState → ℕ → Ask → List CacheOp → Type 0
+AsksSo s now ask ops =
+    ((leaves s (noted_moment s now) ask ≡ true) × (applied_all s.cache ops ≡ shut s.cache)) ⊎ ((leaves s (noted_moment s now) ask ≡ false) × IsNoting s now ops)
+
+-- it notes the time, wherever this test fails
+noted_so : (s : ClientState) (now : ℕ) (ask : Ask) (ops : List CacheOp) → (leaves s (noted_moment s now) ask ≡ true → ⊥) → AsksSo s now ask ops → IsNoting s now ops
+noted_so s now ask ops none (inl h) = absurd (none h.0)
+noted_so s now ask ops none (inr h) = h.1
+
+some_fault : (a b : Bool) (o : Option Fault) (fault : Fault) → o ≡ Some fault → ((a && is_none o) && b) ≡ true → ⊥
+some_fault true b o fault is h = let x : is_none o ≡ false = ap is_none is in cc
+some_fault false b o fault is h = cc
+
+not_first : (a b c : Bool) → a ≡ false → ((a && b) && c) ≡ true → ⊥
+not_first true b c is h = cc
+not_first false b c is h = cc
+
+shut_so : (b : Bool) (cache : CacheState) → b ≡ true → shut cache ≡ shut_if b cache
+shut_so true cache h = refl
+shut_so false cache h = cc
+
+same_so : (b : Bool) (cache : CacheState) → b ≡ false → cache ≡ shut_if b cache
+same_so true cache h = cc
+same_so false cache h = refl
+
+kept_on : (b : Bool) (session : Session) (o : Option Fault) → session ≡ sessions.Live → o ≡ None → is_none (cond (b && not (true && is_live session)) (Some faults.NoSession) o) ≡ true
+kept_on true session o live none = rw (live, none) refl
+kept_on false session o live none = rw none refl
+
+-- who may rely on its session may end it
+leave_faultless : (s : ClientState) (now : ℕ) → IsSafe s now → is_none (fault_for s (noted_moment s now) asks.Leave) ≡ true
+leave_faultless s now safe =
+    let m = noted_moment s now in
+    let stands : standing_then s m ≡ standings.Safe = ap (λ x. standing_at x (is_leased s.cache.lease m) m) safe.safe ∙ ap (λ b. standing_at standings.Safe b m) safe.leased in
+    let lives : session_then s m ≡ sessions.Live = ap (λ x. session_in x s m) safe.live ∙ ap session_behind stands in
+    let none : fault_then s m ≡ None = ap (λ x. session_fault x (standing_then s m)) safe.live ∙ ap (session_fault sessions.Live) stands in
+    kept_on s.leaving (session_then s m) (fault_then s m) lives none
+
+-- where the end of its session isn't sent by a client that may rely on it and has no call, something else is asked for
+asks_none : (s : ClientState) (now : ℕ) (ask : Ask) → IsSafe s now → s.outstanding ≡ None → leaves s (noted_moment s now) ask ≡ false → asks_to_leave ask ≡ false
+asks_none s now (asks.Open opening) safe free h = refl
+asks_none s now (asks.Close number) safe free h = refl
+asks_none s now (asks.Poison number) safe free h = refl
+asks_none s now (asks.Node number call) safe free h = refl
+asks_none s now (asks.SetSequencer number sequencer) safe free h = refl
+asks_none s now (asks.CheckSequencer bytes) safe free h = refl
+asks_none s now asks.Leave safe free h =
+    let goes : is_none (fault_for s (noted_moment s now) asks.Leave) ≡ true = leave_faultless s now safe in
+    let none : is_none s.outstanding ≡ true = ap (λ o. is_none o) free in
+    let x : (is_none (fault_for s (noted_moment s now) asks.Leave) && is_none s.outstanding) ≡ true = rw (goes, none) refl in
+    cc
+
+asks_it : (s : ClientState) (moment : ℕ) (ask : Ask) → leaves s moment ask ≡ true → asks_to_leave ask ≡ true
+asks_it s moment (asks.Open opening) h = cc
+asks_it s moment (asks.Close number) h = cc
+asks_it s moment (asks.Poison number) h = cc
+asks_it s moment (asks.Node number call) h = cc
+asks_it s moment (asks.SetSequencer number sequencer) h = cc
+asks_it s moment (asks.CheckSequencer bytes) h = cc
+asks_it s moment asks.Leave h = refl
+
+sends_it : (b : Bool) (o : Option Outstanding) (plan : Plan) (fault : Fault) → (b && is_none o) ≡ true → cond (is_some o) (Err faults.CallOutstanding) (Ok plan) ≡ Err fault → ⊥
+sends_it true None plan fault h is = cc
+sends_it true (Some call) plan fault h is = cc
+sends_it false o plan fault h is = cc
+
+-- and what is sent isn't refused
+never_refused : (s : ClientState) (moment : ℕ) (ask : Ask) (fault : Fault) → leaves s moment ask ≡ true → plan_of s moment ask ≡ Err fault → ⊥
+never_refused s moment (asks.Open opening) fault h is = cc
+never_refused s moment (asks.Close number) fault h is = cc
+never_refused s moment (asks.Poison number) fault h is = cc
+never_refused s moment (asks.Node number call) fault h is = cc
+never_refused s moment (asks.SetSequencer number sequencer) fault h is = cc
+never_refused s moment (asks.CheckSequencer bytes) fault h is = cc
+never_refused s moment asks.Leave fault h is = sends_it (is_none (fault_for s moment asks.Leave)) s.outstanding (plans.Send calls.Leave None targets.Leaving) fault h is
+
+module _ (s : ClientState) (now : ℕ) (ask : Ask) (ops : List CacheOp) (so : AsksSo s now ask ops) where
+  -- something else is asked for, by who may rely on its session
+  other_leads : IsSafe s now → asks_to_leave ask ≡ false → applied_all s.cache ops ≡ s.cache
+  other_leads safe is =
+      safely_leads s now ops (noted_so s now ask ops (not_first (asks_to_leave ask) (is_none (fault_for s (noted_moment s now) ask)) (is_none s.outstanding) is) so) safe
+
+  asked_leads : (c : AskCase s now ask) → LeadTo s.cache ops (asked_in s now ask c)
+  asked_leads (AskedTooLate late) = tt
+  asked_leads (Unsafe fault early is) = noted_so s now ask ops (some_fault (asks_to_leave ask) (is_none s.outstanding) (fault_for s (noted_moment s now) ask) fault is) so early
+  asked_leads (Refused fault safe is) = safely_leads s now ops (noted_so s now ask ops (λ h. never_refused s (noted_moment s now) ask fault h is) so) safe
+  asked_leads (ReadServed number handle call entry given safe is readable) = other_leads safe (ap asks_to_leave is)
+  asked_leads (AbsenceServed opening safe stays is plain cached) = other_leads safe (ap asks_to_leave is)
+  asked_leads (Shared opening view handle safe is shared room) = other_leads safe (ap asks_to_leave is)
+  asked_leads (OutOfHandles opening view handle safe is shared last) = tt
+  asked_leads (Released number handle safe is found shared) = other_leads safe (ap asks_to_leave is)
+  asked_leads (OutOfCalls call sequencer target sendable last) = tt
+  asked_leads (Sent call sequencer target sendable room) = elim so [
+    | inl h ↦ h.1 ∙ shut_so (is_leaving target) s.cache (sendable.leaves ∙ asks_it s (noted_moment s now) ask h.0)
+    | inr h ↦ safely_leads s now ops h.1 sendable.safe ∙ same_so (is_leaving target) s.cache (sendable.leaves ∙ asks_none s now ask sendable.safe sendable.free h.0)
+  ]
+  asked_leads (Poisoned number handle safe is usable) = other_leads safe (ap asks_to_leave is)
 
 moment_in : (b : Bool) (m n : ℕ) (fault : Fault) → b ≡ true → Ok m ≡ cond b (Ok n) (Err fault) → m ≡ n
 moment_in true m n fault h e = cc
@@ -169,8 +316,30 @@ noting s now m ops is h early = h ∙ ap (λ x. (note s x).cache) (moment_in (na
 pub no_noting : (s : ClientState) (now : ℕ) (fault : Fault) (ops : List CacheOp) → Err fault ≡ moment s.clock now → IsNoting s now ops
 no_noting s now fault ops is early = absurd (no_moment_in (nat_lt now moment_limit) (noted_moment s now) faults.Exhausted fault (in_time now early) is)
 
-pub ask_leads : (s : ClientState) (now : ℕ) (ask : Ask) (ops : List CacheOp) → IsNoting s now ops → LeadTo s.cache ops (ask_step s now ask)
-ask_leads s now ask ops h = let c = ask_case s now ask in subst (LeadTo s.cache ops) (sym c.1) (asked_leads s now ask ops c.0 h)
+pub ask_leads : (s : ClientState) (now : ℕ) (ask : Ask) (ops : List CacheOp) → AsksSo s now ask ops → LeadTo s.cache ops (ask_step s now ask)
+ask_leads s now ask ops h = let c = ask_case s now ask in subst (LeadTo s.cache ops) (sym c.1) (asked_leads s now ask ops h c.0)
+
+ok_moment : (b : Bool) (m n : ℕ) (fault : Fault) → Ok m ≡ cond b (Ok n) (Err fault) → m ≡ n
+ok_moment true m n fault e = cc
+ok_moment false m n fault e = cc
+
+-- what is asked for at a moment that is noted
+abbrev pub AsksAt : ClientState → ℕ → Ask → List CacheOp → Type 0
+AsksAt s m ask ops = ((leaves s m ask ≡ true) × (applied_all s.cache ops ≡ shut s.cache)) ⊎ ((leaves s m ask ≡ false) × (applied_all s.cache ops ≡ (note s m).cache))
+
+asks_so : (s : ClientState) (now : ℕ) (ask : Ask) (ops : List CacheOp) → AsksAt s (noted_moment s now) ask ops → AsksSo s now ask ops
+asks_so s now ask ops (inl h) = inl h
+asks_so s now ask ops (inr h) = inr (h.0, λ early. h.1)
+
+pub asked_at : (s : ClientState) (now m : ℕ) (ask : Ask) (ops : List CacheOp) → Ok m ≡ moment s.clock now → AsksAt s m ask ops → LeadTo s.cache ops (ask_step s now ask)
+asked_at s now m ask ops is h =
+    let P : ℕ → Type 0 = λ n. AsksAt s n ask ops in
+    ask_leads s now ask ops (asks_so s now ask ops (subst P (ok_moment (nat_lt now moment_limit) m (noted_moment s now) faults.Exhausted is) h))
+
+-- none is
+pub asked_late : (s : ClientState) (now : ℕ) (ask : Ask) (ops : List CacheOp) (fault : Fault) → Err fault ≡ moment s.clock now → LeadTo s.cache ops (ask_step s now ask)
+unfolding ask_step
+asked_late s now ask ops fault is = let P : Result ℕ Fault → Type 0 = λ r. LeadTo s.cache ops (ask_at s ask r) in subst P is tt
 
 beaten_leads : (s : ClientState) (now : ℕ) (ops : List CacheOp) (c : BeatCase s now) → IsNoting s now ops → LeadTo s.cache ops (beaten_in s now c)
 beaten_leads s now ops (BeatTooLate late) h = tt

@@ -24,15 +24,17 @@ use Rattle.client_core.specs.declared.parts.targets.Target.{Target}
 use Rattle.client_core.specs.State.{ClientState, standing_then, session_behind, session_in, note_in, note, note_live, note_lines}
 use Rattle.client_core.specs.Asks.{ask_step}
 use Rattle.client_core.specs.Beats.{start_message, beat_message, with_beat, beaten, beat_step}
-use Rattle.client_core.specs.Gives.{offered, ended_plainly, give_step}
+use Rattle.client_core.specs.Gives.{offered, with_processed, ended_plainly, give_step}
 use Rattle.client_core.specs.Invalidations.{last_number}
 use Rattle.client_core.specs.Cases.{noted_moment, IsLive, IsStarted, IsFit, IsTaken, IsLater, AskCase, asked_in, BeatCase, beaten_in, GiveCase, given_in, noted}
 use Rattle.client_core.specs.Cases.AskCase.{AskedTooLate, Unsafe, Refused, ReadServed, AbsenceServed, Shared, OutOfHandles, Released, OutOfCalls, Sent, Poisoned}
 use Rattle.client_core.specs.Cases.BeatCase.{BeatTooLate, OutOfBeats, Starts, Beats, Quiet}
-use Rattle.client_core.specs.Cases.GiveCase.{GivenTooLate, OfAnother, Started, StartedUnfit, StartedDropped, LeaseTaken, LeaseStays, AliveUnfit, AliveDropped, OutOfNumbers, Replied, Installed, ReplyDropped, NotAwaited, Learns, Lost, TurnedAway, RefusalDropped}
+use Rattle.client_core.specs.Cases.GiveCase.{GivenTooLate, OfAnother, Started, StartedUnfit, StartedDropped, LeaseTaken, LeaseStays, AliveUnfit, AliveDropped, OutOfNumbers, Replied, Installed, Departed, ReplyDropped, NotAwaited, Learns, Lost, TurnedAway, RefusalDropped}
 use Rattle.client_core.proofs.Noting.{noted_lease, note_clock, note_beats, note_sent, note_epoch, note_processed, note_lease}
 use Rattle.client_core.proofs.AskCases.{ask_case, beat_case}
 use Rattle.client_core.proofs.GiveCases.{give_case}
+use Rattle.client_core.specs.Leased.{under, shut_if}
+use Rattle.client_core.specs.Targets.{is_leaving}
 
 -- ---- the clock
 
@@ -58,7 +60,7 @@ asked_noted s now ask (AskedTooLate late) = inl refl
 asked_noted s now ask (Unsafe fault early is) = is_noted s now
 asked_noted s now ask (Refused fault safe is) = inr refl
 asked_noted s now ask (ReadServed number mine call entry given safe is readable) = inr refl
-asked_noted s now ask (AbsenceServed opening safe is plain cached) = inr refl
+asked_noted s now ask (AbsenceServed opening safe stays is plain cached) = inr refl
 asked_noted s now ask (Shared opening view mine safe is shared room) = inr refl
 asked_noted s now ask (OutOfHandles opening view mine safe is shared last) = inl refl
 asked_noted s now ask (Released number mine safe is found shared) = inr refl
@@ -98,6 +100,7 @@ given_noted s now out (AliveDropped message heard is strange) = is_noted s now
 given_noted s now out (OutOfNumbers message call heard is for last) = inl refl
 given_noted s now out (Replied message call heard is for room kept plain) = inr (ended_noted (note_live s (noted_moment s now)) call.target message.result)
 given_noted s now out (Installed message call taught stamp heard is for learned) = inr refl
+given_noted s now out (Departed message call heard is for leaving done) = inr refl
 given_noted s now out (ReplyDropped message call heard is for dropped) = inr refl
 given_noted s now out (NotAwaited message heard is none) = is_noted s now
 given_noted s now out (Learns message present heard is later) = inr refl
@@ -156,17 +159,22 @@ note_keeps s moment = record {
   of_session = record { session = session_stays s s.session moment refl; epoch = note_epoch s s.session moment; processed = note_processed s s.session moment; lease = note_lease s s.session moment };
 }
 
+-- what turns a cache off leaves its lease
+pub shut_lease : (b : Bool) (cache : CacheState) → (shut_if b cache).lease ≡ cache.lease
+shut_lease true cache = refl
+shut_lease false cache = refl
+
 pub asked_keeps : (s : ClientState) (now : ℕ) (ask : Ask) (c : AskCase s now ask) → Keeps s (asked_in s now ask c).0
 asked_keeps s now ask (AskedTooLate late) = keeps s
 asked_keeps s now ask (Unsafe fault early is) = note_keeps s (noted_moment s now)
 asked_keeps s now ask (Refused fault safe is) = record { of_beats = record { beats = refl; sent = refl }; of_session = record { session = inl refl; epoch = refl; processed = refl; lease = refl } }
 asked_keeps s now ask (ReadServed number mine call entry given safe is readable) = record { of_beats = record { beats = refl; sent = refl }; of_session = record { session = inl refl; epoch = refl; processed = refl; lease = refl } }
-asked_keeps s now ask (AbsenceServed opening safe is plain cached) = record { of_beats = record { beats = refl; sent = refl }; of_session = record { session = inl refl; epoch = refl; processed = refl; lease = refl } }
+asked_keeps s now ask (AbsenceServed opening safe stays is plain cached) = record { of_beats = record { beats = refl; sent = refl }; of_session = record { session = inl refl; epoch = refl; processed = refl; lease = refl } }
 asked_keeps s now ask (Shared opening view mine safe is shared room) = record { of_beats = record { beats = refl; sent = refl }; of_session = record { session = inl refl; epoch = refl; processed = refl; lease = refl } }
 asked_keeps s now ask (OutOfHandles opening view mine safe is shared last) = keeps s
 asked_keeps s now ask (Released number mine safe is found shared) = record { of_beats = record { beats = refl; sent = refl }; of_session = record { session = inl refl; epoch = refl; processed = refl; lease = refl } }
 asked_keeps s now ask (OutOfCalls call sequencer target sendable last) = keeps s
-asked_keeps s now ask (Sent call sequencer target sendable room) = record { of_beats = record { beats = refl; sent = refl }; of_session = record { session = inl refl; epoch = refl; processed = refl; lease = refl } }
+asked_keeps s now ask (Sent call sequencer target sendable room) = record { of_beats = record { beats = refl; sent = refl }; of_session = record { session = inl refl; epoch = refl; processed = refl; lease = shut_lease (is_leaving target) s.cache } }
 asked_keeps s now ask (Poisoned number mine safe is usable) = record { of_beats = record { beats = refl; sent = refl }; of_session = record { session = inl refl; epoch = refl; processed = refl; lease = refl } }
 
 -- to be asked for a call changes none of these, but that a session may be given up
@@ -241,6 +249,7 @@ given_keeps_beats s now out (AliveDropped message heard is strange) = (note_keep
 given_keeps_beats s now out (OutOfNumbers message call heard is for last) = record { beats = refl; sent = refl }
 given_keeps_beats s now out (Replied message call heard is for room kept plain) = replied_keeps_beats s (ended_plainly (note_live s (noted_moment s now)) call.target message.result) now (ended_same (note_live s (noted_moment s now)) call.target message.result)
 given_keeps_beats s now out (Installed message call taught stamp heard is for learned) = record { beats = refl; sent = refl }
+given_keeps_beats s now out (Departed message call heard is for leaving done) = record { beats = refl; sent = refl }
 given_keeps_beats s now out (ReplyDropped message call heard is for dropped) = record { beats = refl; sent = refl }
 given_keeps_beats s now out (NotAwaited message heard is none) = (note_keeps s (noted_moment s now)).of_beats
 given_keeps_beats s now out (Learns message present heard is later) = record { beats = refl; sent = refl }
@@ -281,13 +290,14 @@ given_lease s now out (OfAnother early other) = LeaseKept (note_keeps s (noted_m
 given_lease s now out (Started message heard is standing fits) = LeaseBegun message is standing fits refl refl refl (under_lease _ _ _ _ refl refl)
 given_lease s now out (StartedUnfit message heard is standing long) = LeaseKept (note_keeps s (noted_moment s now)).of_session
 given_lease s now out (StartedDropped message heard is old) = LeaseKept (note_keeps s (noted_moment s now)).of_session
-given_lease s now out (LeaseTaken message heard is fit taken) = LeaseBettered message is fit taken (behind_live s now fit.alive.live) refl refl (under_lease _ _ _ _ refl refl)
+given_lease s now out (LeaseTaken message heard is fit taken) = LeaseBettered message is fit taken (behind_live s now fit.alive.live) refl refl (shut_lease s.leaving (under (with_processed (note_live s (noted_moment s now)) message).cache (offered s message.span) (noted_moment s now)) ∙ under_lease _ _ _ _ refl refl)
 given_lease s now out (LeaseStays message heard is fit worse) = LeasePassed message is fit (behind_live s now fit.alive.live) refl refl (noted_lease s.cache (noted_moment s now))
 given_lease s now out (AliveUnfit message heard is alive unfit) = LeaseKept (note_keeps s (noted_moment s now)).of_session
 given_lease s now out (AliveDropped message heard is strange) = LeaseKept (note_keeps s (noted_moment s now)).of_session
 given_lease s now out (OutOfNumbers message call heard is for last) = LeaseKept (keeps s).of_session
 given_lease s now out (Replied message call heard is for room kept plain) = LeaseKept (replied_keeps s (ended_plainly (note_live s (noted_moment s now)) call.target message.result) now for.live (ended_same (note_live s (noted_moment s now)) call.target message.result))
 given_lease s now out (Installed message call taught stamp heard is for learned) = LeaseKept (record { session = inl refl; epoch = refl; processed = refl; lease = refl })
+given_lease s now out (Departed message call heard is for leaving done) = LeaseLeft (λ e. cc) (λ e. cc) refl refl (noted_lease s.cache (noted_moment s now))
 given_lease s now out (ReplyDropped message call heard is for dropped) = LeaseKept (record { session = inl (behind_live s now for.live); epoch = refl; processed = refl; lease = noted_lease s.cache (noted_moment s now) })
 given_lease s now out (NotAwaited message heard is none) = LeaseKept (note_keeps s (noted_moment s now)).of_session
 given_lease s now out (Learns message present heard is later) = LeaseCarried message present is later (behind_live s now later.live) refl refl (noted_lease s.cache (noted_moment s now))

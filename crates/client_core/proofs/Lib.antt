@@ -5,6 +5,7 @@ pub mod Cached
 pub mod GiveCases
 pub mod Numbered
 pub mod Leases
+pub mod Leaving
 pub mod OneEntry
 pub mod Leading
 pub mod Firsts

@@ -156,6 +156,12 @@ note_beats s sessions.Live moment = refl
 note_beats s sessions.Lost moment = refl
 note_beats s sessions.TurnedAway moment = refl
 
+pub note_leaving : (s : ClientState) (session : Session) (moment : ℕ) → (note_in session s moment).leaving ≡ s.leaving
+note_leaving s sessions.Unstarted moment = refl
+note_leaving s sessions.Live moment = refl
+note_leaving s sessions.Lost moment = refl
+note_leaving s sessions.TurnedAway moment = refl
+
 pub note_sent : (s : ClientState) (session : Session) (moment : ℕ) → (note_in session s moment).sent ≡ s.sent
 note_sent s sessions.Unstarted moment = refl
 note_sent s sessions.Live moment = refl

@@ -42,7 +42,7 @@ use Rattle.client_core.specs.Laws.{HandleNumbersRise, SharedNumbersRise, HandleN
 use Rattle.client_core.specs.Cases.{noted_moment, IsSafe, IsAwaited, AskCase, asked_in, BeatCase, beaten_in, GiveCase, given_in}
 use Rattle.client_core.specs.Cases.AskCase.{AskedTooLate, Unsafe, Refused, ReadServed, AbsenceServed, Shared, OutOfHandles, Released, OutOfCalls, Sent, Poisoned}
 use Rattle.client_core.specs.Cases.BeatCase.{BeatTooLate, OutOfBeats, Starts, Beats, Quiet}
-use Rattle.client_core.specs.Cases.GiveCase.{GivenTooLate, OfAnother, Started, StartedUnfit, StartedDropped, LeaseTaken, LeaseStays, AliveUnfit, AliveDropped, OutOfNumbers, Replied, Installed, ReplyDropped, NotAwaited, Learns, Lost, TurnedAway, RefusalDropped}
+use Rattle.client_core.specs.Cases.GiveCase.{GivenTooLate, OfAnother, Started, StartedUnfit, StartedDropped, LeaseTaken, LeaseStays, AliveUnfit, AliveDropped, OutOfNumbers, Replied, Installed, Departed, ReplyDropped, NotAwaited, Learns, Lost, TurnedAway, RefusalDropped}
 use Rattle.client_core.proofs.Noting.{Relies, relied_note, relied_lines, live_before, note_number, note_clock, note_epoch, note_outstanding, note_opened, note_session}
 use Rattle.client_core.proofs.Printed.{events_hold, unknown_holds}
 use Rattle.client_core.proofs.AskCases.{ask_case, beat_case}
@@ -174,6 +174,8 @@ rises_in s new now client call handle out (Replied message waiting heard is for 
 rises_in s new now client call handle out (Installed message waiting t stamp heard is for learned) h told =
     gives_none s waiting.target message.result t client message.number call handle _ (taught_if (may_install s (noted_moment s now) message.stamp) (taught s waiting.target message.result) t learned.teaches).1
     (ends_in s (noted_moment s now) (lines.Done s.number message.number (answer_of s message.result)) (lines.Done client call (answers.Opened handle)) told)
+rises_in s new now client call handle out (Departed message waiting heard is for leaving done) h told =
+    silent s (noted_moment s now) client call handle (lines.Done s.number message.number answers.Okay ∷ []) _ (refl, tt) told
 rises_in s new now client call handle out (ReplyDropped message waiting heard is for dropped) h told = silent s (noted_moment s now) client call handle [] _ tt told
 rises_in s new now client call handle out (NotAwaited message heard is none) h told = silent s (noted_moment s now) client call handle [] _ tt told
 rises_in s new now client call handle out (Learns message present heard is later) h told = silent s (noted_moment s now) client call handle _ _ (unknown_silent s.number s.outstanding) told
@@ -218,7 +220,7 @@ shares_in s new now handle ask (AskedTooLate late) h told = cc
 shares_in s new now handle ask (Unsafe fault early is) h told = cc
 shares_in s new now handle ask (Refused fault safe is) h told = cc
 shares_in s new now handle ask (ReadServed number mine call entry given safe is readable) h told = not_opened mine call entry given handle _ readable.answers told
-shares_in s new now handle ask (AbsenceServed opening safe is plain cached) h told = cc
+shares_in s new now handle ask (AbsenceServed opening safe stays is plain cached) h told = cc
 shares_in s new now handle ask (Shared opening view mine safe is shared room) h told =
     let n : s.opened + 1 ≡ handle = cc in
     let o : s.opened + 1 ≡ new.opened = ap (λ (x : ClientState). x.opened) h in
@@ -240,7 +242,7 @@ ask_stays s now ask (AskedTooLate late) = omega arith
 ask_stays s now ask (Unsafe fault early is) = let e = note_opened s s.session (noted_moment s now) in omega (arith, e)
 ask_stays s now ask (Refused fault safe is) = omega arith
 ask_stays s now ask (ReadServed number mine call entry given safe is readable) = omega arith
-ask_stays s now ask (AbsenceServed opening safe is plain cached) = omega arith
+ask_stays s now ask (AbsenceServed opening safe stays is plain cached) = omega arith
 ask_stays s now ask (Shared opening view mine safe is shared room) = omega arith
 ask_stays s now ask (OutOfHandles opening view mine safe is shared last) = omega arith
 ask_stays s now ask (Released number mine safe is found shared) = omega arith
@@ -281,6 +283,7 @@ give_stays s now out (AliveDropped message heard is strange) = note_stays s (not
 give_stays s now out (OutOfNumbers message waiting heard is for last) = omega arith
 give_stays s now out (Replied message waiting heard is for room kept plain) = ended_stays (note_live s (noted_moment s now)) waiting.target message.result
 give_stays s now out (Installed message waiting t stamp heard is for learned) = omega arith
+give_stays s now out (Departed message waiting heard is for leaving done) = omega arith
 give_stays s now out (ReplyDropped message waiting heard is for dropped) = omega arith
 give_stays s now out (NotAwaited message heard is none) = note_stays s (noted_moment s now)
 give_stays s now out (Learns message present heard is later) = omega arith
@@ -353,6 +356,7 @@ stale_in s new now reply given (OutOfNumbers message waiting heard is for last) 
 stale_in s new now reply given (Replied message waiting heard is for room kept plain) h told =
     none_awaited new reply (sym (ap (λ (t : ClientState). t.outstanding) h) ∙ ended_none (note_live s (noted_moment s now)) waiting.target message.result)
 stale_in s new now reply given (Installed message waiting t stamp heard is for learned) h told = none_awaited new reply (sym (ap (λ (t : ClientState). t.outstanding) h))
+stale_in s new now reply given (Departed message waiting heard is for leaving done) h told = none_awaited new reply (sym (ap (λ (t : ClientState). t.outstanding) h))
 stale_in s new now reply given (ReplyDropped message waiting heard is for dropped) h told = none_awaited new reply (sym (ap (λ (t : ClientState). t.outstanding) h))
 stale_in s new now reply given (NotAwaited message heard is none) h told =
     let it : message ≡ reply = cc in
@@ -401,6 +405,7 @@ dropped_in s now reply (AliveDropped message heard is strange) stale moment = re
 dropped_in s now reply (OutOfNumbers message waiting heard is for last) stale moment = not_both s now reply message waiting stale is heard.own for _
 dropped_in s now reply (Replied message waiting heard is for room kept plain) stale moment = not_both s now reply message waiting stale is heard.own for _
 dropped_in s now reply (Installed message waiting t stamp heard is for learned) stale moment = not_both s now reply message waiting stale is heard.own for _
+dropped_in s now reply (Departed message waiting heard is for leaving done) stale moment = not_both s now reply message waiting stale is heard.own for _
 dropped_in s now reply (ReplyDropped message waiting heard is for dropped) stale moment = not_both s now reply message waiting stale is heard.own for _
 dropped_in s now reply (NotAwaited message heard is none) stale moment = refl
 dropped_in s now reply (Learns message present heard is later) stale moment = cc
@@ -434,7 +439,7 @@ refused_in s new now ask printed fault (Refused why safe is) h told comes =
     let c : noted_moment s now ≡ new.clock = ap (λ (x : ClientState). x.clock) h in
     (sym h ∙ (sym (relied_note s (noted_moment s now) r) ∙ ap (note s) c), sym told ∙ (sym (relied_lines s (noted_moment s now) r) ∙ ap (note_lines s) c))
 refused_in s new now ask printed fault (ReadServed number mine call entry given safe is readable) h told comes = cc
-refused_in s new now ask printed fault (AbsenceServed opening safe is plain cached) h told comes = cc
+refused_in s new now ask printed fault (AbsenceServed opening safe stays is plain cached) h told comes = cc
 refused_in s new now ask printed fault (Shared opening view mine safe is shared room) h told comes = cc
 refused_in s new now ask printed fault (OutOfHandles opening view mine safe is shared last) h told comes = cc
 refused_in s new now ask printed fault (Released number mine safe is found shared) h told comes = cc

@@ -18,16 +18,17 @@ use Rattle.client_core.specs.declared.parts.targets.Outstanding.{Outstanding}
 use Rattle.client_core.specs.State.{ClientState, note_in, note, note_live}
 use Rattle.client_core.specs.Asks.{ask_step}
 use Rattle.client_core.specs.Beats.{beat_step}
-use Rattle.client_core.specs.Leased.{under}
+use Rattle.client_core.specs.Leased.{under, shut_if}
 use Rattle.client_core.specs.Gives.{offered, give_step}
 use Rattle.client_core.specs.Invalidations.{all_flushed}
 use Rattle.client_core.specs.Cases.{noted_moment, IsAwaited, IsLearned, AskCase, asked_in, BeatCase, beaten_in, GiveCase, given_in}
 use Rattle.client_core.specs.Cases.AskCase.{AskedTooLate, Unsafe, Refused, ReadServed, AbsenceServed, Shared, OutOfHandles, Released, OutOfCalls, Sent, Poisoned}
 use Rattle.client_core.specs.Cases.BeatCase.{BeatTooLate, OutOfBeats, Starts, Beats, Quiet}
-use Rattle.client_core.specs.Cases.GiveCase.{GivenTooLate, OfAnother, Started, StartedUnfit, StartedDropped, LeaseTaken, LeaseStays, AliveUnfit, AliveDropped, OutOfNumbers, Replied, Installed, ReplyDropped, NotAwaited, Learns, Lost, TurnedAway, RefusalDropped}
+use Rattle.client_core.specs.Cases.GiveCase.{GivenTooLate, OfAnother, Started, StartedUnfit, StartedDropped, LeaseTaken, LeaseStays, AliveUnfit, AliveDropped, OutOfNumbers, Replied, Installed, Departed, ReplyDropped, NotAwaited, Learns, Lost, TurnedAway, RefusalDropped}
 use Rattle.client_core.proofs.AskCases.{ask_case, beat_case}
 use Rattle.client_core.proofs.GiveCases.{give_case}
 use Rattle.client_core.proofs.Leases.{ended_same}
+use Rattle.client_core.specs.Targets.{is_leaving}
 
 same_by : (x y : List ℕ) → same_name x y ≡ true → x ≡ y
 same_by x y h = (bytes_decides x y).0 h
@@ -111,6 +112,10 @@ noted_by : (cache : CacheState) (b : Bool) (name : List ℕ) → AreCacheEntries
 noted_by cache true name h = same_cache cache.entries cache.entries name h refl
 noted_by cache false name h = no_cache cache.entries [] name h refl
 
+pub shut_stays : (b : Bool) (cache : CacheState) (name : List ℕ) → AreCacheEntries cache.entries → CacheStays cache.entries (shut_if b cache).entries name
+shut_stays true cache name h = no_cache cache.entries [] name h refl
+shut_stays false cache name h = same_cache cache.entries cache.entries name h refl
+
 pub noted_stays : (cache : CacheState) (moment : ℕ) (name : List ℕ) → AreCacheEntries cache.entries → CacheStays cache.entries (noted_cache cache moment).entries name
 noted_stays cache moment name h = noted_by cache (is_leased cache.lease moment) name h
 
@@ -153,12 +158,12 @@ asked_stays s now ask name (AskedTooLate late) h = same_cache s.cache.entries s.
 asked_stays s now ask name (Unsafe fault early is) h = note_stays s (noted_moment s now) name h
 asked_stays s now ask name (Refused fault safe is) h = same_cache s.cache.entries s.cache.entries name h refl
 asked_stays s now ask name (ReadServed number mine call entry given safe is readable) h = same_cache s.cache.entries s.cache.entries name h refl
-asked_stays s now ask name (AbsenceServed opening safe is plain cached) h = same_cache s.cache.entries s.cache.entries name h refl
+asked_stays s now ask name (AbsenceServed opening safe stays is plain cached) h = same_cache s.cache.entries s.cache.entries name h refl
 asked_stays s now ask name (Shared opening view mine safe is shared room) h = same_cache s.cache.entries s.cache.entries name h refl
 asked_stays s now ask name (OutOfHandles opening view mine safe is shared last) h = same_cache s.cache.entries s.cache.entries name h refl
 asked_stays s now ask name (Released number mine safe is found shared) h = same_cache s.cache.entries s.cache.entries name h refl
 asked_stays s now ask name (OutOfCalls call sequencer target sendable last) h = same_cache s.cache.entries s.cache.entries name h refl
-asked_stays s now ask name (Sent call sequencer target sendable room) h = same_cache s.cache.entries s.cache.entries name h refl
+asked_stays s now ask name (Sent call sequencer target sendable room) h = shut_stays (is_leaving target) s.cache name h
 asked_stays s now ask name (Poisoned number mine safe is usable) h = same_cache s.cache.entries s.cache.entries name h refl
 
 pub ask_stays : (s : ClientState) (now : ℕ) (ask : Ask) (name : List ℕ) → AreCacheEntries s.cache.entries → Stays s (ask_step s now ask).0 name
@@ -204,9 +209,12 @@ given_entry s now out name (StartedUnfit message heard is standing long) h = Ent
 given_entry s now out name (StartedDropped message heard is old) h = EntryStays (note_stays s (noted_moment s now) name h)
 given_entry s now out name (LeaseTaken message heard is fit taken) h =
     let all = all_flushed s.processed (noted_cache s.cache (noted_moment s now)).entries message.invalidations in
-    EntryStays (then_cache s.cache.entries all _ name
+    let there = under (record (noted_cache s.cache (noted_moment s now)) { entries = all }) (offered s message.span) (noted_moment s now) in
+    EntryStays (then_cache s.cache.entries there.entries _ name
+    (then_cache s.cache.entries all _ name
     (then_cache s.cache.entries (noted_cache s.cache (noted_moment s now)).entries all name (noted_stays s.cache (noted_moment s now) name h) (flushed_stays s.processed (noted_cache s.cache (noted_moment s now)).entries message.invalidations name))
     (under_stays (record (noted_cache s.cache (noted_moment s now)) { entries = all }) (offered s message.span) (noted_moment s now) name))
+    (shut_stays s.leaving there name))
 given_entry s now out name (LeaseStays message heard is fit worse) h =
     EntryStays (then_cache s.cache.entries (noted_cache s.cache (noted_moment s now)).entries _ name (noted_stays s.cache (noted_moment s now) name h) (flushed_stays s.processed (noted_cache s.cache (noted_moment s now)).entries message.invalidations name))
 given_entry s now out name (AliveUnfit message heard is alive unfit) h = EntryStays (note_stays s (noted_moment s now) name h)
@@ -217,6 +225,7 @@ given_entry s now out name (Replied message call heard is for room kept plain) h
     EntryStays (then_cache s.cache.entries (noted_cache s.cache (noted_moment s now)).entries _ name (noted_stays s.cache (noted_moment s now) name h) (λ k. same_cache (noted_cache s.cache (noted_moment s now)).entries _ name k (ap (λ x. x.entries) e.cache)))
 given_entry s now out name (Installed message call taught stamp heard is for learned) h =
     installed_by s now out name taught.0 taught.1 message call stamp _ (same_name name taught.0) h is for learned refl refl
+given_entry s now out name (Departed message call heard is for leaving done) h = EntryStays (no_cache s.cache.entries [] name h refl)
 given_entry s now out name (ReplyDropped message call heard is for dropped) h = EntryStays (noted_stays s.cache (noted_moment s now) name h)
 given_entry s now out name (NotAwaited message heard is none) h = EntryStays (note_stays s (noted_moment s now) name h)
 given_entry s now out name (Learns message present heard is later) h = EntryStays (no_cache s.cache.entries [] name h refl)

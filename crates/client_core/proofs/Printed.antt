@@ -28,6 +28,7 @@ unknown_by P client call (targets.Closing handle) none one = one _
 unknown_by P client call (targets.Handle handle) none one = one _
 unknown_by P client call (targets.Sequencing handle) none one = one _
 unknown_by P client call targets.Checking none one = one _
+unknown_by P client call targets.Leaving none one = one _
 unknown_by P client call targets.Dropped none one = none
 
 -- there is none, or one that refuses a call as Unknown

@@ -1,5 +1,5 @@
 -- A client is asked for a call.
-use Rattle.std.specs.Prelude.{ℕ, ◌+◌, nat_lt, List, [], ◌∷◌, Option, Some, None, Result, Ok, Err, if◌then◌else◌, is_some}
+use Rattle.std.specs.Prelude.{ℕ, ◌+◌, nat_lt, Bool, true, false, not, ◌&&◌, ◌||◌, List, [], ◌∷◌, Option, Some, None, Result, Ok, Err, if◌then◌else◌, is_some, is_none}
 use Rattle.std.specs.Map.{remove_entry}
 use Rattle.std.specs.BTreeMap.{is_at, insert_entry}
 use Rattle.std.specs.Ordering.{nat_cmp}
@@ -28,7 +28,10 @@ use Rattle.client_core.specs.Sessions.{session_fault}
 use Rattle.client_core.specs.declared.plans.Plan.{Plan}
 use Rattle.client_core.specs.declared.plans.Plan.TheVariants as plans
 use Rattle.client_core.specs.Moments.{moment}
-use Rattle.client_core.specs.State.{ClientState, at_moment, standing_then, note, note_lines}
+use Rattle.client_core.specs.Leased.{shut_if}
+use Rattle.client_core.specs.Gives.{is_live}
+use Rattle.client_core.specs.Targets.{is_leaving}
+use Rattle.client_core.specs.State.{ClientState, at_moment, standing_then, session_then, note, note_lines}
 use Rattle.client_core.specs.Handles.{handle_of, usable_handle}
 use Rattle.client_core.specs.Poisons.{with_poisoned, poison_lines}
 use Rattle.client_core.specs.Serves.{read_served, open_served}
@@ -36,6 +39,17 @@ use Rattle.client_core.specs.Serves.{read_served, open_served}
 -- at a moment
 abbrev pub fault_then : ClientState → ℕ → Option Fault
 fault_then s moment = session_fault s.session (standing_then s moment)
+
+abbrev pub asks_to_leave : Ask → Bool
+asks_to_leave asks.Leave = true
+asks_to_leave _ = false
+
+-- who has asked for the end of its session has none any more: while it lives it may ask for that again, and for nothing else
+abbrev pub has_given_up : ClientState → ℕ → Ask → Bool
+has_given_up s moment ask = s.leaving && not (asks_to_leave ask && is_live (session_then s moment))
+
+abbrev pub fault_for : ClientState → ℕ → Ask → Option Fault
+fault_for s moment ask = if has_given_up s moment ask then Some faults.NoSession else fault_then s moment
 
 -- ---- what is done, or the first reason why it may not be
 
@@ -79,6 +93,11 @@ plan_of s moment (asks.Poison number) = poison_plan number (usable_handle (handl
 plan_of s moment (asks.Node number call) = node_plan s moment number call (usable_handle (handle_of s.handles number))
 plan_of s moment (asks.SetSequencer number sequencer) = sequencer_plan s number sequencer (usable_handle (handle_of s.handles number))
 plan_of s moment (asks.CheckSequencer bytes) = send_plan s (calls.CheckSequencer bytes) None targets.Checking
+plan_of s moment asks.Leave = send_plan s calls.Leave None targets.Leaving
+
+-- the call is made that ends the session
+abbrev pub leaves : ClientState → ℕ → Ask → Bool
+leaves s moment ask = (asks_to_leave ask && is_none (fault_for s moment ask)) && is_none s.outstanding
 
 -- ---- one step
 
@@ -89,10 +108,15 @@ asked_for lines outcome = record { lines = lines; outcome = outcome }
 abbrev pub message_of : ClientState → Call → Option (List ℕ) → Request
 message_of s call sequencer = requests.Call (record { client = s.number; epoch = s.epoch; number = s.calls + 1; call = call; sequencer = sequencer })
 
--- the call is outstanding
+-- the call is outstanding; before the one goes out that ends the session the cache is emptied and turned off
 abbrev pub with_call : ClientState → ℕ → Call → Option (List ℕ) → Target → ClientState
-with_call s moment call sequencer target =
-    record s { clock = moment; calls = s.calls + 1; outstanding = Some (record { request = message_of s call sequencer; target = target }) }
+with_call s moment call sequencer target = record s {
+  clock = moment;
+  calls = s.calls + 1;
+  outstanding = Some (record { request = message_of s call sequencer; target = target });
+  cache = shut_if (is_leaving target) s.cache;
+  leaving = s.leaving || is_leaving target;
+}
 
 -- it is sent under the next number; behind the last number nothing changes
 abbrev pub send_step : ClientState → ℕ → Call → Option (List ℕ) → Target → ClientState × Result Asked Fault
@@ -131,7 +155,7 @@ ask_in s moment ask (Some fault) = (note s moment, Ok (asked_for (note_lines s m
 ask_in s moment ask None = ask_by s moment (plan_of s moment ask)
 
 abbrev pub ask_at : ClientState → Ask → Result ℕ Fault → ClientState × Result Asked Fault
-ask_at s ask (Ok moment) = ask_in s moment ask (fault_then s moment)
+ask_at s ask (Ok moment) = ask_in s moment ask (fault_for s moment ask)
 ask_at s ask (Err fault) = (s, Err fault)
 
 unfoldable pub ask_step : ClientState → ℕ → Ask → ClientState × Result Asked Fault

@@ -20,7 +20,8 @@ use Rattle.tags_cell.specs.declared.messages.beats.Alive.{Alive as AliveMessage}
 use Rattle.tags_cell.specs.declared.messages.outs.Reply.{Reply}
 use Rattle.tags_cell.specs.declared.messages.outs.Refused.{Refused as RefusedMessage}
 use Rattle.tags_cell.specs.declared.messages.outs.NewHandle.{NewHandle}
-use Rattle.tags_cell.specs.Messages.{request_number, out_client}
+use Rattle.tags_cell.specs.declared.messages.outs.CallResult.TheVariants as results
+use Rattle.tags_cell.specs.Messages.{request_number, out_client, is_leave}
 use Rattle.client_core.specs.declared.parts.asks.Ask.{Ask}
 use Rattle.client_core.specs.declared.parts.asks.Ask.TheVariants as asks
 use Rattle.client_core.specs.declared.parts.asks.NodeCall.{NodeCall}
@@ -37,12 +38,12 @@ use Rattle.client_core.specs.declared.parts.targets.Outstanding.{Outstanding}
 use Rattle.client_core.specs.State.{ClientState, at_moment, session_then, note, note_live, note_lines}
 use Rattle.client_core.specs.Handles.{handle_of, has_number}
 use Rattle.client_core.specs.Opens.{cached_answer, is_plain, only_reads, kept_handle, Lesson}
-use Rattle.client_core.specs.Asks.{fault_then, plan_of, asked_for, message_of, with_call, with_shared, without_handle}
+use Rattle.client_core.specs.Asks.{asks_to_leave, fault_for, plan_of, asked_for, message_of, with_call, with_shared, without_handle}
 use Rattle.client_core.specs.Poisons.{with_poisoned, poison_lines}
 use Rattle.client_core.specs.Beats.{start_message, beat_message, with_beat, beaten}
 use Rattle.client_core.specs.Lessons.{lesson}
-use Rattle.client_core.specs.Targets.{unknown_lines}
-use Rattle.client_core.specs.Gives.{is_numbered, later_epoch, learned, told, passed_over, rejected, offered, begun, with_processed, bettered, safe_lines, awaited, answer_of, ended_plainly, with_lesson, lost}
+use Rattle.client_core.specs.Targets.{is_leaving, unknown_lines}
+use Rattle.client_core.specs.Gives.{is_numbered, later_epoch, learned, told, passed_over, rejected, offered, begun, with_processed, bettered, safe_lines, awaited, answer_of, ended_plainly, with_lesson, lost, departed}
 use Rattle.client_core.specs.Invalidations.{is_in_order}
 use Rattle.client_core.specs.Events.{are_events_in_order, event_lines}
 use Rattle.client_core.specs.Sessions.{session_after}
@@ -69,6 +70,9 @@ pub record IsSendable (s : ClientState) (now : ℕ) (ask : Ask) (call : Call) (s
   pub safe : IsSafe s now
   pub is_plan : plan_of s (noted_moment s now) ask ≡ Ok (plans.Send call sequencer target)
   pub free : s.outstanding ≡ None
+  -- the call that ends the session is asked for as that
+  pub leaves : is_leaving target ≡ asks_to_leave ask
+  pub ends : is_leave call ≡ is_leaving target
 
 -- an open handle that isn't poisoned
 pub record IsUsable (s : ClientState) (number : ℕ) (handle : ClientHandle) : Type 0 where
@@ -77,6 +81,7 @@ pub record IsUsable (s : ClientState) (number : ℕ) (handle : ClientHandle) : T
 
 -- a handle to read without a sequencer, and what is cached under its name, by which this is answered to the call
 pub record IsReadable (s : ClientState) (now : ℕ) (number : ℕ) (handle : ClientHandle) (call : NodeCall) (entry : Option View) (given : Answer) : Type 0 where
+  pub stays : s.leaving ≡ false
   pub of_handle : IsUsable s number handle
   pub reads : handle.mode.read ≡ true
   pub unsequenced : handle.sequencer ≡ None
@@ -85,6 +90,7 @@ pub record IsReadable (s : ClientState) (now : ℕ) (number : ℕ) (handle : Cli
 
 -- an Open to read alone without a lock-delay, the view that is cached under its name, and the handle that is kept on that instance
 pub record IsShared (s : ClientState) (now : ℕ) (opening : Open) (view : View) (handle : NewHandle) : Type 0 where
+  pub stays : s.leaving ≡ false
   pub plain : is_plain opening ≡ true
   pub reads : only_reads opening ≡ true
   pub cached : answer s.cache (noted_moment s now) opening.name ≡ Some (Some view)
@@ -93,13 +99,13 @@ pub record IsShared (s : ClientState) (now : ℕ) (opening : Open) (view : View)
 pub data AskCase (s : ClientState) (now : ℕ) (ask : Ask) : Type 0 where
   -- THE MOMENT IS PAST THE END
   AskedTooLate : moment_limit ≤ now → AskCase s now ask
-  -- NO SESSION, OR ONE THAT THE CLIENT MAY NOT RELY ON
-  Unsafe : (fault : Fault) → now < moment_limit → fault_then s (noted_moment s now) ≡ Some fault → AskCase s now ask
+  -- NO SESSION, ONE THAT THE CLIENT MAY NOT RELY ON, OR ONE THAT IT ENDS
+  Unsafe : (fault : Fault) → now < moment_limit → fault_for s (noted_moment s now) ask ≡ Some fault → AskCase s now ask
   -- THE CLIENT REFUSES IT BY ITSELF
   Refused : (fault : Fault) → IsSafe s now → plan_of s (noted_moment s now) ask ≡ Err fault → AskCase s now ask
   -- THE CACHE ANSWERS
   ReadServed : (number : ℕ) (handle : ClientHandle) (call : NodeCall) (entry : Option View) (given : Answer) → IsSafe s now → ask ≡ asks.Node number call → IsReadable s now number handle call entry given → AskCase s now ask
-  AbsenceServed : (opening : Open) → IsSafe s now → ask ≡ asks.Open opening → is_plain opening ≡ true → answer s.cache (noted_moment s now) opening.name ≡ Some None → AskCase s now ask
+  AbsenceServed : (opening : Open) → IsSafe s now → s.leaving ≡ false → ask ≡ asks.Open opening → is_plain opening ≡ true → answer s.cache (noted_moment s now) opening.name ≡ Some None → AskCase s now ask
   Shared : (opening : Open) (view : View) (handle : NewHandle) → IsSafe s now → ask ≡ asks.Open opening → IsShared s now opening view handle → s.opened + 1 < number_end → AskCase s now ask
   OutOfHandles : (opening : Open) (view : View) (handle : NewHandle) → IsSafe s now → ask ≡ asks.Open opening → IsShared s now opening view handle → number_end ≤ s.opened + 1 → AskCase s now ask
   -- A SHARED HANDLE IS CLOSED
@@ -117,7 +123,7 @@ asked_in s now ask (Unsafe fault early is) = (noted s now, Ok (asked_for (note_l
 asked_in s now ask (Refused fault safe is) = (at_moment s (noted_moment s now), Ok (asked_for [] (outcomes.Refused fault)))
 asked_in s now ask (ReadServed number handle call entry given safe is readable) =
     (at_moment s (noted_moment s now), Ok (asked_for (lines.Served s.number handle.name entry ∷ []) (outcomes.Served given)))
-asked_in s now ask (AbsenceServed opening safe is plain cached) =
+asked_in s now ask (AbsenceServed opening safe stays is plain cached) =
     (at_moment s (noted_moment s now), Ok (asked_for (lines.Served s.number opening.name None ∷ []) (outcomes.Served (answers.Refused faults.NotFound))))
 asked_in s now ask (Shared opening view handle safe is shared room) =
     (with_shared s (noted_moment s now) (kept_handle handle opening true), Ok (asked_for (lines.Served s.number opening.name (Some view) ∷ lines.Done s.number 0 (answers.Opened (s.opened + 1)) ∷ []) (outcomes.Served (answers.Opened (s.opened + 1)))))
@@ -230,6 +236,8 @@ pub data GiveCase (s : ClientState) (now : ℕ) (out : Out) : Type 0 where
   Replied : (message : Reply) (call : Outstanding) → IsHeard s now out → out ≡ outs.Reply message → IsAwaited s now message call → has_number s.opened message.result ≡ true → call.target ≢ targets.Dropped → lesson s (noted_moment s now) message call.target ≡ None → GiveCase s now out
   -- an entry is installed
   Installed : (message : Reply) (call : Outstanding) (taught : Lesson) (stamp : ℕ) → IsHeard s now out → out ≡ outs.Reply message → IsAwaited s now message call → IsLearned s now message call taught stamp → GiveCase s now out
+  -- the client has ended its session
+  Departed : (message : Reply) (call : Outstanding) → IsHeard s now out → out ≡ outs.Reply message → IsAwaited s now message call → call.target ≡ targets.Leaving → message.result ≡ results.Done → GiveCase s now out
   ReplyDropped : (message : Reply) (call : Outstanding) → IsHeard s now out → out ≡ outs.Reply message → IsAwaited s now message call → call.target ≡ targets.Dropped → GiveCase s now out
   NotAwaited : (message : Reply) → IsHeard s now out → out ≡ outs.Reply message → awaited s (noted_moment s now) message ≡ None → GiveCase s now out
   -- A REFUSAL
@@ -256,6 +264,8 @@ given_in s now out (Replied message call heard is for room kept plain) =
     (ended_plainly (note_live s (noted_moment s now)) call.target message.result, Ok (told s (noted_moment s now) (lines.Done s.number message.number (answer_of s message.result) ∷ []) None))
 given_in s now out (Installed message call taught stamp heard is for learned) =
     (with_lesson s (noted_moment s now) taught, Ok (told s (noted_moment s now) (lines.Done s.number message.number (answer_of s message.result) ∷ []) None))
+given_in s now out (Departed message call heard is for leaving done) =
+    (departed (note_live s (noted_moment s now)), Ok (told s (noted_moment s now) (lines.Done s.number message.number answers.Okay ∷ []) None))
 given_in s now out (ReplyDropped message call heard is for dropped) = (record (note_live s (noted_moment s now)) { outstanding = None }, Ok (told s (noted_moment s now) [] None))
 given_in s now out (NotAwaited message heard is none) = passed_over s (noted_moment s now)
 given_in s now out (Learns message present heard is later) =

@@ -41,7 +41,7 @@ use Rattle.client_core.specs.Moments.{moment}
 use Rattle.client_core.specs.State.{ClientState, session_then, note, note_lines}
 use Rattle.client_core.specs.Handles.{handle_of, has_number, put_under, handles_behind, kept_behind}
 use Rattle.client_core.specs.Opens.{Lesson}
-use Rattle.client_core.specs.Leased.{under}
+use Rattle.client_core.specs.Leased.{under, shut, shut_if}
 use Rattle.client_core.specs.Lessons.{lesson}
 
 abbrev pub is_unstarted : Session → Bool
@@ -113,8 +113,9 @@ takes_offer s message = message.number == s.beats && takes_lease s.cache.lease (
 abbrev pub standing_under : Standing → LeaseTerms → ℕ → Standing
 standing_under standing lease moment = if is_unexpired lease.sent lease.span moment then reprieved standing else standing
 
+-- the cache of a client that ends its session stays empty and turned off
 abbrev pub bettered : ClientState → ℕ → LeaseTerms → ClientState
-bettered s moment lease = record s { cache = under s.cache lease moment; standing = standing_under s.standing lease moment }
+bettered s moment lease = record s { cache = shut_if s.leaving (under s.cache lease moment); standing = standing_under s.standing lease moment }
 
 abbrev pub with_lease : ClientState → ℕ → Alive → ClientState
 with_lease s moment message = if takes_offer s message then bettered s moment (offered s message.span) else s
@@ -142,6 +143,16 @@ alive_step s moment message =
     if is_live (session_then s moment) && message.epoch == s.epoch
     then (if is_span message.span && is_numbered s message then kept_alive s moment message else rejected s moment)
     else passed_over s moment
+
+-- ---- a session that is over
+
+-- a client without a session holds nothing
+abbrev pub lost : ClientState → Session → ClientState
+lost s session = record s { session = session; cache = shut s.cache; standing = standings.Lost }
+
+-- the client has ended it, and is told so
+abbrev pub departed : ClientState → ClientState
+departed s = record (lost s sessions.Lost) { outstanding = None }
 
 -- ---- Reply
 
@@ -207,20 +218,22 @@ finish_step s moment message target =
     then (ended s moment target message.result (lesson s moment message target), Ok (told s moment (lines.Done s.number message.number (answer_of s message.result) ∷ []) None))
     else (s, Err faults.Exhausted)
 
+-- the reply to the call that ends the session: the session is over, or the call was refused
+abbrev pub leave_step : ClientState → ℕ → Reply → CallResult → ClientState × Result Given Fault
+leave_step s moment message results.Done = (departed (note s moment), Ok (told s moment (lines.Done s.number message.number answers.Okay ∷ []) None))
+leave_step s moment message result = finish_step s moment message targets.Leaving
+
 -- a reply that is dropped ends its call too, and prints nothing
 abbrev pub reply_for : ClientState → ℕ → Reply → Option Target → ClientState × Result Given Fault
 reply_for s moment message None = passed_over s moment
 reply_for s moment message (Some targets.Dropped) = (record (note s moment) { outstanding = None }, Ok (told s moment [] None))
+reply_for s moment message (Some targets.Leaving) = leave_step s moment message message.result
 reply_for s moment message (Some target) = finish_step s moment message target
 
 abbrev pub reply_step : ClientState → ℕ → Reply → ClientState × Result Given Fault
 reply_step s moment message = reply_for s moment message (awaited s moment message)
 
 -- ---- Refused
-
--- a client without a session holds nothing
-abbrev pub lost : ClientState → Session → ClientState
-lost s session = record s { session = session; cache = record s.cache { entries = []; enabled = false }; standing = standings.Lost }
 
 abbrev pub lose_step : ClientState → ℕ → Option Session → ClientState × Result Given Fault
 lose_step s moment None = passed_over s moment

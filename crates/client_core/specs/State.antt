@@ -1,5 +1,5 @@
 -- What a client is, and when it is.
-use Rattle.std.specs.Prelude.{◌≡◌, ◌≢◌, ℕ, ◌<◌, List, [], Option, Some, None, Result, Ok, Err}
+use Rattle.std.specs.Prelude.{◌≡◌, ◌≢◌, ℕ, ◌<◌, Bool, false, List, [], Option, Some, None, Result, Ok, Err, true}
 use Rattle.std.specs.Option.{option_to_list}
 use Rattle.lease_core.specs.Lease.{LeaseTerms, IsMoment}
 use Rattle.cache_core.specs.Caches.{CacheState, new_cache, is_leased, noted}
@@ -47,6 +47,8 @@ pub record ClientState : Type 0 where
   pub kept : List (Kept NewHandle)
   -- the newest of its handle numbers, 0 before the first
   pub opened : ℕ
+  -- it has asked for the end of its session, and asks for nothing else any more
+  pub leaving : Bool
 
 -- the lease on the session; of span 0, which is never unexpired, before the first
 abbrev pub lease_of : Option LeaseTerms → LeaseTerms
@@ -56,7 +58,7 @@ lease_of (Some lease) = lease
 -- a client that has done nothing yet
 abbrev pub new_client : ℕ → List ℕ → ClientState
 new_client number principal =
-    record { number = number; principal = principal; clock = 0; beats = 0; sent = 0; session = sessions.Unstarted; epoch = 0; processed = 0; heard = 0; cache = new_cache; standing = standings.Safe; calls = 0; outstanding = None; handles = []; kept = []; opened = 0 }
+    record { number = number; principal = principal; clock = 0; beats = 0; sent = 0; session = sessions.Unstarted; epoch = 0; processed = 0; heard = 0; cache = new_cache; standing = standings.Safe; calls = 0; outstanding = None; handles = []; kept = []; opened = 0; leaving = false }
 
 -- moments and numbers are within their limits
 pub record IsWithin (clock sent beats calls opened : ℕ) : Type 0 where
@@ -65,6 +67,11 @@ pub record IsWithin (clock sent beats calls opened : ℕ) : Type 0 where
   pub last_beat : beats < number_end
   pub last_call : calls < number_end
   pub last_handle : opened < number_end
+
+-- one that ends its session serves nothing any more, and has begun it before
+pub record IsOff (s : ClientState) : Type 0 where
+  pub shuts : s.leaving ≡ true → s.cache.enabled ≡ false
+  pub begun : s.leaving ≡ true → s.session ≢ sessions.Unstarted
 
 -- the client at a moment
 abbrev pub at_moment : ClientState → ℕ → ClientState

@@ -1,5 +1,5 @@
 -- What the outstanding call is.
-use Rattle.std.specs.Prelude.{ℕ, ◌==◌, Bool, false, List, [], ◌∷◌, Option, Some, None, if◌then◌else◌}
+use Rattle.std.specs.Prelude.{ℕ, ◌==◌, Bool, true, false, List, [], ◌∷◌, Option, Some, None, if◌then◌else◌}
 use Rattle.node_core.specs.declared.refusals.Fault.TheVariants as faults
 use Rattle.node_core.specs.declared.answers.Answer.TheVariants as answers
 use Rattle.node_core.specs.declared.lines.Line.{Line}
@@ -21,7 +21,13 @@ is_on number (targets.Closing other) = false
 is_on number (targets.Handle other) = other == number
 is_on number (targets.Sequencing other) = other == number
 is_on number targets.Checking = false
+is_on number targets.Leaving = false
 is_on number targets.Dropped = false
+
+-- it ends the client's session
+abbrev pub is_leaving : Target → Bool
+is_leaving targets.Leaving = true
+is_leaving _ = false
 
 -- what is opened by a call, where it is an Open
 abbrev pub opening_in : Call → Option Open

@@ -1,8 +1,10 @@
 //! A client is asked for a call.
-ghost use Rattle.std.specs.Prelude.{◌≡◌, ◌+◌, ◌^◌, ◌<◌, Some, None, Ok, Err, OnOk, OnErr};
+ghost use Rattle.std.specs.Prelude.{◌≡◌, ◌+◌, ◌^◌, ◌<◌, true, ◌||◌, Some, None, Ok, Err, OnOk, OnErr};
 ghost use Rattle.std.specs.Option.{option_copied, option_map};
 ghost use Rattle.lease_core.specs.Lease.{IsMoment};
 ghost use Rattle.client_core.specs.State.{Does};
+ghost use Rattle.client_core.specs.Leased.{shut, shut_if};
+ghost use Rattle.client_core.specs.Targets.{is_leaving};
 ghost use Rattle.client_core.specs.Asks.{ask_step, ask_by, plan_of, carried_out, send_step, share_step};
 ghost use Rattle.client_core.specs.declared.plans.Plan.TheVariants as plans;
 
@@ -19,10 +21,13 @@ use tags_cell::{Call, CallMessage, MessageNumber, Request};
 
 impl Client {
     /// Asks for a call. First the time is noted; where that prints lines they come first, also where the call is refused.
-    /// Refused, in this order: without a session as NoSession, in jeopardy as InJeopardy, and where the session was lost
-    /// as SessionExpired; for a handle number that isn't open as BadHandle; for a poisoned handle, but for a Close, as
-    /// Poisoned; and, if the client doesn't answer it by itself, while a call is outstanding as CallOutstanding. These
-    /// change nothing but what the noting of the time does. A CheckSequencer is on no handle.
+    /// Refused, in this order: where the end of the session was asked for before, as NoSession, but for that call while the
+    /// session lives; without a session as NoSession, in jeopardy as InJeopardy, and where the session was lost as
+    /// SessionExpired; for a handle number that isn't open as BadHandle; for a poisoned handle, but for a Close, as Poisoned;
+    /// and, if the client doesn't answer it by itself, while a call is outstanding as CallOutstanding. These change nothing but
+    /// what the noting of the time does. A CheckSequencer is on no handle, nor is a Leave.
+    ///
+    /// Before a Leave goes out the cache is emptied and turned off, and it stays so.
     ///
     /// The client answers by itself, also beside an outstanding call: a read on a handle to read without a sequencer under
     /// whose name its cache holds something, as StaleInstance where that is no view of the handle's instance; a ReadDir
@@ -44,7 +49,7 @@ impl Client {
         ensures { Does self.old self.new result (ask_step self.old now asked.now) }
     {
         let moment = moment_by(self.clock, now)?;
-        let Some(fault) = self.fault_then(moment) else {
+        let Some(fault) = self.fault_for(moment, asked) else {
             return self.ask_safe(moment, asked);
         };
         let lines = self.note_lines(moment)?;
@@ -130,13 +135,31 @@ impl Client {
     fn keep(&mut self, moment: u64, request: Request, target: Target)
         requires moment { IsMoment moment }
         requires number { self.old.calls + 1 < 2 ^ 63 }
-        ensures { self.new ≡ record self.old { clock = moment; calls = self.old.calls + 1; outstanding = Some (record { request = request; target = target }) } }
+        ensures { self.new ≡ record self.old {
+          clock = moment;
+          calls = self.old.calls + 1;
+          outstanding = Some (record { request = request; target = target });
+          cache = shut_if (is_leaving target) self.old.cache;
+          leaving = self.old.leaving || is_leaving target;
+        } }
     {
+        if target.is_leaving() {
+            self.leave();
+        }
         let kept = Some(Outstanding { request, target });
         let former = mem::replace(&mut self.outstanding, kept);
         self.clock = moment;
         self.calls += 1;
         drop(former);
+    }
+
+    // From here on the client holds and serves nothing, and asks for nothing but the end of its session.
+    fn leave(&mut self)
+        ensures { self.new ≡ record self.old { cache = shut self.old.cache; leaving = true } }
+    {
+        self.cache.clear();
+        self.cache.disable();
+        self.leaving = true;
     }
 
     // Answers out of the cache.

@@ -57,6 +57,7 @@ pub struct Client {
     pub(crate) handles: Table<u64, ClientHandle>,
     pub(crate) kept: KeptHandles<NewHandle>,
     pub(crate) opened: u64,
+    pub(crate) leaving: bool,
 }
 
 impl Model for Client {
@@ -81,6 +82,7 @@ impl Model for Client {
       handles = c.handles;
       kept = c.kept;
       opened = c.opened;
+      leaving = c.leaving;
     } };
 
     ghost invariant = { λ c. IsWithin c.clock c.sent c.beats c.calls c.opened };
@@ -110,6 +112,7 @@ impl Client {
             handles: Table::new(alloc),
             kept: KeptHandles::new(alloc),
             opened: 0,
+            leaving: false,
         }
     }
 

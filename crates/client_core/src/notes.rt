@@ -2,10 +2,10 @@
 ghost use Rattle.std.specs.Prelude.{◌≡◌, IfOk};
 ghost use Rattle.lease_core.specs.Lease.{IsMoment};
 ghost use Rattle.client_core.specs.State.{session_then, note, note_lines};
-ghost use Rattle.client_core.specs.Asks.{fault_then};
+ghost use Rattle.client_core.specs.Asks.{fault_then, fault_for, has_given_up};
 
 use crate::client::Client;
-use crate::parts::{Session, standing_by, turn_lines};
+use crate::parts::{Ask, Session, standing_by, turn_lines};
 use cache_core::Standing;
 use node_core::{Fault, Line};
 use plain::Items;
@@ -31,6 +31,24 @@ impl Client {
     {
         self.session
             .fault(standing_by(self.standing, &self.cache, moment))
+    }
+
+    // Why this may not be asked for then.
+    pub(crate) fn fault_for(&self, moment: u64, asked: &Ask) -> Option<Fault>
+        ensures { result ≡ fault_for self.now moment asked.now }
+    {
+        if self.has_given_up(moment, asked) {
+            return Some(Fault::NoSession);
+        }
+        self.fault_then(moment)
+    }
+
+    // Who has asked for the end of its session has none any more: while it lives it may ask for that again, and for nothing
+    // else.
+    fn has_given_up(&self, moment: u64, asked: &Ask) -> bool
+        ensures { result ≡ has_given_up self.now moment asked.now }
+    {
+        self.leaving && !(asked.asks_to_leave() && self.session_then(moment) == Session::Live)
     }
 
     // The lines that the noting of the time prints.

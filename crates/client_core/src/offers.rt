@@ -5,6 +5,7 @@
 ghost use Rattle.std.specs.Prelude.{◌≡◌, ◌&&◌, Some, None, if◌then◌else◌};
 ghost use Rattle.lease_core.specs.Lease.{IsMoment, is_unexpired};
 ghost use Rattle.client_core.specs.State.{Does};
+ghost use Rattle.client_core.specs.Leased.{shut_if};
 ghost use Rattle.client_core.specs.Gives.{is_span, offered, started_step, is_numbered, alive_step, kept_alive, with_processed, with_lease, takes_offer, is_jeopardy};
 
 use crate::client::Client;
@@ -101,12 +102,23 @@ impl Client {
             return false;
         }
         put_under(&mut self.cache, lease, moment);
+        self.stay_shut();
         if !lease.unexpired(moment) {
             return false;
         }
         let former = self.standing;
         self.standing = former.reprieved();
         matches!(former, Standing::Jeopardy(_))
+    }
+
+    // The cache of a client that ends its session stays empty and turned off.
+    fn stay_shut(&mut self)
+        ensures { self.new ≡ record self.old { cache = shut_if self.old.leaving self.old.cache } }
+    {
+        if self.leaving {
+            self.cache.clear();
+            self.cache.disable();
+        }
     }
 
     // The lease that the newest Start or Beat is answered with; None where the span is none.

@@ -1,41 +1,70 @@
 //! What a step does to a client's cache, as values, for copies of the cache that readers share. They are asked for before the
 //! step, so that want of memory refuses them before anything has changed.
-ghost use Rattle.std.specs.Prelude.{◌≡◌, ◌∷◌, [], Ok, IfOk};
+ghost use Rattle.std.specs.Prelude.{◌≡◌, ◌⊎◌, ◌∷◌, [], true, false, Ok, IfOk};
 ghost use Rattle.lease_core.specs.Lease.{IsMoment};
 ghost use Rattle.cache_core.specs.Changes.{applied_all};
 ghost use Rattle.tags_cell.specs.Messages.{out_client};
+ghost use Rattle.client_core.specs.Leased.{shut};
 ghost use Rattle.client_core.specs.Sessions.{session_after};
-ghost use Rattle.client_core.specs.declared.parts.asks.Ask.{Ask};
 ghost use Rattle.client_core.specs.declared.parts.asks.Asked.{Asked};
 ghost use Rattle.client_core.specs.declared.parts.steps.Beaten.{Beaten};
 ghost use Rattle.client_core.specs.State.{note, session_then};
-ghost use Rattle.client_core.specs.Asks.{ask_step};
+ghost use Rattle.client_core.specs.Asks.{ask_step, leaves};
 ghost use Rattle.client_core.specs.Beats.{beat_step};
-ghost use Rattle.client_core.specs.Gives.{offered, takes_offer, started_step, kept_alive, alive_step, finish_step, reply_for, reply_step, lose_step, refused_step, taken, give_step};
+ghost use Rattle.client_core.specs.Gives.{offered, takes_offer, started_step, kept_alive, alive_step, finish_step, leave_step, reply_for, reply_step, lose_step, refused_step, taken, give_step};
 ghost use Rattle.client_core.specs.Ops.{LeadTo};
 
 use crate::client::Client;
 use crate::parts::{
-    Session, Target, is_numbered, moment_by, noted_ops, with_flushes, with_lease, with_losses,
+    Ask, Session, Target, is_numbered, moment_by, noted_ops, with_flushes, with_lease, with_losses,
     with_op,
 };
 use cache_core::CacheOp;
 use lease_core::Lease;
 use std::alloc::AllocError;
 use std::collections::VecDeque;
-use tags_cell::{Alive, Out, Refused, Reply, Started};
+use tags_cell::{Alive, CallResult, Out, Refused, Reply, Started};
 
 impl Client {
-    /// The changes of the cache that an `ask` and a `beat` of this moment make: those of the noting of the time. Nothing is
-    /// changed.
+    /// The changes of the cache that a `beat` of this moment makes: those of the noting of the time. Nothing is changed.
     pub fn note_ops(&self, now: u64) -> Result<VecDeque<CacheOp>, AllocError>
-        ensures ask { IfOk result (λ ops. (ask : Ask) → LeadTo self.now.cache ops.items (ask_step self.now now ask)) }
-        ensures beat { IfOk result (λ ops. LeadTo self.now.cache ops.items (beat_step self.now now)) }
+        ensures { IfOk result (λ ops. LeadTo self.now.cache ops.items (beat_step self.now now)) }
     {
         match moment_by(self.clock, now) {
             Ok(moment) => self.ops_noted(moment),
             Err(_) => Ok(VecDeque::new(self.alloc)),
         }
+    }
+
+    /// The changes of the cache that the `ask` of this at this moment makes: those of the noting of the time, and where the
+    /// client ends its session those that empty it. Nothing is changed.
+    pub fn ask_ops(&self, now: u64, asked: &Ask) -> Result<VecDeque<CacheOp>, AllocError>
+        ensures { IfOk result (λ ops. LeadTo self.now.cache ops.items (ask_step self.now now asked.now)) }
+    {
+        match moment_by(self.clock, now) {
+            Ok(moment) => self.ops_asked(moment, asked),
+            Err(_) => Ok(VecDeque::new(self.alloc)),
+        }
+    }
+
+    fn ops_asked(&self, moment: u64, asked: &Ask) -> Result<VecDeque<CacheOp>, AllocError>
+        ensures { IfOk result (λ ops. ((leaves self.now moment asked.now ≡ true) × (applied_all self.now.cache ops.items ≡ shut self.now.cache))
+            ⊎ ((leaves self.now moment asked.now ≡ false) × (applied_all self.now.cache ops.items ≡ (note self.now moment).cache))) }
+    {
+        if self.leaves(moment, asked) {
+            with_losses(VecDeque::new(self.alloc))
+        } else {
+            self.ops_noted(moment)
+        }
+    }
+
+    // Whether the call goes out that ends the session.
+    fn leaves(&self, moment: u64, asked: &Ask) -> bool
+        ensures { result ≡ leaves self.now moment asked.now }
+    {
+        asked.asks_to_leave()
+            && self.fault_for(moment, asked).is_none()
+            && self.outstanding.is_none()
     }
 
     /// The changes of the cache that the `give` of this message at this moment makes. Nothing is changed. Clones the names
@@ -122,7 +151,11 @@ impl Client {
         if !self.takes_offer(alive, lease) {
             return Ok(flushed);
         }
-        with_lease(flushed, lease, moment)
+        let leased = with_lease(flushed, lease, moment)?;
+        if self.leaving {
+            return with_losses(leased);
+        }
+        Ok(leased)
     }
 
     // Whether the lease is for the newest Beat, and better than the present one.
@@ -144,7 +177,22 @@ impl Client {
     {
         match target {
             None | Some(Target::Dropped) => self.ops_noted(moment),
+            Some(Target::Leaving) => self.ops_left(moment, reply),
             Some(target) => self.ops_finished(moment, reply, target),
+        }
+    }
+
+    // Where the client has ended its session nothing is held any more.
+    fn ops_left(&self, moment: u64, reply: &Reply) -> Result<VecDeque<CacheOp>, AllocError>
+        requires { IsMoment moment }
+        ensures { IfOk result (λ ops. LeadTo self.now.cache ops.items (leave_step self.now moment reply.now reply.now.result)) }
+    {
+        match &reply.result {
+            CallResult::Done => {
+                let noted = self.ops_noted(moment)?;
+                with_losses(noted)
+            }
+            _ => self.ops_finished(moment, reply, Target::Leaving),
         }
     }
 

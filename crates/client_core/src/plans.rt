@@ -43,6 +43,7 @@ impl Client {
             Ask::CheckSequencer(bytes) => {
                 self.send_plan(Call::CheckSequencer(bytes.clone()?), None, Target::Checking)
             }
+            Ask::Leave => self.send_plan(Call::Leave, None, Target::Leaving),
         }
     }
 

@@ -49,7 +49,7 @@ impl Client {
     }
 
     // A client without a session holds nothing.
-    fn lose(&mut self, session: Session)
+    pub(crate) fn lose(&mut self, session: Session)
         ensures { self.new ≡ lost self.old session }
     {
         self.session = session;

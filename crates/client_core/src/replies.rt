@@ -6,7 +6,7 @@ ghost use Rattle.client_core.specs.Lessons.{lesson};
 ghost use Rattle.tags_cell.specs.declared.messages.outs.CallResult.TheVariants as results;
 ghost use Rattle.client_core.specs.declared.parts.targets.Target.TheVariants as targets;
 ghost use Rattle.client_core.specs.Handles.{has_number};
-ghost use Rattle.client_core.specs.Gives.{awaited, answer_of, ended_plainly, ended, finish_step, reply_for, reply_step};
+ghost use Rattle.client_core.specs.Gives.{awaited, answer_of, ended_plainly, ended, finish_step, leave_step, departed, reply_for, reply_step};
 
 use crate::client::Client;
 use crate::parts::{
@@ -43,7 +43,26 @@ impl Client {
                 self.end();
                 Ok(given)
             }
+            Some(Target::Leaving) => self.leave_by(moment, reply),
             Some(target) => self.finish(moment, reply, target),
+        }
+    }
+
+    // The session is over that the client ended, or the call was refused.
+    fn leave_by(&mut self, moment: u64, reply: &Reply) -> Result<Given, Fault>
+        requires { IsMoment moment }
+        ensures { Does self.old self.new result (leave_step self.old moment reply.now reply.now.result) }
+    {
+        match &reply.result {
+            CallResult::Done => {
+                let lines = self.reply_lines(moment, reply)?;
+                self.end_session(moment);
+                Ok(Given {
+                    lines,
+                    refused: None,
+                })
+            }
+            _ => self.finish(moment, reply, Target::Leaving),
         }
     }
 
@@ -170,6 +189,16 @@ impl Client {
         put_sequencer(&mut self.handles, number, sequencer);
         self.end();
         Ok(())
+    }
+
+    // The session is over that the client ended.
+    fn end_session(&mut self, moment: u64)
+        requires { IsMoment moment }
+        ensures { self.new ≡ departed (note self.old moment) }
+    {
+        self.note(moment);
+        self.lose(Session::Lost);
+        self.end();
     }
 
     // No call is outstanding from here on.

@@ -32,6 +32,7 @@ same_asked x y rs =
 over : (ending : Ending) → stands (status_after ending) ≡ false
 over (endings.Acknowledgement upto) = refl
 over endings.Expiry = refl
+over endings.Leave = refl
 
 -- a right on another name
 other_name : (h b : Bool) → b ≡ false → (h && b) ≡ false

@@ -9,6 +9,8 @@ use Rattle.lock_core.specs.declared.claims.Owner.{Owner}
 use Rattle.lock_core.specs.declared.claims.Hold.{Hold}
 use Rattle.lock_core.specs.declared.claims.Claim.{Claim}
 use Rattle.lock_core.specs.declared.claims.Closing.{Closing}
+use Rattle.lock_core.specs.declared.partings.Parting.{Parting}
+use Rattle.lock_core.specs.declared.partings.Parting.TheVariants.{Expiry, Leave}
 use Rattle.lock_core.specs.declared.turns.Turn.{Turn}
 use Rattle.lock_core.specs.declared.turns.Acquired.{Acquired}
 use Rattle.lock_core.specs.declared.turns.Acquired.TheVariants.{Held, Waits}
@@ -120,7 +122,7 @@ closed_by lock owner = if is_some (hold_of lock owner) || any_waits (is_owner ow
 abbrev pub reopened : LockState → Turn
 reopened lock = settled (record lock { closed = None })
 
--- ---- expiry of a session
+-- ---- the end of a session
 
 -- what a client's handles hold
 abbrev pub claims_of : ℕ → Holders → List Claim
@@ -128,6 +130,16 @@ claims_of client holders = map (λ entry. record { owner = entry.0; hold = entry
 
 abbrev pub greatest_delay : List Claim → ℕ
 greatest_delay claims = fold max 0 (map (λ claim. claim.hold.delay) claims)
+
+-- how long a lock stays closed that the session held: a client that leaves lets it go at once
+abbrev pub delay_of : Parting → List Claim → ℕ
+delay_of Expiry ended = greatest_delay ended
+delay_of Leave ended = 0
+
+-- a lock is told to be open again behind an expiry alone: a client that leaves has let it go
+abbrev pub is_expiry : Parting → Bool
+is_expiry Expiry = true
+is_expiry Leave = false
 
 -- closed from now on for a delay, if there is one
 abbrev pub closed_for : LockState → ℕ → ℕ → Turn
@@ -138,17 +150,17 @@ closed_for lock now delay =
 abbrev pub is_abandoned : List Claim → LockState → Bool
 is_abandoned ended left = not (is_nobody ended) && nobody_holds left
 
-abbrev pub lapse_of : ℕ → List Claim → LockState → ℕ → Lapse
-lapse_of instance ended left now = record {
+abbrev pub lapse_of : Parting → ℕ → List Claim → LockState → ℕ → Lapse
+lapse_of parting instance ended left now = record {
   instance = instance;
   ended = ended;
-  reopens = is_abandoned ended left && greatest_delay ended == 0;
-  turn = if is_abandoned ended left then closed_for left now (greatest_delay ended) else settled left;
+  reopens = is_abandoned ended left && (is_expiry parting && delay_of parting ended == 0);
+  turn = if is_abandoned ended left then closed_for left now (delay_of parting ended) else settled left;
 }
 
 -- what becomes of a lock on which a client's session held or awaited the lock
-abbrev pub lapsed : ℕ → LockState → ℕ → ℕ → Lapse
-lapsed instance lock client now = lapse_of instance (claims_of client lock.holders) (without (is_of_client client) lock) now
+abbrev pub lapsed : Parting → ℕ → LockState → ℕ → ℕ → Lapse
+lapsed parting instance lock client now = lapse_of parting instance (claims_of client lock.holders) (without (is_of_client client) lock) now
 
 -- the session holds the lock, or waits for it
 abbrev pub concerns : ℕ → LockState → Bool

@@ -5,6 +5,7 @@ mod claims;
 mod laws;
 mod leavers;
 mod moments;
+mod partings;
 mod states;
 mod stored;
 mod tables;
@@ -16,6 +17,7 @@ pub use laws::{
     first_waiter_does_not_fit, generation_rises_by_one, no_generation_twice,
     try_succeeds_exactly_where_it_fits,
 };
+pub use partings::Parting;
 pub use states::Lock;
 pub use tables::Locks;
 pub use turns::{Acquired, Lapse, Turn};

@@ -13,6 +13,7 @@ ghost use Rattle.lock_core.specs.Locks.{AreLegal, lock_at, lapses, after_lapses,
 
 use crate::claims::{Claim, Owner};
 use crate::moments::opening;
+use crate::partings::Parting;
 use crate::states::Lock;
 use crate::turns::{Acquired, Lapse, Turn};
 use names_cell::Name;
@@ -25,8 +26,8 @@ use timer_core::Timers;
 
 /// The locks of a cell's nodes, by instance, in order. A lock that was never held may be absent.
 ///
-/// A call that asks for a lock, leaves it or tells of an expiry answers what becomes of the lock and changes nothing, so
-/// that the master can commit first. `set`, or for an expiry `carry_out`, then carries it out.
+/// A call that asks for a lock, leaves it or tells of the end of a session answers what becomes of the lock and changes nothing, so
+/// that the master can commit first. `set`, or for a session `carry_out`, then carries it out.
 #[derive(Drop)]
 pub struct Locks {
     pub(crate) alloc: Global,
@@ -130,15 +131,15 @@ impl Locks {
         }
     }
 
-    /// The expiry of a client's session: what becomes of each lock that it held or awaited, by ascending instance. It
+    /// The end of a client's session: what becomes of each lock that it held or awaited, by ascending instance. It
     /// walks over all locks.
-    pub fn lapse(&self, client: u64, now: u64) -> Result<Items<Lapse>, AllocError>
-        ensures { IfOk result (λ ended. ended ≡ lapses self.now client now) }
+    pub fn lapse(&self, parting: Parting, client: u64, now: u64) -> Result<Items<Lapse>, AllocError>
+        ensures { IfOk result (λ ended. ended ≡ lapses parting self.now client now) }
     {
         let mut ended = Items::new(self.alloc);
         for (instance, lock) in self.locks.as_map() {
             if lock.concerns(client) {
-                ended.push(lock.lapse(*instance, client, now)?)?;
+                ended.push(lock.lapse(parting, *instance, client, now)?)?;
             }
         }
         Ok(ended)
@@ -215,7 +216,7 @@ impl Locks {
         }
     }
 
-    /// Puts what becomes of the locks of a session that expired. Takes no memory.
+    /// Puts what becomes of the locks of a session that ended. Takes no memory.
     pub fn carry_out(&mut self, ended: Items<Lapse>)
         ensures { self.new ≡ after_lapses self.old ended }
     {

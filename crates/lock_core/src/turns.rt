@@ -2,10 +2,11 @@
 ghost use Rattle.std.specs.Prelude.{◌≡◌, true, Err, IfOk};
 ghost use Rattle.plain.specs.Results.{Gives};
 ghost use Rattle.lock_core.specs.State.{nobody_holds};
-ghost use Rattle.lock_core.specs.Turns.{served, settled, turned_away, tried, acquired, released, closed_by, reopened, lapsed, concerns, claims_of, greatest_delay, closed_for};
+ghost use Rattle.lock_core.specs.Turns.{served, settled, turned_away, tried, acquired, released, closed_by, reopened, lapsed, concerns, claims_of, greatest_delay, delay_of, is_expiry, closed_for};
 
 use crate::claims::{Claim, Closing, Hold, Owner};
 use crate::leavers::{Leaver, any_holds, any_waits};
+use crate::partings::Parting;
 use crate::states::{Lock, is_nobody};
 use node_core::Fault;
 use plain::{Items, Table};
@@ -30,13 +31,13 @@ pub enum Acquired {
     Waits(Lock),
 }
 
-/// What an expiry does to a lock.
+/// What the end of a session does to a lock.
 #[derive(Drop)]
 pub struct Lapse {
     pub instance: u64,
     /// What the session's handles held.
     pub ended: Items<Claim>,
-    /// Nobody holds the lock any longer, and there is no delay.
+    /// It has expired, nobody holds the lock any longer, and there is no delay.
     pub reopens: bool,
     pub turn: Turn,
 }
@@ -112,8 +113,14 @@ impl Lock {
         any_holds(self.holders(), leaver) || any_waits(self.waiters(), leaver)
     }
 
-    pub(crate) fn lapse(&self, instance: u64, client: u64, now: u64) -> Result<Lapse, AllocError>
-        ensures { IfOk result (λ lapse. lapse ≡ lapsed instance self.now client now) }
+    pub(crate) fn lapse(
+        &self,
+        parting: Parting,
+        instance: u64,
+        client: u64,
+        now: u64,
+    ) -> Result<Lapse, AllocError>
+        ensures { IfOk result (λ lapse. lapse ≡ lapsed parting instance self.now client now) }
     {
         let ended = claims_of(self.alloc, self.holders(), client)?;
         let left = self.without(Leaver::Session(client))?;
@@ -126,12 +133,12 @@ impl Lock {
                 turn,
             });
         }
-        let delay = greatest_delay(ended.as_slice());
+        let delay = delay_of(parting, ended.as_slice());
         let turn = left.close_for(now, delay)?;
         Ok(Lapse {
             instance,
             ended,
-            reopens: delay == 0,
+            reopens: is_expiry(parting) && delay == 0,
             turn,
         })
     }
@@ -214,6 +221,25 @@ impl Lock {
             granted,
             exhausted: Items::new(alloc),
         })
+    }
+}
+
+// How long a lock stays closed that the session held, in milliseconds: a client that leaves lets it go at once.
+fn delay_of(parting: Parting, ended: &[Claim]) -> u64
+    ensures { result ≡ delay_of parting ended.now }
+{
+    match parting {
+        Parting::Expiry => greatest_delay(ended),
+        Parting::Leave => 0,
+    }
+}
+
+fn is_expiry(parting: Parting) -> bool
+    ensures { result ≡ is_expiry parting }
+{
+    match parting {
+        Parting::Expiry => true,
+        Parting::Leave => false,
     }
 }
 

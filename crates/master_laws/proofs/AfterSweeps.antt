@@ -32,7 +32,7 @@ begun : (s : MasterState) (o : Option SessionUpdate) → IsSame (with_begun s o)
 begun s None = itself s
 begun s (Some (Begins client principal)) = record { handles = refl; gate = refl }
 begun s (Some (Prolongs client)) = itself s
-begun s (Some (Ends client principal)) = itself s
+begun s (Some (Ends client principal parting)) = itself s
 begun s (Some (Answers client)) = itself s
 
 put : (s : MasterState) (change : Mod) → IsSame (with_put s change) s
@@ -47,7 +47,7 @@ session_done : (s : MasterState) (o : Option SessionUpdate) → IsSame (with_ses
 session_done s None = itself s
 session_done s (Some (Begins client principal)) = itself s
 session_done s (Some (Prolongs client)) = record { handles = refl; gate = refl }
-session_done s (Some (Ends client principal)) = record { handles = refl; gate = refl }
+session_done s (Some (Ends client principal parting)) = record { handles = refl; gate = refl }
 session_done s (Some (Answers client)) = record { handles = refl; gate = refl }
 
 gone : (s : MasterState) (o : Option (List ℕ)) → IsSame (without_gone s o) s

@@ -18,7 +18,7 @@ use Rattle.cell_state.specs.Updates.{with_note}
 use Rattle.cell_core.specs.declared.asking.Touched.{Touched}
 use Rattle.cell_core.specs.Step.{admission_for, asking, asking_for, with_call, names_of, task_of}
 use Rattle.cell_core.specs.Cases.{IsNew, TakeCase, taken_by}
-use Rattle.cell_core.specs.Cases.TakeCase.{StartRefused, StartRecovering, StartFull, StartQueued, OldBeat, BeatRefused, BeatParked, OldEpoch, NoSession, Repeated, OlderCall, Outstanding, Recovering, Answered, Granted, Waits}
+use Rattle.cell_core.specs.Cases.TakeCase.{StartRefused, StartRecovering, StartFull, StartQueued, OldBeat, BeatRefused, BeatParked, OldEpoch, NoSession, LeftBefore, Repeated, OlderCall, Outstanding, Recovering, Answered, Granted, Waits}
 use Rattle.cell_core.proofs.TakeCases.{taken_case}
 use Rattle.master_laws.specs.Closed.{IsClosed, opens_as, asks_to_open, task_opens, waits_to_open, ClosedHandleStaysClosed, ClosedForGoodByMessages}
 use Rattle.master_laws.proofs.ClosedNotes.{AreFair, stays_closed}
@@ -52,6 +52,7 @@ module _ (s : MasterState) (request : Request) (key : HandleKey) (other : asks_t
     closed_by (BeatParked beat is epoch passes) = closed
     closed_by (OldEpoch message is old) = closed
     closed_by (NoSession message is epoch ended) = closed
+    closed_by (LeftBefore message kept request_is same_epoch ended is equal) = closed
     closed_by (Repeated message kept heard is equal) = closed
     closed_by (OlderCall message kept heard is less) = closed
     closed_by (Outstanding message kept heard is more none) = closed
@@ -83,6 +84,7 @@ module _ (s : MasterState) (request : Request) (key : HandleKey) (other : asks_t
     unasked_by (BeatParked beat is epoch passes) = unasked
     unasked_by (OldEpoch message is old) = unasked
     unasked_by (NoSession message is epoch ended) = unasked
+    unasked_by (LeftBefore message kept request_is same_epoch ended is equal) = unasked
     unasked_by (Repeated message kept heard is equal) = unasked
     unasked_by (OlderCall message kept heard is less) = unasked
     unasked_by (Outstanding message kept heard is more none) = unasked

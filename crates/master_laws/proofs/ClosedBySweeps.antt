@@ -1,5 +1,5 @@
 -- A handle that was closed for good stays so by each sweep.
-use Rattle.std.proofs.Common.{◌≡◌, ℕ, List, [], ◌∷◌, Bool, true, false, cond, Option, Some, None, refl, ap, subst, ◌∙◌}
+use Rattle.std.proofs.Common.{◌≡◌, ℕ, List, [], ◌∷◌, Bool, true, false, cond, Option, Some, None, refl, ap, subst, ◌∙◌, Result, Ok, Err, sym}
 use Rattle.std.specs.Prelude.{◌||◌, find}
 use Rattle.std.specs.Option.{option_map, option_map_or}
 use Rattle.std.specs.List.{list_any}
@@ -9,7 +9,7 @@ use Rattle.gate_core.specs.declared.pending.Waiting.{Waiting}
 use Rattle.gate_core.specs.Gate.{is_numbered, without}
 use Rattle.session_core.specs.declared.records.Offer.{Offer}
 use Rattle.session_core.specs.declared.records.Session.{Session}
-use Rattle.session_core.specs.Sessions.{offer_of}
+use Rattle.session_core.specs.Sessions.{offer_of, lowest}
 use Rattle.tags_cell.specs.declared.messages.outs.Reply.{Reply}
 use Rattle.node_core.specs.Nodes.{with_parent}
 use Rattle.node_core.specs.declared.lines.Line.TheVariants as lines
@@ -29,20 +29,26 @@ use Rattle.cell_core.specs.Step.{queued}
 use Rattle.cell_core.proofs.AskedFor.{asks_only}
 use Rattle.cell_state.specs.NameSpace.{name_space, caller}
 use Rattle.cell_state.specs.State.{MasterState, task_at}
-use Rattle.cell_state.specs.Lookups.{session_of, is_live, may_start, turned_away, noted}
+use Rattle.cell_state.specs.Lookups.{session_of, is_live, may_start, turned_away, noted, reply_of}
 use Rattle.cell_state.specs.Updates.{with_note}
 use Rattle.cell_core.specs.Effect.{effect, gone_by_itself}
-use Rattle.over_core.specs.Plans.{first_action, no_plan, session_plan, started_out, alive_out, plan_session, plan_start, plan_of, plan_task, plan_work, plan_call, plan_asked, plan_effect, leaving, expiry_plan}
+use Rattle.over_core.specs.Plans.{first_action, no_plan, session_plan, started_out, alive_out, plan_session, plan_start, plan_of, plan_task, plan_work, plan_call, plan_asked, plan_effect, leaving, parting_plan, plan_parting, plan_live, plan_leave}
 use Rattle.cell_state.specs.Lapses.{lapses_of}
-use Rattle.over_core.specs.Sweep.{acted, swept}
+use Rattle.over_core.specs.Sweep.{acted, swept, is_over, beats_action, beats_answered, beats_step}
 use Rattle.over_core.specs.declared.plans.Plan.{Plan}
 use Rattle.over_core.specs.declared.actions.Action.{Action}
 use Rattle.over_core.specs.declared.actions.Action.TheVariants as actions
 use Rattle.master_laws.specs.Closed.{IsClosed, IsClosedForGood, task_opens, work_opens, waits_to_open, ClosedForGoodBySweeps}
 use Rattle.master_laws.proofs.AfterSweeps.{done_handles, done_gate}
-use Rattle.over_core.proofs.SweepCases.{does_first}
+use Rattle.over_core.proofs.SweepCases.{does_first, not_tidied}
 use Rattle.master_laws.proofs.ClosedNotes.{stays_closed}
 use Rattle.master_laws.proofs.TameEffects.{tame}
+use Rattle.tags_cell.specs.Messages.{is_leave}
+use Rattle.tags_cell.specs.declared.messages.outs.CallResult.TheVariants as results
+use Rattle.lock_core.specs.declared.partings.Parting.{Parting}
+use Rattle.lock_core.specs.declared.partings.Parting.TheVariants as partings
+use Rattle.session_core.specs.Session.{is_client_answerable}
+use Rattle.node_core.specs.declared.refusals.Fault.{Fault}
 
 -- ---- changes that wait
 
@@ -78,11 +84,19 @@ module _ (key : HandleKey) where
 -- ---- what is planned
 
 module _ (s : MasterState) (key : HandleKey) (closed : IsClosed s key) where
+  -- the end of a session notes nothing
+  by_parting : (parting : Parting) (client : ℕ) (own : List Reply) → IsClosed (with_note s (plan_parting parting s client own).update.note) key
+  by_parting parting client own =
+      elim (session_of s client) as (λ o. IsClosed (with_note s (option_map_or (λ (session : Session Reply). parting_plan parting s client session.principal (lapses_of parting s client) own) o no_plan).update.note) key) [ None ↦ closed | Some session ↦ closed ]
+
   -- what a call notes
   by_call : (client number : ℕ) (call : Call) (sequencer : Option (List ℕ)) → work_opens key client number (works.Calls call sequencer) ≡ false → IsClosed (with_note s (plan_call s client number call sequencer).update.note) key
   by_call client number call sequencer other =
-      elim (is_live s client) as (λ b. IsClosed (with_note s (cond b (plan_asked s client number call (effect (name_space s) (caller s client) s.clock number call sequencer)) no_plan).update.note) key) [
-        | true ↦ stays_closed s client number call key (effect (name_space s) (caller s client) s.clock number call sequencer).note closed other (tame s client number call sequencer).notes
+      elim (is_live s client) as (λ b. IsClosed (with_note s (cond b (plan_live s client number call sequencer) no_plan).update.note) key) [
+        | true ↦ elim (is_leave call) as (λ b. IsClosed (with_note s (cond b (plan_leave s client number) (plan_asked s client number call (effect (name_space s) (caller s client) s.clock number call sequencer))).update.note) key) [
+          | true ↦ by_parting partings.Leave client (reply_of s client number results.Done ∷ [])
+          | false ↦ stays_closed s client number call key (effect (name_space s) (caller s client) s.clock number call sequencer).note closed other (tame s client number call sequencer).notes
+        ]
         | false ↦ closed
       ]
 
@@ -111,8 +125,7 @@ module _ (s : MasterState) (key : HandleKey) (closed : IsClosed s key) where
         ]) refl
 
     by_expiry : (client : ℕ) → IsClosed (with_note s (plan_of s (actions.Expire client)).update.note) key
-    by_expiry client =
-        elim (session_of s client) as (λ o. IsClosed (with_note s (option_map_or (λ (session : Session Reply). expiry_plan s client session.principal (lapses_of s client)) o no_plan).update.note) key) [ None ↦ closed | Some session ↦ closed ]
+    by_expiry client = by_parting partings.Expiry client []
 
     by_beat : (client : ℕ) → IsClosed (with_note s (plan_of s (actions.Answer client)).update.note) key
     by_beat client =
@@ -146,3 +159,16 @@ closed_for_good_by_sweeps s new now key told h gone =
     let after = by_action there key gone.closed gone.unasked (first_action there) in
     let is : (swept there (first_action there)).0 ≡ new = ap (λ p. p.0) (does_first s now (new, told) h) in
     subst (λ m. IsClosedForGood m key) is (record { closed = after.closed; unasked = after.unasked })
+
+-- the same of a Beat that is answered while the store refuses
+pub closed_by_beats : (s new : MasterState) (now : ℕ) (key : HandleKey) (told : Swept) → beats_step s now ≡ Ok (new, told) → IsClosedForGood s key → IsClosedForGood new key
+unfolding beats_step
+closed_by_beats s new now key told h gone =
+    let there : MasterState = noted s now in
+    let same = not_tidied there (lowest there.sessions (is_client_answerable there.sessions.lease there.clock)) in
+    let after = subst (λ (p : MasterState × Swept). IsClosedForGood p.0 key) (sym same) (by_action there key gone.closed gone.unasked (beats_action there)) in
+    let here : IsClosedForGood (beats_answered there).0 key = record { closed = after.closed; unasked = after.unasked } in
+    (elim (is_over s now) as (λ b. cond {A = Result (MasterState × Swept) Fault} b (Err faults.Exhausted) (Ok (beats_answered there)) ≡ Ok (new, told) → IsClosedForGood new key) [
+      | true ↦ (λ e. cc)
+      | false ↦ (λ e. let is : beats_answered there ≡ (new, told) = cc in subst (λ (p : MasterState × Swept). IsClosedForGood p.0 key) is here)
+    ]) h

@@ -63,6 +63,7 @@ same_value h = cc
 pub by_bytes : (s : MasterState) (client number : ℕ) (call : Call) (sequencer : Option (List ℕ)) (bytes : List ℕ) → shown_bytes call ≡ Some bytes → admission_of s client number call sequencer ≡ handle_admission s call sequencer (shown_handle s client bytes)
 by_bytes s client number (calls.Open opening) sequencer bytes h = absurd cc
 by_bytes s client number (calls.CheckSequencer other) sequencer bytes h = absurd cc
+by_bytes s client number calls.Leave sequencer bytes h = absurd cc
 by_bytes s client number call sequencer bytes h = ap (λ b. handle_admission s call sequencer (shown_handle s client b)) (same_value h)
 
 pub closed_handle_is_refused : ClosedHandleIsRefused

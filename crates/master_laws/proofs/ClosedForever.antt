@@ -5,11 +5,11 @@ use Rattle.tags_cell.specs.declared.messages.requests.Request.{Request}
 use Rattle.cell_parts.specs.declared.handles.HandleKey.{HandleKey}
 use Rattle.cell_state.specs.State.{MasterState}
 use Rattle.cell_core.specs.Step.{take_step}
-use Rattle.over_core.specs.Sweep.{sweep_step}
+use Rattle.over_core.specs.Sweep.{sweep_step, beats_step}
 use Rattle.master_laws.specs.Closed.{asks_to_open, IsClosedForGood, MasterStep, left_by, master_behind, step_opens, ClosedForGoodForever}
-use Rattle.master_laws.specs.Closed.MasterStep.{Takes, Sweeps}
+use Rattle.master_laws.specs.Closed.MasterStep.{Takes, Sweeps, Beats}
 use Rattle.master_laws.proofs.ClosedByMessages.{closed_for_good_by_messages}
-use Rattle.master_laws.proofs.ClosedBySweeps.{or_parts, closed_for_good_by_sweeps}
+use Rattle.master_laws.proofs.ClosedBySweeps.{or_parts, closed_for_good_by_sweeps, closed_by_beats}
 
 by_take : (s : MasterState) (now : ℕ) (request : Request) (key : HandleKey) → asks_to_open key request ≡ false → IsClosedForGood s key → IsClosedForGood (left_by s (take_step s now request)) key
 by_take s now request key other gone =
@@ -25,9 +25,17 @@ by_sweep s now key gone =
       | Err fault ↦ (λ h. gone)
     ]) refl
 
+by_beats : (s : MasterState) (now : ℕ) (key : HandleKey) → IsClosedForGood s key → IsClosedForGood (left_by s (beats_step s now)) key
+by_beats s now key gone =
+    (elim (beats_step s now) as (λ r. beats_step s now ≡ r → IsClosedForGood (left_by s r) key) [
+      | Ok done ↦ (λ h. closed_by_beats s done.0 now key done.1 h gone)
+      | Err fault ↦ (λ h. gone)
+    ]) refl
+
 by_step : (s : MasterState) (step : MasterStep) (key : HandleKey) → step_opens key step ≡ false → IsClosedForGood s key → IsClosedForGood (master_behind s step) key
 by_step s (Takes now request) key other gone = by_take s now request key other gone
 by_step s (Sweeps now) key other gone = by_sweep s now key gone
+by_step s (Beats now) key other gone = by_beats s now key gone
 
 pub closed_for_good_forever : ClosedForGoodForever
 closed_for_good_forever s [] key gone others = gone

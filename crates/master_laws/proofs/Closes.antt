@@ -53,7 +53,7 @@ pub closed_so : (s new : MasterState) (now number : ℕ) (told : Swept) (asked :
 closed_so s new now number told asked bytes sequencer handle h turn reads =
     let there : MasterState = noted s now in
     sym (does_first s now (new, told) h)
-    ∙ done_so there number asked (calls.Close bytes) sequencer turn
+    ∙ done_so there number asked (calls.Close bytes) sequencer turn refl
     ∙ ap (λ effected. done_as there (plan_for there number asked (calls.Close bytes) effected)) (closing there asked.client asked.number bytes sequencer handle reads)
 
 pub close_closes : CloseCloses

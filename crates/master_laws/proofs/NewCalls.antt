@@ -15,7 +15,7 @@ use Rattle.cell_core.specs.declared.asking.Touched.{Touched}
 use Rattle.cell_core.specs.Step.{take_step, replied, granting, waits}
 use Rattle.cell_state.specs.Updates.{with_note}
 use Rattle.cell_core.specs.Cases.{IsBehind, IsNew, IsAnswered, IsGranted, IsAdmitted, TakeCase, taken_by}
-use Rattle.cell_core.specs.Cases.TakeCase.{StartRefused, StartRecovering, StartFull, StartQueued, OldBeat, BeatRefused, BeatParked, OldEpoch, NoSession, Repeated, OlderCall, Outstanding, Recovering, Answered, Granted, Waits}
+use Rattle.cell_core.specs.Cases.TakeCase.{StartRefused, StartRecovering, StartFull, StartQueued, OldBeat, BeatRefused, BeatParked, OldEpoch, NoSession, LeftBefore, Repeated, OlderCall, Outstanding, Recovering, Answered, Granted, Waits}
 use Rattle.cell_core.proofs.TakeCases.{taken_case}
 
 -- it is refused in a recovery, it is answered at once, it is answered by what may be kept in a cache, or it waits
@@ -81,6 +81,10 @@ module _ (s : MasterState) (message : CallMessage) (new : IsNew s (requests.Call
   of_case p (BeatParked beat is epoch passes) h = absurd cc
   of_case p (OldEpoch other is old) h = absurd (old (ap (λ m. m.epoch) (sym (same other is)) ∙ new.heard.epoch))
   of_case p (NoSession other is epoch ended) h =
+      let e = same other is in
+      let live = new.heard.live in
+      absurd (not_ended (is_live s other.client) ended (subst (λ m. is_live s m.client ≡ true) e live))
+  of_case p (LeftBefore other kept is epoch ended found equal) h =
       let e = same other is in
       let live = new.heard.live in
       absurd (not_ended (is_live s other.client) ended (subst (λ m. is_live s m.client ≡ true) e live))

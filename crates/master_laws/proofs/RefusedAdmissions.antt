@@ -63,6 +63,7 @@ module _ (s : MasterState) (client number : ℕ) where
   of_call : (call : Call) (sequencer : Option (List ℕ)) → GivesNone (admission_of s client number call sequencer).answer → (admission_of s client number call sequencer).note ≡ shown_first s client call
   of_call (calls.Open opening) sequencer h = of_open opening sequencer h
   of_call (calls.CheckSequencer bytes) sequencer h = of_check bytes (sequencer_fault (name_space s) sequencer)
+  of_call calls.Leave sequencer h = refl
   of_call call sequencer h = of_handle call sequencer (bytes_of call) (shown_handle s client (bytes_of call)) refl
 
 pub notes_shown : (s : MasterState) (message : CallMessage) → s.recovering ≡ false → GivesNone (admission_for s message).answer → (admission_for s message).note ≡ first_shown s message
@@ -133,6 +134,7 @@ module _ (s : MasterState) (client number : ℕ) where
   told_call : (call : Call) (sequencer : Option (List ℕ)) → TellsSo call (admission_of s client number call sequencer).answer (admission_of s client number call sequencer).told
   told_call (calls.Open opening) sequencer = told_open opening sequencer
   told_call (calls.CheckSequencer bytes) sequencer = told_check bytes (sequencer_fault (name_space s) sequencer)
+  told_call calls.Leave sequencer = tells_nothing calls.Leave None
   told_call call sequencer = told_handle call sequencer (shown_handle s client (bytes_of call))
 
 pub tells_absence : (s : MasterState) (message : CallMessage) (fault : Fault) (name : List ℕ) → (admission_for s message).answer ≡ Some (results.Refused fault) → (admission_for s message).told ≡ Some name → TellsAbsence message.call fault name

@@ -37,6 +37,7 @@ use Rattle.master_laws.specs.Refused.{life_of, RefusedApplicationChangesNothing}
 use Rattle.over_core.proofs.SweepCases.{does_first}
 use Rattle.master_laws.proofs.Applications.{plan_for, done_as, planned, done_so}
 use Rattle.master_laws.proofs.TameEffects.{tame}
+use Rattle.tags_cell.specs.Messages.{is_leave}
 
 -- ---- sessions
 
@@ -97,30 +98,30 @@ same_lease table client kept tellings = lease_told tellings (with_session table 
 
 -- ---- the plan
 
-module _ (s : MasterState) (number : ℕ) (asked : Asked) (call : Call) (sequencer : Option (List ℕ)) (fault : Fault) (turn : IsBeingApplied s number asked call sequencer) (refusal : (effect (name_space s) (caller s asked.client) s.clock asked.number call sequencer).answer ≡ Some (results.Refused fault)) where
+module _ (s : MasterState) (number : ℕ) (asked : Asked) (call : Call) (sequencer : Option (List ℕ)) (fault : Fault) (turn : IsBeingApplied s number asked call sequencer) (stays : is_leave call ≡ false) (refusal : (effect (name_space s) (caller s asked.client) s.clock asked.number call sequencer).answer ≡ Some (results.Refused fault)) where
   alone : plan_for s number asked call (effect (name_space s) (caller s asked.client) s.clock asked.number call sequencer) ≡ plan_for s number asked call (refused fault)
   alone = ap (plan_for s number asked call) ((tame s asked.client asked.number call sequencer).refuses fault refusal)
 
   refused_so : swept s (first_action s) ≡ done_as s (plan_for s number asked call (refused fault))
-  refused_so = done_so s number asked call sequencer turn ∙ ap (done_as s) alone
+  refused_so = done_so s number asked call sequencer turn stays ∙ ap (done_as s) alone
 
   edits_so : action_edits s (first_action s) ≡ []
-  edits_so = ap (λ (plan : Plan). edits_of s plan.update) (planned s number asked call sequencer turn ∙ alone)
+  edits_so = ap (λ (plan : Plan). edits_of s plan.update) (planned s number asked call sequencer turn stays ∙ alone)
 
 either_edits : (b : Bool) (edits : List Edit) → edits ≡ [] → cond b [] edits ≡ []
 either_edits true edits h = refl
 either_edits false edits h = h
 
 pub refused_application_changes_nothing : RefusedApplicationChangesNothing
-refused_application_changes_nothing s new now number told asked call sequencer fault h turn refusal =
+refused_application_changes_nothing s new now number told asked call sequencer fault h turn working refusal =
     let now_there : MasterState = noted s now in
-    let is = sym (does_first s now (new, told) h) ∙ refused_so now_there number asked call sequencer fault turn refusal in
+    let is = sym (does_first s now (new, told) h) ∙ refused_so now_there number asked call sequencer fault turn working refusal in
     let master = ap (λ p. p.0) is in
     let out = ap (λ p. p.1) is in
     let reply : Reply = reply_of s asked.client asked.number (results.Refused fault) in
     let tellings : List Telling = tellings_of now_there (plan_for now_there number asked call (refused fault)) in
     record {
-      commits_nothing = either_edits (is_over s now) (action_edits now_there (first_action now_there)) (edits_so now_there number asked call sequencer fault turn refusal);
+      commits_nothing = either_edits (is_over s now) (action_edits now_there (first_action now_there)) (edits_so now_there number asked call sequencer fault turn working refusal);
       prints_nothing = ap (λ t. t.lines) out;
       is_sent = ap (λ t. t.outs) out;
       stays = master ∙ ap (λ t. record now_there { sessions = t; gate = record s.gate { waiting = without number s.gate.waiting } }) (sym (ap (λ m. m.sessions) master));

@@ -71,6 +71,7 @@ module _ (s : MasterState) (client number : ℕ) where
   of_call : (call : Call) (sequencer : Option (List ℕ)) → AreFair s client number call (admission_of s client number call sequencer).note
   of_call (calls.Open opening) sequencer = of_open opening sequencer
   of_call (calls.CheckSequencer bytes) sequencer = of_check bytes (sequencer_fault (name_space s) sequencer)
+  of_call calls.Leave sequencer = none_fair s client number calls.Leave
   of_call call sequencer = of_handle call sequencer (shown_handle s client (bytes_of call))
 
 pub taken_fair : (s : MasterState) (message : CallMessage) → AreFair s message.client message.number message.call (admission_for s message).note

@@ -7,7 +7,7 @@ use Rattle.tags_cell.specs.declared.messages.outs.Reply.{Reply}
 use Rattle.tags_cell.specs.declared.messages.requests.Request.{Request}
 use Rattle.cell_state.specs.State.{MasterState}
 use Rattle.cell_core.specs.Cases.{TakeCase, taken_by}
-use Rattle.cell_core.specs.Cases.TakeCase.{StartRefused, StartRecovering, StartFull, StartQueued, OldBeat, BeatRefused, BeatParked, OldEpoch, NoSession, Repeated, OlderCall, Outstanding, Recovering, Answered, Granted, Waits}
+use Rattle.cell_core.specs.Cases.TakeCase.{StartRefused, StartRecovering, StartFull, StartQueued, OldBeat, BeatRefused, BeatParked, OldEpoch, NoSession, LeftBefore, Repeated, OlderCall, Outstanding, Recovering, Answered, Granted, Waits}
 use Rattle.cell_state.specs.Lookups.{noted}
 use Rattle.cell_core.proofs.TakeCases.{taken_case}
 use Rattle.master_laws.specs.Refused.{TurnedAwayChangesNothing}
@@ -26,6 +26,7 @@ turned_away_by s request refused (BeatRefused beat fault is epoch refuses) h = r
 turned_away_by s request refused (BeatParked beat is epoch passes) h = absurd (none_in (outs.Refused refused) h)
 turned_away_by s request refused (OldEpoch message is old) h = refl
 turned_away_by s request refused (NoSession message is epoch ended) h = refl
+turned_away_by s request refused (LeftBefore message kept request_is same_epoch ended is equal) h = refl
 turned_away_by s request refused (Repeated message kept heard is equal) h = refl
 turned_away_by s request refused (OlderCall message kept heard is less) h = refl
 turned_away_by s request refused (Outstanding message kept heard is more none) h = refl

@@ -29,7 +29,7 @@ use Rattle.cell_parts.specs.Calls.{bytes_of}
 use Rattle.cell_core.specs.Step.{replied, take_step}
 use Rattle.over_core.specs.declared.swept.Swept.{Swept}
 use Rattle.over_core.specs.Kept.{IsKept}
-use Rattle.over_core.specs.Sweep.{sweep_step}
+use Rattle.over_core.specs.Sweep.{sweep_step, beats_step}
 use Rattle.master_laws.specs.Steps.{TakesCall, IsBeingApplied}
 
 -- the handle with this key was closed in the master's epoch
@@ -46,10 +46,11 @@ CloseCloses =
 
 -- ---- calls by it
 
--- the bytes of a handle that a call shows; an Open and a CheckSequencer show none
+-- the bytes of a handle that a call shows; an Open, a CheckSequencer and a Leave show none
 abbrev pub shown_bytes : Call → Option (List ℕ)
 shown_bytes (calls.Open opening) = None
 shown_bytes (calls.CheckSequencer bytes) = None
+shown_bytes calls.Leave = None
 shown_bytes call = Some (bytes_of call)
 
 -- a call shows the bytes of this handle
@@ -111,10 +112,11 @@ ClosedForGoodBySweeps = (s new : MasterState) (now : ℕ) (key : HandleKey) (tol
 
 -- ---- over many steps
 
--- at a moment a master takes a message, or sweeps
+-- at a moment a master takes a message, sweeps, or answers a Beat and commits nothing
 pub data MasterStep : Type 0 where
   Takes : (now : ℕ) (request : Request) → MasterStep
   Sweeps : (now : ℕ) → MasterStep
+  Beats : (now : ℕ) → MasterStep
 
 -- one that is refused leaves the master as it was
 abbrev pub left_by : {A : Type 0} → MasterState → Result (MasterState × A) Fault → MasterState
@@ -124,10 +126,12 @@ left_by s (Err fault) = s
 abbrev pub master_behind : MasterState → MasterStep → MasterState
 master_behind s (Takes now request) = left_by s (take_step s now request)
 master_behind s (Sweeps now) = left_by s (sweep_step s now)
+master_behind s (Beats now) = left_by s (beats_step s now)
 
 abbrev pub step_opens : HandleKey → MasterStep → Bool
 step_opens key (Takes now request) = asks_to_open key request
 step_opens key (Sweeps now) = false
+step_opens key (Beats now) = false
 
 -- a handle that was closed for good is closed for good behind every list of steps, of which none is the Open that gave it
 abbrev pub ClosedForGoodForever : Type 0

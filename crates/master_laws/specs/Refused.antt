@@ -1,5 +1,5 @@
 -- What a refused call changes.
-use Rattle.std.specs.Prelude.{◌≡◌, ◌≢◌, ◌⊎◌, ℕ, List, [], ◌∷◌, Contains, Option, Some, None, Ok, if◌then◌else◌}
+use Rattle.std.specs.Prelude.{◌≡◌, ◌≢◌, ◌⊎◌, ℕ, List, [], ◌∷◌, Contains, Option, Some, None, Ok, if◌then◌else◌, false}
 use Rattle.std.specs.Option.{option_map, option_and_then}
 use Rattle.node_core.specs.declared.refusals.Fault.{Fault}
 use Rattle.node_core.specs.declared.refusals.Fault.TheVariants as faults
@@ -30,6 +30,7 @@ use Rattle.cell_core.specs.Effect.{effect}
 use Rattle.over_core.specs.Sweep.{sweep_edits, sweep_step}
 use Rattle.master_laws.specs.Steps.{IsBeingApplied}
 use Rattle.master_laws.specs.Closed.{shown_bytes}
+use Rattle.tags_cell.specs.Messages.{is_leave}
 
 -- ---- by a message
 
@@ -93,9 +94,9 @@ pub record IsRefusedAlone (s : MasterState) (now number : ℕ) (new : MasterStat
   pub lives : (client : ℕ) → option_map life_of (session_of new client) ≡ option_map life_of (session_of s client)
   pub lease : new.sessions.lease ≡ s.sessions.lease
 
--- a call that is refused when its turn comes changes nothing but that its reply is kept, and it has left the gate; who holds a lock that it asked for in vain may be told of that by an event
+-- a call that is refused when its turn comes, which one that ends its session never is, changes nothing but that its reply is kept, and it has left the gate; who holds a lock that it asked for in vain may be told of that by an event
 abbrev pub RefusedApplicationChangesNothing : Type 0
 RefusedApplicationChangesNothing =
-    (s new : MasterState) (now number : ℕ) (told : Swept) (asked : Asked) (call : Call) (sequencer : Option (List ℕ)) (fault : Fault) → sweep_step s now ≡ Ok (new, told) → IsBeingApplied (noted s now) number asked call sequencer
+    (s new : MasterState) (now number : ℕ) (told : Swept) (asked : Asked) (call : Call) (sequencer : Option (List ℕ)) (fault : Fault) → sweep_step s now ≡ Ok (new, told) → IsBeingApplied (noted s now) number asked call sequencer → is_leave call ≡ false
     → (effect (name_space (noted s now)) (caller (noted s now) asked.client) (noted s now).clock asked.number call sequencer).answer ≡ Some (results.Refused fault)
     → IsRefusedAlone s now number new told (reply_of s asked.client asked.number (results.Refused fault))

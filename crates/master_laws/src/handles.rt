@@ -33,8 +33,8 @@ pub fn closed_for_good_by_sweeps()
     ensures { ClosedForGoodBySweeps }
 {}
 
-/// A handle that is closed for good is so behind every list of messages and sweeps, of which none is the Open of its own
-/// client under its own number.
+/// A handle that is closed for good is so behind every list of messages, sweeps and answered Beats, of which none is the
+/// Open of its own client under its own number.
 pub fn closed_for_good_forever()
     ensures { ClosedForGoodForever }
 {}

@@ -351,6 +351,7 @@ module _ (cell : List ℕ) (rows : Rows) (s : MasterState) (k : IsKept cell rows
   change_fits handle (calls.GetSequencer bytes) w shown found present h = tt
   change_fits handle (calls.SetSequencer bytes) w shown found present h = tt
   change_fits handle (calls.CheckSequencer bytes) w shown found present h = tt
+  change_fits handle calls.Leave w shown found present h = tt
 
   -- what would be answered at once is answered, and else the change is made
   view_fits : (handle : Handle) (call : Call) (view : Node) (f : Option Fault) → IsOwnHandle client handle → get_node s.nodes handle.name ≡ Some view → view.instance ≡ handle.instance → Fits (option_map_or (λ answer. answered answer) (answer_under (name_space s) handle call view f) (change_at (name_space s) s.clock handle call view))
@@ -394,6 +395,7 @@ module _ (cell : List ℕ) (rows : Rows) (s : MasterState) (k : IsKept cell rows
   call_fits handle (calls.GetSequencer bytes) sequencer shown = present_fits handle (calls.GetSequencer bytes) (sequencer_fault (name_space s) sequencer) (node_of_handle (name_space s) handle) (get_node s.nodes handle.name) shown refl refl
   call_fits handle (calls.SetSequencer bytes) sequencer shown = present_fits handle (calls.SetSequencer bytes) (sequencer_fault (name_space s) sequencer) (node_of_handle (name_space s) handle) (get_node s.nodes handle.name) shown refl refl
   call_fits handle (calls.CheckSequencer bytes) sequencer shown = present_fits handle (calls.CheckSequencer bytes) (sequencer_fault (name_space s) sequencer) (node_of_handle (name_space s) handle) (get_node s.nodes handle.name) shown refl refl
+  call_fits handle calls.Leave sequencer shown = present_fits handle calls.Leave (sequencer_fault (name_space s) sequencer) (node_of_handle (name_space s) handle) (get_node s.nodes handle.name) shown refl refl
 
   handle_fits : (call : Call) (sequencer : Option (List ℕ)) (bytes : List ℕ) (o : Option Handle) → read_handle s.secret bytes ≡ o → ((handle : Handle) → read_handle s.secret bytes ≡ Some handle → handle.client ≡ client) → Fits (handle_effect (name_space s) s.clock call sequencer o)
   handle_fits call sequencer bytes None is own = tt
@@ -416,3 +418,4 @@ effect_fits cell rows s k client number (calls.Release bytes) sequencer live num
 effect_fits cell rows s k client number (calls.GetSequencer bytes) sequencer live numbered own = handle_fits cell rows s k client live numbered (calls.GetSequencer bytes) sequencer bytes (read_handle s.secret bytes) refl own
 effect_fits cell rows s k client number (calls.SetSequencer bytes) sequencer live numbered own = handle_fits cell rows s k client live numbered (calls.SetSequencer bytes) sequencer bytes (read_handle s.secret bytes) refl own
 effect_fits cell rows s k client number (calls.CheckSequencer bytes) sequencer live numbered own = handle_fits cell rows s k client live numbered (calls.CheckSequencer bytes) sequencer [] (read_handle s.secret []) refl own
+effect_fits cell rows s k client number calls.Leave sequencer live numbered own = handle_fits cell rows s k client live numbered calls.Leave sequencer [] (read_handle s.secret []) refl own

@@ -278,7 +278,7 @@ module _ (cell : List ℕ) (rows : Rows) (s : MasterState) (k : IsKept cell rows
   application_own = own_before cell rows s k front back (tasks.Asked asked) turn
 
   -- no other call of its client waits
-  none_else : is_call asked.work ≡ true → count_in (front ++ back) s.locks asked.client ≡ 0
+  pub none_else : is_call asked.work ≡ true → count_in (front ++ back) s.locks asked.client ≡ 0
   none_else call = none_beside front turn.number turn.touched asked back s.locks s.sessions call before
 
   -- a call that ends

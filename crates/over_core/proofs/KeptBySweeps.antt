@@ -47,28 +47,32 @@ use Rattle.cell_parts.specs.declared.pending.Work.TheVariants as works
 use Rattle.cell_state.specs.State.{MasterState}
 use Rattle.cell_parts.specs.StoredSessions.{row_of}
 use Rattle.cell_state.specs.Lookups.{session_of, noted}
+use Rattle.cell_state.specs.declared.updates.LockPut.{LockPut}
+use Rattle.cell_state.specs.Updates.{with_locks}
+use Rattle.cell_state.specs.Lapses.{lapses_of, lapses_puts, lapses_replies}
 use Rattle.cell_core.specs.Step.{queued}
 use Rattle.cell_core.specs.Ephemerals.{spared_for, is_ok, may_tidy, next_idle, tidied}
 use Rattle.cell_core.specs.declared.effects.Effect.{Effect}
 use Rattle.over_core.specs.declared.swept.Swept.{Swept}
 use Rattle.cell_core.specs.Effect.{effect}
 use Rattle.over_core.specs.Kept.{IsKept, AreLocksKept, IsOwnCall, is_call}
-use Rattle.over_core.specs.Sweep.{action_edits, is_over, sweep_edits, sweep_step}
+use Rattle.over_core.specs.Sweep.{action_edits, is_over, sweep_edits, sweep_step, beats_action, beats_step}
 use Rattle.over_core.specs.Plans.{first_action}
-use Rattle.over_core.specs.SweepCase.{IsNextApplied, SweepCase, rest, swept_by, swept_edits}
-use Rattle.over_core.specs.SweepCase.SweepCase.{Quiet, Recovers, Expires, AnswersBeat, TurnedAway, StartedAgain, Started, Reopens, Tidies, Spared, Tidied, OfEnded, Ended, Applied, Deleted, Locked, Awaited, Left}
+use Rattle.over_core.specs.SweepCase.{IsNextApplied, SweepCase, rest, swept_by, swept_edits, told, parted, parting_edits, left_reply}
+use Rattle.over_core.specs.SweepCase.SweepCase.{Quiet, Recovers, Expires, Departed, AnswersBeat, TurnedAway, StartedAgain, Started, Reopens, Tidies, Spared, Tidied, OfEnded, Ended, Applied, Deleted, Locked, Awaited, Left}
 use Rattle.over_core.proofs.FitsByEffects.{effect_fits}
 use Rattle.over_core.proofs.EachSession.{new_each, new_without}
 use Rattle.over_core.proofs.KeptByTakes.{IsByBeats, IsIssued, HasNoRight, stays, same_call_kept, queued_kept, asking_kept, clock_kept}
-use Rattle.over_core.proofs.KeptByApplications.{application_client, application_own, rest_kept, tidied_application, ended_application, applied_application, deleted_application, locked_application, awaited_application, left_by_application}
+use Rattle.over_core.proofs.KeptByApplications.{application_client, application_own, rest_kept, tidied_application, ended_application, applied_application, deleted_application, locked_application, awaited_application, left_by_application, none_else}
 use Rattle.over_core.proofs.LockingFits.{EffectFits}
 use Rattle.over_core.proofs.LocksKept.{locks_stay}
-use Rattle.over_core.proofs.LocksSwept.{reopened_kept, expired_kept}
+use Rattle.over_core.proofs.LocksSwept.{reopened_kept, waits_for_none, without_session_kept}
 use Rattle.over_core.proofs.OneCall.{one_same, one_started}
 use Rattle.over_core.proofs.OwnedRights.{none_issued}
 use Rattle.over_core.proofs.SessionReads.{lives_in, keeps_in, reads_new, lives_new}
-use Rattle.over_core.proofs.SweepCases.{HasSessionsInOrder, first_tellings, sweep_case, swept_case}
+use Rattle.over_core.proofs.SweepCases.{HasSessionsInOrder, action_tellings, first_tellings, sweep_case, swept_case, answered_case, rest_edits, rest_puts, rest_replies}
 use Rattle.over_core.proofs.ToldSessions.{told_acknowledged, reads_told, told_each, told_without, rows_told}
+use Rattle.lock_core.specs.declared.partings.Parting.TheVariants as partings
 
 -- the sessions of a master stand in the order of those of its rows
 pub sessions_ordered : (cell : List ℕ) (rows : Rows) (s : MasterState) → IsKept cell rows s → HasSessionsInOrder s
@@ -194,7 +198,20 @@ module _ (cell : List ℕ) (rows : Rows) where
     touching = k.touching;
     own = k.own;
   })
-  case_kept s (Expires client session due) k = expired_kept cell rows s k client session due.found
+  case_kept s (Expires client session due) k = without_session_kept partings.Expiry cell rows s k client session due.found [] tt
+  case_kept s (Departed front back asked call sequencer session turn work leave found live) k =
+      let beside = rest_kept cell rows s k front back (tasks.Asked asked) turn in
+      let t = rest s front back in
+      let lapses = lapses_of partings.Leave s asked.client in
+      let own = left_reply s asked in
+      let P : List Edit → List LockPut → List Reply → Type 0 = λ edits puts replies. IsKept cell (changed_rows rows edits) (told (with_locks (parted partings.Leave t asked.client) puts) (own ∷ replies)) in
+      let edits = parting_edits partings.Leave t asked.client session.principal in
+      let there : P edits (lapses_puts t lapses) (lapses_replies t lapses) =
+      without_session_kept partings.Leave cell rows t beside asked.client session found (own ∷ [])
+      (waits_for_none partings.Leave cell rows t beside asked.client session found (none_else cell rows s k front back asked turn (ap is_call work)), tt) in
+      let replied : P edits (lapses_puts t lapses) (lapses_replies s lapses) = subst (P edits (lapses_puts t lapses)) (rest_replies s front back lapses) there in
+      let put : P edits (lapses_puts s lapses) (lapses_replies s lapses) = subst (λ puts. P edits puts (lapses_replies s lapses)) (rest_puts s front back lapses) replied in
+      subst (λ e. P e (lapses_puts s lapses) (lapses_replies s lapses)) (rest_edits s front back asked.client session.principal) put
   case_kept s (AnswersBeat client session beat due) k =
       same_call_kept cell rows s client (answered s.sessions.lease s.clock) (answered_row s.sessions.lease s.clock) (answered_issued s.sessions.lease s.clock) (λ before there. answered_by_beats s.sessions.lease s.clock client before) (answered_lives s.sessions.lease s.clock) (answered_keeps s.sessions.lease s.clock) k
   case_kept s (TurnedAway front back asked principal received turn work may) k = rest_kept cell rows s k front back (tasks.Asked asked) turn
@@ -281,3 +298,19 @@ swept_kept old new s after now (Err e) k ok committed err fault =
     let cell : new.cell ≡ old.cell = elim fault [ inl p ↦ ap (λ (x : Store). x.cell) p.1 | inr r ↦ r.cell ] in
     let master : after ≡ s = err in
     rw (rows, cell, master) k
+
+-- ---- what is answered while the store refuses
+
+beats_step_kept : (cell : List ℕ) (rows : Rows) (s new : MasterState) (now : ℕ) (told : Swept) → IsKept cell rows s → beats_step s now ≡ Ok (new, told) → IsKept cell rows new
+beats_step_kept cell rows s new now told k h =
+    let there = noted s now in
+    let c = answered_case s new now told (sessions_ordered cell rows s k) k.orderly h in
+    let tellings = action_tellings there (beats_action there) in
+    let is : new ≡ with_tellings (swept_by there c.0).0 tellings = ap (λ (p : MasterState × Swept). p.0) c.1 in
+    let P : List Edit → Type 0 = λ edits. IsKept cell (changed_rows rows edits) (swept_by there c.0).0 in
+    let kept : IsKept cell rows (swept_by there c.0).0 = subst P (sym c.2) (case_kept cell rows there c.0 (clock_kept cell rows s (max s.clock now) k)) in
+    subst (IsKept cell rows) (sym is) (tellings_kept cell rows (swept_by there c.0).0 tellings kept)
+
+pub beats_kept : (cell : List ℕ) (rows : Rows) (s new : MasterState) (now : ℕ) (result : Result Swept Fault) → IsKept cell rows s → IfOk result (λ told. beats_step s now ≡ Ok (new, told)) → OnErr result (new ≡ s) → IsKept cell rows new
+beats_kept cell rows s new now (Ok told) k ok err = beats_step_kept cell rows s new now told k ok
+beats_kept cell rows s new now (Err fault) k ok err = let P : MasterState → Type 0 = IsKept cell rows in subst P (sym err) k

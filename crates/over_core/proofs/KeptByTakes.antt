@@ -53,7 +53,7 @@ use Rattle.cell_parts.specs.Answered.{answered_by}
 use Rattle.cell_core.specs.declared.asking.Touched.{Touched}
 use Rattle.cell_core.specs.Names.{call_touched, names_touched}
 use Rattle.cell_core.specs.Cases.{IsBehind, IsNew, IsAdmitted, TakeCase, taken_by}
-use Rattle.cell_core.specs.Cases.TakeCase.{StartRefused, StartRecovering, StartFull, StartQueued, OldBeat, BeatRefused, BeatParked, OldEpoch, NoSession, Repeated, OlderCall, Outstanding, Recovering, Answered, Granted, Waits}
+use Rattle.cell_core.specs.Cases.TakeCase.{StartRefused, StartRecovering, StartFull, StartQueued, OldBeat, BeatRefused, BeatParked, OldEpoch, NoSession, LeftBefore, Repeated, OlderCall, Outstanding, Recovering, Answered, Granted, Waits}
 use Rattle.cell_core.proofs.TakeCases.{taken_case, taken_unspent}
 use Rattle.cell_core.proofs.Told.{touched_is_changed}
 use Rattle.over_core.specs.Kept.{IsKept, AreByBeats, AreIssued, AreOwned, AreTouching, AreOwnCalls, IsOwnCall, IsOwnTask, HaveOneCall, is_of, task_fits, outstanding, unanswered, waiting_fits}
@@ -420,6 +420,7 @@ module _ (cell : List ℕ) (rows : Rows) where
   case_kept s request (BeatParked beat is same taken) spare k in_range = parked_kept s beat taken k
   case_kept s request (OldEpoch message is other) spare k in_range = k
   case_kept s request (NoSession message is same ended) spare k in_range = k
+  case_kept s request (LeftBefore message kept request_is same_epoch ended is same) spare k in_range = k
   case_kept s request (Repeated message kept heard is same) spare k in_range = k
   case_kept s request (OlderCall message kept heard is less) spare k in_range = k
   case_kept s request (Outstanding message kept heard is more none) spare k in_range = k

@@ -20,10 +20,12 @@ use Rattle.lock_core.specs.declared.claims.Hold.{Hold}
 use Rattle.lock_core.specs.declared.claims.Claim.{Claim}
 use Rattle.lock_core.specs.declared.turns.Turn.{Turn}
 use Rattle.lock_core.specs.State.{LockState, Holders, IsLegal, owner_order, mode_of, nobody_holds, fits, is_exhausted}
-use Rattle.lock_core.specs.Turns.{generation_after, held_by, served_from, served, settled, without, waited_by, reopened, claims_of, greatest_delay, closed_for, is_abandoned, is_of_client, is_nobody, lapsed, lapse_of}
+use Rattle.lock_core.specs.declared.partings.Parting.{Parting}
+use Rattle.lock_core.specs.Turns.{generation_after, held_by, served_from, served, settled, without, waited_by, reopened, claims_of, greatest_delay, delay_of, closed_for, is_abandoned, is_of_client, is_nobody, lapsed, lapse_of}
 use Rattle.lock_core.proofs.Legal.{held_legal, left_legal}
 use Rattle.lock_core.proofs.Generations.{rise_of, settled_rises}
 use Rattle.over_core.specs.Kept.{closing_fits}
+use Rattle.lock_core.specs.declared.partings.Parting.TheVariants as partings
 
 both_equal : (a b : Ordering) → ordering_then a b ≡ Equal → (a ≡ Equal) × (b ≡ Equal)
 both_equal Less b e = absurd cc
@@ -130,10 +132,10 @@ module _ (holds : Owner → Hold → Bool) (waits : Claim → Bool) where
           | false ↦ shut_fit lock now delay nobody within h
         ])
 
-    pub lapse_fit : (instance : ℕ) (ended : List Claim) (left : LockState) (now : ℕ) → nat_le (greatest_delay ended) lock_delay_limit ≡ true → IsFit holds waits left → IsFit holds waits (lapse_of instance ended left now).turn.lock
-    lapse_fit instance ended left now within h =
-        (elim (is_abandoned ended left) as (λ b. is_abandoned ended left ≡ b → IsFit holds waits (cond b (closed_for left now (greatest_delay ended)) (settled left)).lock) [
-          | true ↦ (λ c. closed_for_fit left now (greatest_delay ended) (and_parts (not (is_nobody ended)) (nobody_holds left) c).1 within h)
+    pub lapse_fit : (parting : Parting) (instance : ℕ) (ended : List Claim) (left : LockState) (now : ℕ) → nat_le (delay_of parting ended) lock_delay_limit ≡ true → IsFit holds waits left → IsFit holds waits (lapse_of parting instance ended left now).turn.lock
+    lapse_fit parting instance ended left now within h =
+        (elim (is_abandoned ended left) as (λ b. is_abandoned ended left ≡ b → IsFit holds waits (cond b (closed_for left now (delay_of parting ended)) (settled left)).lock) [
+          | true ↦ (λ c. closed_for_fit left now (delay_of parting ended) (and_parts (not (is_nobody ended)) (nobody_holds left) c).1 within h)
           | false ↦ (λ c. settled_fit left h)
         ]) refl
 
@@ -175,6 +177,10 @@ greatest_fits holds client holders short h =
     greatest_within lock_delay_limit 0 (map (λ (claim : Claim). claim.hold.delay) (claims_of client holders)) refl
     (delays_within lock_delay_limit client holders (all_more (λ (entry : Owner × Hold). holds entry.0 entry.1) (λ entry. nat_le entry.1.delay lock_delay_limit) holders (λ entry is. short entry.0 entry.1 is) h))
 
+pub delay_fits : (parting : Parting) (holds : Owner → Hold → Bool) (client : ℕ) (holders : Holders) → ((owner : Owner) (hold : Hold) → holds owner hold ≡ true → nat_le hold.delay lock_delay_limit ≡ true) → list_all (λ entry. holds entry.0 entry.1) holders ≡ true → nat_le (delay_of parting (claims_of client holders)) lock_delay_limit ≡ true
+delay_fits partings.Expiry holds client holders short h = greatest_fits holds client holders short h
+delay_fits partings.Leave holds client holders short h = refl
+
 -- ---- generations rise
 
 more : (a b c : ℕ) → a ≡ b + c → b ≤ a
@@ -197,12 +203,12 @@ closed_higher lock now delay =
       | false ↦ omega arith
     ])
 
-pub lapse_higher : (instance : ℕ) (lock : LockState) (client now : ℕ) → lock.generation ≤ (lapsed instance lock client now).turn.lock.generation
-lapse_higher instance lock client now =
+pub lapse_higher : (parting : Parting) (instance : ℕ) (lock : LockState) (client now : ℕ) → lock.generation ≤ (lapsed parting instance lock client now).turn.lock.generation
+lapse_higher parting instance lock client now =
     let left : LockState = without (is_of_client client) lock in
     let ended : List Claim = claims_of client lock.holders in
-    (elim (is_abandoned ended left) as (λ b. left.generation ≤ (cond b (closed_for left now (greatest_delay ended)) (settled left)).lock.generation) [
-      | true ↦ closed_higher left now (greatest_delay ended)
+    (elim (is_abandoned ended left) as (λ b. left.generation ≤ (cond b (closed_for left now (delay_of parting ended)) (settled left)).lock.generation) [
+      | true ↦ closed_higher left now (delay_of parting ended)
       | false ↦ settled_higher left
     ])
 

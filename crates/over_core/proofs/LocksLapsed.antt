@@ -34,7 +34,8 @@ use Rattle.lock_core.specs.declared.claims.Closing.{Closing}
 use Rattle.lock_core.specs.declared.turns.Turn.{Turn}
 use Rattle.lock_core.specs.declared.turns.Lapse.{Lapse}
 use Rattle.lock_core.specs.State.{LockState, Holders, lock_of, mode_of}
-use Rattle.lock_core.specs.Turns.{is_nobody, without, settled, closed_for, greatest_delay, is_abandoned, is_of_client, claims_of, lapsed, concerns, any_holds, any_waits}
+use Rattle.lock_core.specs.declared.partings.Parting.{Parting}
+use Rattle.lock_core.specs.Turns.{is_nobody, without, settled, closed_for, delay_of, is_abandoned, is_of_client, claims_of, lapsed, concerns, any_holds, any_waits}
 use Rattle.lock_core.specs.Locks.{LockTable, lock_at, with_lock}
 use Rattle.cell_state.specs.declared.updates.LockPut.{LockPut}
 use Rattle.cell_parts.specs.Locks.{stored_mode, holder_rows, closing_rows, lock_rows}
@@ -43,7 +44,7 @@ use Rattle.cell_state.specs.Updates.{with_lock_put, lock_change}
 use Rattle.over_core.specs.Kept.{IsKept, AreLockRows, IsLockKept, is_idle, claim_fits, waiter_fits, claim_count, waits_count}
 use Rattle.cell_state.specs.Replies.{puts_of}
 use Rattle.cell_state.specs.Lapses.{lapses_puts}
-use Rattle.over_core.proofs.LockClaims.{IsFit, turn_waiters, settled_waiters, without_fit, lapse_fit, greatest_fits, lapse_higher}
+use Rattle.over_core.proofs.LockClaims.{IsFit, turn_waiters, settled_waiters, without_fit, lapse_fit, delay_fits, lapse_higher}
 use Rattle.over_core.proofs.LockPuts.{IsPut, at_number, lock_at_put, instances_of, fit_of, kept_of_fit}
 use Rattle.over_core.proofs.NamedLocks.{IsNamed, named_put, puts_are, named_is_put, not_idle}
 use Rattle.over_core.proofs.RepliesKept.{all_append, claims_count, told_of, told_of_all}
@@ -72,20 +73,20 @@ closed_waiters lock now delay =
       | false ↦ refl
     ]
 
-lapse_waiters : (instance : ℕ) (lock : LockState) (client now : ℕ) → turn_waiters (lapsed instance lock client now).turn ≡ (without (is_of_client client) lock).waiters
-lapse_waiters instance lock client now =
+lapse_waiters : (parting : Parting) (instance : ℕ) (lock : LockState) (client now : ℕ) → turn_waiters (lapsed parting instance lock client now).turn ≡ (without (is_of_client client) lock).waiters
+lapse_waiters parting instance lock client now =
     let left : LockState = without (is_of_client client) lock in
     let ended : List Claim = claims_of client lock.holders in
-    elim (is_abandoned ended left) as (λ b. turn_waiters (cond b (closed_for left now (greatest_delay ended)) (settled left)) ≡ left.waiters) [
-      | true ↦ closed_waiters left now (greatest_delay ended)
+    elim (is_abandoned ended left) as (λ b. turn_waiters (cond b (closed_for left now (delay_of parting ended)) (settled left)) ≡ left.waiters) [
+      | true ↦ closed_waiters left now (delay_of parting ended)
       | false ↦ settled_waiters left
     ]
 
-pub lapse_waits : (q instance : ℕ) (lock : LockState) (client now : ℕ) → told_of q (lapsed instance lock client now).turn + waits_count q (lapsed instance lock client now).turn.lock ≤ waits_count q lock
-lapse_waits q instance lock client now =
-    let turn : Turn = (lapsed instance lock client now).turn in
+pub lapse_waits : (parting : Parting) (q instance : ℕ) (lock : LockState) (client now : ℕ) → told_of q (lapsed parting instance lock client now).turn + waits_count q (lapsed parting instance lock client now).turn.lock ≤ waits_count q lock
+lapse_waits parting q instance lock client now =
+    let turn : Turn = (lapsed parting instance lock client now).turn in
     at_most (told_of q turn + waits_count q turn.lock) (claims_count q (turn_waiters turn)) (claims_count q (without (is_of_client client) lock).waiters) (waits_count q lock)
-    (told_and_waiting q turn) (ap (claims_count q) (lapse_waiters instance lock client now)) (fewer (claim_count q) (λ claim. not (is_of_client client claim.owner)) lock.waiters)
+    (told_and_waiting q turn) (ap (claims_count q) (lapse_waiters parting instance lock client now)) (fewer (claim_count q) (λ claim. not (is_of_client client claim.owner)) lock.waiters)
   where
     at_most : (a b c d : ℕ) → a ≡ b → b ≡ c → c ≤ d → a ≤ d
     at_most a b c d h k l = omega (arith, h, k, l)
@@ -119,7 +120,7 @@ unfolding IsStrictlySortedBy
 sorted_distinct [] h = refl
 sorted_distinct (k ∷ ks) h = and_from (not (list_any (λ m. m == k) ks)) (are_distinct ks) (not_from_false (list_any (λ m. m == k) ks) (none_same k ks h.0)) (sorted_distinct ks h.1)
 
--- each of them is among those that the expiry changes
+-- each of them is among those that its end changes
 pub concerned_key : (client : ℕ) (locks : LockTable) (n : ℕ) → concerns client (lock_at locks n) ≡ true → list_any (λ m. m == n) (keys_of (filter (λ e. concerns client e.1) locks)) ≡ true
 concerned_key client [] n h = absurd cc
 concerned_key client (e ∷ es) n h =
@@ -249,12 +250,12 @@ puts_free sessions client locks (put ∷ puts) dead all =
 
 -- ---- all that are put
 
-module _ (cell : List ℕ) (rows : Rows) (s : MasterState) (client : ℕ) (k : IsKept cell rows s) where
+module _ (parting : Parting) (cell : List ℕ) (rows : Rows) (s : MasterState) (client : ℕ) (k : IsKept cell rows s) where
   abbrev pub IsLapsing : ℕ × LockState → Type 0
   IsLapsing e = (lock_at s.locks e.0 ≡ e.1) × (concerns client e.1 ≡ true)
 
   abbrev pub lapse_at : ℕ × LockState → Lapse
-  lapse_at e = lapsed e.0 e.1 client s.clock
+  lapse_at e = lapsed parting e.0 e.1 client s.clock
 
   abbrev pub puts_in : LockTable → List LockPut
   puts_in es = lapses_puts s (map lapse_at es)
@@ -289,8 +290,8 @@ module _ (cell : List ℕ) (rows : Rows) (s : MasterState) (client : ℕ) (k : I
     left_fit : (lock : LockState) → IsFit (claim_fits s.sessions) (waiter_fits s.sessions) lock → IsFit (claim_fits sessions) (waiter_fits sessions) (without (is_of_client client) lock)
     left_fit lock fit = without_fit (claim_fits s.sessions) (claim_fits sessions) (waiter_fits s.sessions) (waiter_fits sessions) (is_of_client client) lock (λ entry away is. keeps entry.0 entry.1 away is) waiter_keeps fit
 
-    short : (lock : LockState) → IsFit (claim_fits s.sessions) (waiter_fits s.sessions) lock → nat_le (greatest_delay (claims_of client lock.holders)) lock_delay_limit ≡ true
-    short lock fit = greatest_fits (claim_fits s.sessions) client lock.holders (λ owner hold is. (and_parts (is_live s.sessions owner.client && is_number owner.handle) (nat_le hold.delay lock_delay_limit) is).1) fit.holders
+    short : (lock : LockState) → IsFit (claim_fits s.sessions) (waiter_fits s.sessions) lock → nat_le (delay_of parting (claims_of client lock.holders)) lock_delay_limit ≡ true
+    short lock fit = delay_fits parting (claim_fits s.sessions) client lock.holders (λ owner hold is. (and_parts (is_live s.sessions owner.client && is_number owner.handle) (nat_le hold.delay lock_delay_limit) is).1) fit.holders
 
     entry_fit : (e : ℕ × LockState) → IsLapsing e → IsFit (claim_fits s.sessions) (waiter_fits s.sessions) e.1
     entry_fit e h =
@@ -299,7 +300,7 @@ module _ (cell : List ℕ) (rows : Rows) (s : MasterState) (client : ℕ) (k : I
 
     lapse_fits : (e : ℕ × LockState) → IsLapsing e → IsFit (claim_fits sessions) (waiter_fits sessions) (lapse_at e).turn.lock
     lapse_fits e h =
-        lapse_fit (claim_fits sessions) (waiter_fits sessions) (λ claim is. (and_parts (is_client_number claim.owner.client) (claim_fits sessions claim.owner claim.hold) is).1) e.0 (claims_of client e.1.holders) (without (is_of_client client) e.1) s.clock (short e.1 (entry_fit e h)) (left_fit e.1 (entry_fit e h))
+        lapse_fit (claim_fits sessions) (waiter_fits sessions) (λ claim is. (and_parts (is_client_number claim.owner.client) (claim_fits sessions claim.owner claim.hold) is).1) parting e.0 (claims_of client e.1.holders) (without (is_of_client client) e.1) s.clock (short e.1 (entry_fit e h)) (left_fit e.1 (entry_fit e h))
 
     pub lapsed_fit : (es : LockTable) → AllByRecursion IsLapsing es → AllByRecursion (λ put. IsFit (claim_fits sessions) (waiter_fits sessions) put.lock) (puts_in es)
     lapsed_fit es all = puts_each (λ put. IsFit (claim_fits sessions) (waiter_fits sessions) put.lock) (λ e h. lapse_fits e h) es all
@@ -317,7 +318,7 @@ module _ (cell : List ℕ) (rows : Rows) (s : MasterState) (client : ℕ) (k : I
       (λ e h.
       let lock : LockState = (lapse_at e).turn.lock in
       let P : LockState → Type 0 = λ l. l.generation ≤ lock.generation in
-      named_is_put rows s e.0 lock (named e h) (lapse_fits s.sessions (λ owner hold away is. is) e h) (subst P (sym h.0) (lapse_higher e.0 e.1 client s.clock))) es all
+      named_is_put rows s e.0 lock (named e h) (lapse_fits s.sessions (λ owner hold away is. is) e h) (subst P (sym h.0) (lapse_higher parting e.0 e.1 client s.clock))) es all
 
   -- ---- who waits then
 
@@ -347,4 +348,4 @@ module _ (cell : List ℕ) (rows : Rows) (s : MasterState) (client : ℕ) (k : I
       let P : LockState → Type 0 = λ l. told_of q (lapse_at e).turn + waits_count q lock ≤ waits_count q l in
       subst Q (sym (puts_are s e.0 lock name.name name.is))
       (fewer_wait (waits_in q locks) (waits_in q new) (waits_count q (lock_at locks e.0)) (waits_count q lock) (told_of q (lapse_at e).turn) (told_of_all q (map lapse_at es)) (waits_in q (fold with_lock_put new (puts_in es)))
-      (sum_put locks e.0 lock table) (subst P (sym at.0) (lapse_waits q e.0 e.1 client s.clock)) rest)
+      (sum_put locks e.0 lock table) (subst P (sym at.0) (lapse_waits parting q e.0 e.1 client s.clock)) rest)

@@ -50,7 +50,7 @@ use Rattle.cell_state.specs.Updates.{with_locks, lock_changes}
 use Rattle.over_core.specs.Kept.{IsKept, AreLocksKept, IsLockKept, HaveOneCall, is_idle, is_there, claim_fits, waiter_fits, call_count, waits_count, outstanding, unanswered, is_unanswered}
 use Rattle.cell_state.specs.Replies.{puts_of, turn_replies}
 use Rattle.cell_state.specs.Lapses.{lapses_of, lapses_puts, lapses_replies}
-use Rattle.over_core.specs.SweepCase.{told, expired, relocking}
+use Rattle.over_core.specs.SweepCase.{told, relocking, parted, without_session, parting_edits}
 use Rattle.over_core.proofs.EachSession.{step_each, step_without}
 use Rattle.over_core.proofs.KeptByTakes.{IsByBeats, IsIssued, HasNoRight, ended_kept}
 use Rattle.over_core.proofs.LockClaims.{IsFit, reopened_fit, settled_higher, settled_waiters}
@@ -59,8 +59,10 @@ use Rattle.over_core.proofs.LocksKept.{rows_behind, puts_sound, puts_sorted, put
 use Rattle.over_core.proofs.LocksLapsed.{told_and_waiting, sorted_distinct, unconcerned, locks_among, puts_free, IsLapsing, lapsed_instances, lapsed_fit, lapsed_put, lapsed_waits, waits_in, other_kept}
 use Rattle.over_core.proofs.NamedLocks.{all_of_found, all_kept, own_locks, named_put, puts_are, named_is_put, not_idle}
 use Rattle.over_core.proofs.OneCall.{AreOne, at_most_one, count_in, sum_put, one_put, one_same}
-use Rattle.over_core.proofs.RepliesKept.{told_of, told_of_all, turn_replies_are_to, lapses_replies_are_to, told_kept}
+use Rattle.over_core.proofs.RepliesKept.{told_of, told_of_all, turn_replies_are_to, lapses_replies_are_to, told_kept, AreTo, all_append}
 use Rattle.over_core.proofs.SessionReads.{lives_in, keeps_in, reads_step}
+use Rattle.lock_core.specs.declared.partings.Parting.{Parting}
+use Rattle.cell_state.specs.Partings.{ending_by}
 
 -- ---- locks that are put
 
@@ -203,7 +205,7 @@ dead_then : (o : Option (Session Reply)) → lives_in (option_map of_session.end
 dead_then None = refl
 dead_then (Some session) = refl
 
-module _ (cell : List ℕ) (rows : Rows) (s : MasterState) (k : IsKept cell rows s) (client : ℕ) (session : Session Reply) (found : session_of s client ≡ Some session) where
+module _ (parting : Parting) (cell : List ℕ) (rows : Rows) (s : MasterState) (k : IsKept cell rows s) (client : ℕ) (session : Session Reply) (found : session_of s client ≡ Some session) where
   abbrev put : stored.Session
   put = record { principal = session.principal; live = false }
 
@@ -214,19 +216,19 @@ module _ (cell : List ℕ) (rows : Rows) (s : MasterState) (k : IsKept cell rows
   changed = filter (λ (e : ℕ × LockState). concerns client e.1) s.locks
 
   abbrev puts : List LockPut
-  puts = lapses_puts s (lapses_of s client)
+  puts = lapses_puts s (lapses_of parting s client)
 
-  lapsing : AllByRecursion (IsLapsing cell rows s client k) changed
+  lapsing : AllByRecursion (IsLapsing parting cell rows s client k) changed
   lapsing = all_kept (λ (e : ℕ × LockState). lock_at s.locks e.0 ≡ e.1) (λ e. concerns client e.1) s.locks (own_locks s.locks k.locks.in_order)
 
   changed_in_order : IsStrictlySortedBy nat_cmp (keys_of changed)
   changed_in_order = sorted_kept nat_cmp (λ (e : ℕ × LockState). concerns client e.1) s.locks k.locks.in_order
 
   are_puts : AllByRecursion (IsPut rows s.locks s.sessions) puts
-  are_puts = lapsed_put cell rows s client k changed lapsing
+  are_puts = lapsed_put parting cell rows s client k changed lapsing
 
   instances : instances_of puts ≡ keys_of changed
-  instances = lapsed_instances cell rows s client k changed lapsing
+  instances = lapsed_instances parting cell rows s client k changed lapsing
 
   apart : are_distinct (instances_of puts) ≡ true
   apart = ap are_distinct instances ∙ sorted_distinct (keys_of changed) changed_in_order
@@ -242,7 +244,7 @@ module _ (cell : List ℕ) (rows : Rows) (s : MasterState) (k : IsKept cell rows
   keeps owner hold away h = ap (λ b. b && is_number owner.handle && nat_le hold.delay lock_delay_limit) (lives_on owner.client (not-true (owner.client == client) away)) ∙ h
 
   are_fit : AllByRecursion (λ put. IsFit (claim_fits new_sessions) (waiter_fits new_sessions) put.lock) puts
-  are_fit = lapsed_fit cell rows s client k new_sessions keeps changed lapsing
+  are_fit = lapsed_fit parting cell rows s client k new_sessions keeps changed lapsing
 
   each_kept : (ps : List LockPut) → AllByRecursion (IsPut rows s.locks s.sessions) ps → AllByRecursion (λ put. IsFit (claim_fits new_sessions) (waiter_fits new_sessions) put.lock) ps → AllByRecursion (λ put. IsLockKept s.nodes new_sessions put.instance put.lock) ps
   each_kept [] are fits = tt
@@ -300,13 +302,13 @@ module _ (cell : List ℕ) (rows : Rows) (s : MasterState) (k : IsKept cell rows
         rows_of_locks = before.rows_of_locks;
         in_order = before.in_order;
         each = puts_kept_with cell rows s puts k.sound_rows k.sessions k.locks_in_order k.locks are_puts apart new_sessions (each_kept puts are_puts are_fit)
-            (λ n none. other_kept cell rows s client k new_sessions keeps n (unconcerned client s.locks n (sym (ap (list_any (λ m. m == n)) instances) ∙ none)));
+            (λ n none. other_kept parting cell rows s client k new_sessions keeps n (unconcerned client s.locks n (sym (ap (list_any (λ m. m == n)) instances) ∙ none)));
       }
 
   -- ---- who waits
 
-  waits_less : (q : ℕ) → waits_in cell rows s client k q (with_locks s puts).locks + told_of_all q (lapses_of s client) ≤ waits_in cell rows s client k q s.locks
-  waits_less q = lapsed_waits cell rows s client k q (λ locks instance lock sorted. sum_put q locks instance lock sorted) changed s.locks lapsing (own_changed s.locks (own_locks s.locks k.locks.in_order)) changed_in_order k.locks.in_order
+  waits_less : (q : ℕ) → waits_in parting cell rows s client k q (with_locks s puts).locks + told_of_all q (lapses_of parting s client) ≤ waits_in parting cell rows s client k q s.locks
+  waits_less q = lapsed_waits parting cell rows s client k q (λ locks instance lock sorted. sum_put q locks instance lock sorted) changed s.locks lapsing (own_changed s.locks (own_locks s.locks k.locks.in_order)) changed_in_order k.locks.in_order
     where
       own_changed : (es : LockTable) → AllByRecursion (λ (e : ℕ × LockState). lock_at s.locks e.0 ≡ e.1) es → AllByRecursion (λ (e : ℕ × LockState). lock_at s.locks e.0 ≡ e.1) (filter (λ (e : ℕ × LockState). concerns client e.1) es)
       own_changed [] h = tt
@@ -318,14 +320,14 @@ module _ (cell : List ℕ) (rows : Rows) (s : MasterState) (k : IsKept cell rows
   one_then : AreOne s.gate.waiting (with_locks s puts).locks new_sessions
   one_then =
       one_same s.gate.waiting (with_locks s puts).locks s.sessions new_sessions (λ q. reads_step keeps_in s.sessions client of_session.ended (λ before. refl) q)
-      (λ q. still_one (sum_by (call_count q) s.gate.waiting) (waits_in cell rows s client k q (with_locks s puts).locks) (told_of_all q (lapses_of s client)) (waits_in cell rows s client k q s.locks) (unanswered (kept_of s.sessions q)) (waits_less q) (k.one_call q))
+      (λ q. still_one (sum_by (call_count q) s.gate.waiting) (waits_in parting cell rows s client k q (with_locks s puts).locks) (told_of_all q (lapses_of parting s client)) (waits_in parting cell rows s client k q s.locks) (unanswered (kept_of s.sessions q)) (waits_less q) (k.one_call q))
 
   none_left : (gate new told old e : ℕ) → new + told ≤ old → gate + old ≤ e → e ≤ 1 → 1 ≤ told → gate + new ≡ 0
   none_left gate new told old e h l m n = omega (arith, h, l, m, n)
 
-  told_then_none : (q : ℕ) → 1 ≤ told_of_all q (lapses_of s client) → count_in s.gate.waiting (with_locks s puts).locks q ≡ 0
+  told_then_none : (q : ℕ) → 1 ≤ told_of_all q (lapses_of parting s client) → count_in s.gate.waiting (with_locks s puts).locks q ≡ 0
   told_then_none q some =
-      none_left (sum_by (call_count q) s.gate.waiting) (waits_in cell rows s client k q (with_locks s puts).locks) (told_of_all q (lapses_of s client)) (waits_in cell rows s client k q s.locks) (unanswered (kept_of s.sessions q)) (waits_less q) (k.one_call q) (at_most_one (is_unanswered (kept_of s.sessions q))) some
+      none_left (sum_by (call_count q) s.gate.waiting) (waits_in parting cell rows s client k q (with_locks s puts).locks) (told_of_all q (lapses_of parting s client)) (waits_in parting cell rows s client k q s.locks) (unanswered (kept_of s.sessions q)) (waits_less q) (k.one_call q) (at_most_one (is_unanswered (kept_of s.sessions q))) some
 
   names_then : IsStrictlySortedBy (slice_cmp nat_cmp) (keys_of ended_rows.nodes)
   names_then = names_stay cell rows s puts k are_puts apart
@@ -355,10 +357,20 @@ module _ (cell : List ℕ) (rows : Rows) (s : MasterState) (k : IsKept cell rows
     own = k.own;
   }
 
-  pub expired_kept : IsKept cell (changed_rows rows (relocking s puts ++ PutSession client put ∷ [])) (told (with_locks (expired s client) puts) (lapses_replies s (lapses_of s client)))
-  expired_kept =
-      let P : Rows → Type 0 = λ r. IsKept cell r (told (with_locks (expired s client) puts) (lapses_replies s (lapses_of s client))) in
+  less_none : (gate new told old : ℕ) → new + told ≤ old → gate + old ≡ 0 → gate + new ≡ 0
+  less_none gate new told old h l = omega (arith, h, l)
+
+  -- its client waits for nothing then, if it waited for nothing before
+  pub waits_for_none : count_in s.gate.waiting s.locks client ≡ 0 → outstanding (with_locks (parted parting s client) puts) client ≡ 0
+  waits_for_none none =
+      less_none (sum_by (call_count client) s.gate.waiting) (waits_in parting cell rows s client k client (with_locks s puts).locks) (told_of_all client (lapses_of parting s client)) (waits_in parting cell rows s client k client s.locks) (waits_less client) none
+
+  pub without_session_kept : (own : List Reply) → AreTo (λ q. outstanding (with_locks (parted parting s client) puts) q ≡ 0) own → IsKept cell (changed_rows rows (parting_edits parting s client session.principal)) (without_session parting s client own)
+  without_session_kept own waits =
+      let P : Rows → Type 0 = λ r. IsKept cell r (without_session parting s client own) in
+      let Q : ℕ → Type 0 = λ q. outstanding (with_locks (parted parting s client) puts) q ≡ 0 in
+      let others : List Reply = lapses_replies s (lapses_of parting s client) in
       subst P (sym ended_is)
-      (told_kept cell ended_rows (lapses_replies s (lapses_of s client)) (with_locks (expired s client) puts)
-      (lapses_replies_are_to (λ q. outstanding (with_locks (expired s client) puts) q ≡ 0) s (lapses_of s client) told_then_none)
-      (ended_kept cell ended_rows (record (with_locks s puts) { sessions = new_sessions }) client endings.Expiry ended_kept_beside))
+      (told_kept cell ended_rows (own ++ others) (with_locks (parted parting s client) puts)
+      (all_append (λ (reply : Reply). Q reply.client) own others waits (lapses_replies_are_to Q s (lapses_of parting s client) told_then_none))
+      (ended_kept cell ended_rows (record (with_locks s puts) { sessions = new_sessions }) client (ending_by parting) ended_kept_beside))

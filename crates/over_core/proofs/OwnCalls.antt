@@ -31,7 +31,7 @@ handle_own : (s : MasterState) (client : ℕ) (call : Call) (sequencer : Option 
 handle_own s client call sequencer bytes None is h = absurd cc
 handle_own s client call sequencer bytes (Some shown) is h = shown_own s client (read_handle s.secret bytes) shown is
 
--- an Open shows none
+-- an Open and a Leave show none
 no_handle : (secret : List ℕ) → read_handle secret [] ≡ None
 unfolding read_handle is_handle fields_of number_at
 no_handle secret = refl
@@ -46,6 +46,7 @@ checked_waits_never s bytes (Some fault) h = cc
 pub own_call : (s : MasterState) (client number : ℕ) (call : Call) (sequencer : Option (List ℕ)) → (admission_of s client number call sequencer).answer ≡ None → IsOwnCall s.secret client (works.Calls call sequencer)
 own_call s client number (calls.Open opening) sequencer h = shows_none s.secret client
 own_call s client number (calls.CheckSequencer bytes) sequencer h = absurd (checked_waits_never s bytes (sequencer_fault (name_space s) sequencer) h)
+own_call s client number calls.Leave sequencer h = shows_none s.secret client
 own_call s client number (calls.Close bytes) sequencer h = handle_own s client (calls.Close bytes) sequencer bytes (shown_handle s client bytes) refl h
 own_call s client number (calls.Read bytes) sequencer h = handle_own s client (calls.Read bytes) sequencer bytes (shown_handle s client bytes) refl h
 own_call s client number (calls.Stat bytes) sequencer h = handle_own s client (calls.Stat bytes) sequencer bytes (shown_handle s client bytes) refl h

@@ -15,7 +15,7 @@ use Rattle.rights_core.specs.declared.grants.Grant.{Grant}
 use Rattle.rights_core.specs.declared.grants.Grant.TheVariants as grants
 use Rattle.rights_core.specs.Rights.{held_limit, count_held, is_held_at, answer_beside, grant_answer, with_granted, ended, numbers_ending, IsRecorded}
 use Rattle.rights_core.specs.Grants.{Told, rights_at, told_of, Tells}
-use Rattle.rights_core.proofs.ToldLines.{AreOfNoRight, both_of_no_right, told_both, same_rights, new_told, acked_told, expired_told, asked_told, AreOfEpoch, both_of_epoch, epoch_lines, numbered_lines, tells}
+use Rattle.rights_core.proofs.ToldLines.{AreOfNoRight, both_of_no_right, told_both, same_rights, new_told, acked_told, expired_told, asked_told, AreOfEpoch, both_of_epoch, epoch_lines, numbered_lines, tells, left_told, IsOfEpoch}
 use Rattle.lock_core.specs.declared.claims.Claim.{Claim}
 use Rattle.lock_core.specs.declared.turns.Lapse.{Lapse}
 use Rattle.lock_core.specs.declared.turns.Turn.{Turn}
@@ -28,10 +28,10 @@ use Rattle.cell_state.specs.State.{MasterState}
 use Rattle.cell_state.specs.Lookups.{granted_lines, repeated_reply, noted}
 use Rattle.cell_core.specs.Step.{queued, asking, asking_for, names_of, with_call, take_step}
 use Rattle.cell_core.specs.Cases.{TakeCase, taken_by}
-use Rattle.cell_core.specs.Cases.TakeCase.{StartRefused, OldBeat, BeatRefused, BeatParked, OldEpoch, NoSession, Repeated, OlderCall, Outstanding, Answered, Granted, Waits}
+use Rattle.cell_core.specs.Cases.TakeCase.{StartRefused, OldBeat, BeatRefused, BeatParked, OldEpoch, NoSession, LeftBefore, Repeated, OlderCall, Outstanding, Answered, Granted, Waits}
 use Rattle.cell_state.specs.Updates.{with_note}
 use Rattle.cell_state.specs.Replies.{locked_line, locked_lines, line_if}
-use Rattle.cell_state.specs.Lapses.{lapse_lines, lapses_lines, lapses_of}
+use Rattle.cell_state.specs.Lapses.{lapse_lines, lapses_lines, lapses_of, parting_lines}
 use Rattle.cell_core.specs.declared.effects.Leave.{Leave}
 use Rattle.cell_core.specs.Outcomes.{leave_lines}
 use Rattle.cell_core.proofs.TakeCases.{taken_case}
@@ -44,7 +44,10 @@ use Rattle.over_core.specs.Sweep.{sweep_step}
 use Rattle.over_core.proofs.KeptBySweeps.{sessions_ordered}
 use Rattle.over_core.proofs.SweepCases.{swept_case}
 use Rattle.over_core.specs.SweepCase.{SweepCase, swept_by}
-use Rattle.over_core.specs.SweepCase.SweepCase.{Recovers, Expires, Started, Reopens, Tidies, Tidied, Ended, Applied, Deleted, Locked, Left}
+use Rattle.over_core.specs.SweepCase.SweepCase.{Recovers, Expires, Started, Reopens, Tidies, Tidied, Ended, Applied, Deleted, Locked, Left, Departed}
+use Rattle.lock_core.specs.declared.partings.Parting.TheVariants as partings
+use Rattle.lock_core.specs.declared.partings.Parting.{Parting}
+use Rattle.cell_state.specs.Partings.{ending_by, right_line, lock_line}
 
 -- ---- lines of locks
 
@@ -64,17 +67,21 @@ left_of_no_right client leave =
     both_of_no_right (line_if leave.held (lines.Freed client leave.instance)) (locked_lines leave.instance leave.turn)
     (if_of_no_right leave.held (lines.Freed client leave.instance) (tt, tt)) (locked_of_no_right leave.instance leave.turn)
 
-lapse_of_no_right : (client : ℕ) (lapse : Lapse) → AreOfNoRight (lapse_lines client lapse)
-lapse_of_no_right client lapse =
-    let ends = line_if (not (is_nobody lapse.ended)) (lines.Lapsed client lapse.instance) in
+line_of_no_right : (parting : Parting) (client instance : ℕ) → AreOfNoRight (lock_line parting client instance ∷ [])
+line_of_no_right partings.Expiry client instance = (tt, tt)
+line_of_no_right partings.Leave client instance = (tt, tt)
+
+lapse_of_no_right : (parting : Parting) (client : ℕ) (lapse : Lapse) → AreOfNoRight (lapse_lines parting client lapse)
+lapse_of_no_right parting client lapse =
+    let ends = line_if (not (is_nobody lapse.ended)) (lock_line parting client lapse.instance) in
     let opens = line_if lapse.reopens (lines.Reopened lapse.instance) in
     both_of_no_right (ends ++ opens) (locked_lines lapse.instance lapse.turn)
-    (both_of_no_right ends opens (if_of_no_right (not (is_nobody lapse.ended)) (lines.Lapsed client lapse.instance) (tt, tt)) (if_of_no_right lapse.reopens (lines.Reopened lapse.instance) (tt, tt)))
+    (both_of_no_right ends opens (if_of_no_right (not (is_nobody lapse.ended)) (lock_line parting client lapse.instance) (line_of_no_right parting client lapse.instance)) (if_of_no_right lapse.reopens (lines.Reopened lapse.instance) (tt, tt)))
     (locked_of_no_right lapse.instance lapse.turn)
 
-lapses_of_no_right : (client : ℕ) (lapses : List Lapse) → AreOfNoRight (lapses_lines client lapses)
-lapses_of_no_right client [] = tt
-lapses_of_no_right client (lapse ∷ lapses) = both_of_no_right (lapse_lines client lapse) (lapses_lines client lapses) (lapse_of_no_right client lapse) (lapses_of_no_right client lapses)
+lapses_of_no_right : (parting : Parting) (client : ℕ) (lapses : List Lapse) → AreOfNoRight (lapses_lines parting client lapses)
+lapses_of_no_right parting client [] = tt
+lapses_of_no_right parting client (lapse ∷ lapses) = both_of_no_right (lapse_lines parting client lapse) (lapses_lines parting client lapses) (lapse_of_no_right parting client lapse) (lapses_of_no_right parting client lapses)
 
 -- ---- a grant
 
@@ -114,6 +121,7 @@ repeated_rights rights (Some reply) = refl
 
 pub take_told : (s : MasterState) (request : Request) (c : TakeCase s request) → IsRecorded s.rights → rights_at (map told_of s.rights) (taken_by s request c).1.lines ≡ Some (map told_of (taken_by s request c).0.rights)
 take_told s request (BeatParked beat is same taken) h = acked_told beat.client beat.invalidations s.rights h
+take_told s request (LeftBefore message kept is same ended found number) h = repeated_rights (map told_of s.rights) kept.reply
 take_told s request (Repeated message kept heard is same) h = repeated_rights (map told_of s.rights) kept.reply
 take_told s request (Answered message note answer new serving answered) h = ap (λ rights. Some (map told_of rights)) (sym (note_rights s note))
 take_told s request (Granted message note answer name new serving may) h =
@@ -127,13 +135,22 @@ take_told s request _ h = refl
 locks_told : (rights : List Told) (printed : List Line) → AreOfNoRight printed → rights_at rights printed ≡ Some rights
 locks_told rights printed none = same_rights rights printed none
 
-pub sweep_told : (s : MasterState) (c : SweepCase s) → IsRecorded s.rights → rights_at (map told_of s.rights) (swept_by s c).1.lines ≡ Some (map told_of (swept_by s c).0.rights)
-sweep_told s (Expires client session due) h =
-    let later = map told_of (ended client endings.Expiry s.rights) in
-    let others = lapses_lines client (lapses_of s client) in
-    let ends = map lines.Expired (numbers_ending client endings.Expiry s.rights) in
+-- of a session that ends
+rights_told : (parting : Parting) (client : ℕ) (rights : List CacheRight) → IsRecorded rights → rights_at (map told_of rights) (map (right_line parting) (numbers_ending client (ending_by parting) rights)) ≡ Some (map told_of (ended client (ending_by parting) rights))
+rights_told partings.Expiry client rights h = expired_told client rights h
+rights_told partings.Leave client rights h = left_told client rights h
+
+parting_told : (parting : Parting) (s : MasterState) (client : ℕ) → IsRecorded s.rights → rights_at (map told_of s.rights) (parting_lines parting s client (lapses_of parting s client)) ≡ Some (map told_of (ended client (ending_by parting) s.rights))
+parting_told parting s client h =
+    let later = map told_of (ended client (ending_by parting) s.rights) in
+    let others = lapses_lines parting client (lapses_of parting s client) in
+    let ends = map (right_line parting) (numbers_ending client (ending_by parting) s.rights) in
     told_both (map told_of s.rights) later later (ends ++ others) (lines.Ended client ∷ [])
-    (told_both (map told_of s.rights) later later ends others (expired_told client s.rights h) (locks_told later others (lapses_of_no_right client (lapses_of s client)))) refl
+    (told_both (map told_of s.rights) later later ends others (rights_told parting client s.rights h) (locks_told later others (lapses_of_no_right parting client (lapses_of parting s client)))) refl
+
+pub sweep_told : (s : MasterState) (c : SweepCase s) → IsRecorded s.rights → rights_at (map told_of s.rights) (swept_by s c).1.lines ≡ Some (map told_of (swept_by s c).0.rights)
+sweep_told s (Expires client session due) h = parting_told partings.Expiry s client h
+sweep_told s (Departed front back asked call sequencer session turn work leave found live) h = parting_told partings.Leave s asked.client h
 sweep_told s (Reopens instance due) h =
     let turn = reopened (lock_at s.locks instance) in
     locks_told (map told_of s.rights) (lines.Reopened instance ∷ locked_lines instance turn) (tt, locked_of_no_right instance turn)
@@ -167,16 +184,25 @@ take_of_epoch s request (NoSession message is same ended) = (tt, tt)
 take_of_epoch s request (OlderCall message kept heard is less) = (tt, tt)
 take_of_epoch s request (Outstanding message kept heard is more none) = (tt, tt)
 take_of_epoch s request (BeatParked beat is same taken) = numbered_lines lines.Acked (λ number. tt) (numbers_ending beat.client (endings.Acknowledgement beat.invalidations) s.rights)
+take_of_epoch s request (LeftBefore message kept is same ended found number) = repeated_of_epoch kept.reply
 take_of_epoch s request (Repeated message kept heard is same) = repeated_of_epoch kept.reply
 take_of_epoch s request (Granted message note answer name new serving may) = granted_of_epoch message.client name (grant_answer message.client name (with_note s note).rights)
 take_of_epoch s request _ = tt
 
-sweep_of_epoch : (s : MasterState) (c : SweepCase s) → AreOfEpoch (swept_by s c).1.lines
-sweep_of_epoch s (Expires client session due) =
-    let ends = map lines.Expired (numbers_ending client endings.Expiry s.rights) in
-    let others = lapses_lines client (lapses_of s client) in
+right_of_epoch : (parting : Parting) (number : ℕ) → IsOfEpoch (right_line parting number)
+right_of_epoch partings.Expiry number = tt
+right_of_epoch partings.Leave number = tt
+
+parting_of_epoch : (parting : Parting) (s : MasterState) (client : ℕ) → AreOfEpoch (parting_lines parting s client (lapses_of parting s client))
+parting_of_epoch parting s client =
+    let ends = map (right_line parting) (numbers_ending client (ending_by parting) s.rights) in
+    let others = lapses_lines parting client (lapses_of parting s client) in
     both_of_epoch (ends ++ others) (lines.Ended client ∷ [])
-    (both_of_epoch ends others (numbered_lines lines.Expired (λ number. tt) (numbers_ending client endings.Expiry s.rights)) (epoch_lines others (lapses_of_no_right client (lapses_of s client)))) (tt, tt)
+    (both_of_epoch ends others (numbered_lines (right_line parting) (right_of_epoch parting) (numbers_ending client (ending_by parting) s.rights)) (epoch_lines others (lapses_of_no_right parting client (lapses_of parting s client)))) (tt, tt)
+
+sweep_of_epoch : (s : MasterState) (c : SweepCase s) → AreOfEpoch (swept_by s c).1.lines
+sweep_of_epoch s (Expires client session due) = parting_of_epoch partings.Expiry s client
+sweep_of_epoch s (Departed front back asked call sequencer session turn work leave found live) = parting_of_epoch partings.Leave s asked.client
 sweep_of_epoch s (Recovers recovering heard) = (tt, tt)
 sweep_of_epoch s (Reopens instance due) =
     let turn = reopened (lock_at s.locks instance) in (tt, epoch_lines (locked_lines instance turn) (locked_of_no_right instance turn))

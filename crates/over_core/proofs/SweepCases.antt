@@ -1,5 +1,5 @@
 -- The arm of the table that a sweep takes.
-use Rattle.std.proofs.Common.{◌≡◌, ℕ, ◌≤◌, ◌<◌, List, [], ◌∷◌, ◌++◌, Bool, true, false, cond, Option, Some, None, Result, Ok, Err, refl, sym, ap, ◌∙◌, subst, eqb, arith}
+use Rattle.std.proofs.Common.{◌≡◌, ℕ, ◌≤◌, ◌<◌, List, [], ◌∷◌, ◌++◌, Bool, true, false, cond, Option, Some, None, Result, Ok, Err, refl, sym, ap, ◌∙◌, subst, eqb, arith, ◌⊎◌, inl, inr}
 use Rattle.std.specs.Prelude.{◌&&◌, ◌||◌, not, nat_le, find}
 use Rattle.std.specs.Option.{option_map, option_map_or, option_and_then}
 use Rattle.std.specs.List.Sorted.{IsStrictlySortedBy}
@@ -23,7 +23,7 @@ use Rattle.gate_core.specs.Gate.{AreRising, IsOrderly, is_free, without}
 use Rattle.session_core.specs.declared.records.Offer.{Offer}
 use Rattle.session_core.specs.declared.records.Parked.{Parked}
 use Rattle.session_core.specs.declared.records.Session.{Session}
-use Rattle.session_core.specs.Session.{is_client_expired, is_client_due, is_due, is_given_up, owes, nears_end, offer_to}
+use Rattle.session_core.specs.Session.{is_client_expired, is_client_due, is_client_answerable, is_answerable, is_expired, is_due, is_given_up, owes, nears_end, offer_to}
 use Rattle.session_core.specs.Sessions.{all_heard, lowest, passes, offer_of}
 use Rattle.session_core.proofs.Lowest.{lowest_is}
 use Rattle.lock_core.specs.declared.claims.Claim.{Claim}
@@ -45,8 +45,8 @@ use Rattle.cell_state.specs.Updates.{edits_of}
 use Rattle.cell_core.specs.Ephemerals.{next_idle, is_still_idle}
 use Rattle.cell_parts.specs.declared.notices.Telling.{Telling}
 use Rattle.cell_core.specs.Effect.{effect, gone_by_itself}
-use Rattle.over_core.specs.Plans.{tellings_of, no_update, no_plan, session_plan, alive_out, leaving, plan_session, plan_start, plan_effect, plan_asked, plan_call, plan_of, plan_work, plan_task, expiry_plan, answer_or_quiet, tidy_or_later, reopen_or_later, apply_or_later, first_action}
-use Rattle.over_core.specs.Sweep.{swept_by_plan, acted, telling, swept, action_edits, is_over, sweep_edits, sweep_step}
+use Rattle.over_core.specs.Plans.{tellings_of, no_update, no_plan, session_plan, alive_out, leaving, plan_session, plan_start, plan_effect, plan_asked, plan_call, plan_of, plan_work, plan_task, answer_or_quiet, tidy_or_later, reopen_or_later, apply_or_later, first_action, parting_plan, plan_leave, plan_live}
+use Rattle.over_core.specs.Sweep.{is_quiet, beats_action, beats_answered, beats_step, swept_by_plan, acted, telling, swept, action_edits, is_over, sweep_edits, sweep_step}
 use Rattle.cell_core.specs.declared.effects.Effect.{Effect}
 use Rattle.cell_core.specs.declared.effects.Leave.{Leave}
 use Rattle.over_core.specs.declared.actions.Action.{Action}
@@ -54,12 +54,18 @@ use Rattle.over_core.specs.declared.actions.Action.TheVariants as actions
 use Rattle.over_core.specs.declared.plans.Plan.{Plan}
 use Rattle.over_core.specs.declared.swept.Swept.{Swept}
 use Rattle.cell_core.specs.Outcomes.{left_put}
-use Rattle.cell_state.specs.Replies.{puts_of}
-use Rattle.cell_state.specs.Lapses.{lapses_of}
-use Rattle.over_core.specs.SweepCase.{IsNextApplied, IsDueToEnd, IsDue, SweepCase, swept_by, relocking, swept_edits}
-use Rattle.over_core.specs.SweepCase.SweepCase.{Quiet, Recovers, Expires, AnswersBeat, TurnedAway, StartedAgain, Started, Reopens, Tidies, Spared, Tidied, OfEnded, Ended, Applied, Deleted, Locked, Awaited, Left}
+use Rattle.cell_state.specs.Replies.{puts_of, replies_to, reply_to, turn_replies}
+use Rattle.cell_state.specs.Lapses.{lapses_of, lapses_puts, lapses_replies}
+use Rattle.over_core.specs.SweepCase.{IsNextApplied, IsDueToEnd, IsDue, SweepCase, swept_by, relocking, swept_edits, rest, parting_edits, left_reply}
+use Rattle.over_core.specs.SweepCase.SweepCase.{Quiet, Recovers, Expires, Departed, AnswersBeat, TurnedAway, StartedAgain, Started, Reopens, Tidies, Spared, Tidied, OfEnded, Ended, Applied, Deleted, Locked, Awaited, Left}
 use Rattle.cell_core.proofs.EffectShapes.{Shape, effect_by, shape_of}
 use Rattle.cell_core.proofs.EffectShapes.Shape.{Ends, Applies, Deletes, Locks, Awaits, Leaves}
+use Rattle.lock_core.specs.declared.partings.Parting.TheVariants as partings
+use Rattle.lock_core.specs.declared.turns.Turn.{Turn}
+use Rattle.lock_core.specs.declared.turns.Lapse.{Lapse}
+use Rattle.tags_cell.specs.Messages.{is_leave}
+use Rattle.rows_cell.specs.declared.tables.Edit.TheVariants.{PutSession}
+use Rattle.tags_cell.specs.declared.messages.outs.CallResult.TheVariants as results
 
 -- one of the cases is what is done, and committed
 abbrev pub IsSwept : (s : MasterState) → MasterState × Swept → List Edit → Type 0
@@ -83,6 +89,32 @@ bare edits = append-nil (edits ++ []) ∙ append-nil edits
 
 itself : (n : ℕ) → eqb n n ≡ true
 itself n = grind (arith, nat_tests)
+
+-- ---- what stands without the change that has its turn
+
+-- the locks of a client, and who is answered of them, are the same
+pub rest_puts : (s : MasterState) (front back : List (Waiting Task)) (lapses : List Lapse) → lapses_puts (rest s front back) lapses ≡ lapses_puts s lapses
+rest_puts s front back [] = refl
+rest_puts s front back (lapse ∷ lapses) = ap (λ (puts : List LockPut). puts_of s lapse.instance lapse.turn.lock ++ puts) (rest_puts s front back lapses)
+
+rest_to : (s : MasterState) (front back : List (Waiting Task)) (answer : CallResult) (claims : List Claim) → replies_to (rest s front back) answer claims ≡ replies_to s answer claims
+rest_to s front back answer [] = refl
+rest_to s front back answer (claim ∷ claims) = ap (λ (replies : List Reply). reply_to s answer claim.owner.client ++ replies) (rest_to s front back answer claims)
+
+rest_turn : (s : MasterState) (front back : List (Waiting Task)) (turn : Turn) → turn_replies (rest s front back) turn ≡ turn_replies s turn
+rest_turn s front back turn =
+    ap (λ (replies : List Reply). replies ++ replies_to (rest s front back) (results.Refused faults.Exhausted) turn.exhausted) (rest_to s front back results.Done turn.granted)
+    ∙ ap (λ (replies : List Reply). replies_to s results.Done turn.granted ++ replies) (rest_to s front back (results.Refused faults.Exhausted) turn.exhausted)
+
+pub rest_replies : (s : MasterState) (front back : List (Waiting Task)) (lapses : List Lapse) → lapses_replies (rest s front back) lapses ≡ lapses_replies s lapses
+rest_replies s front back [] = refl
+rest_replies s front back (lapse ∷ lapses) =
+    ap (λ (replies : List Reply). replies ++ lapses_replies (rest s front back) lapses) (rest_turn s front back lapse.turn)
+    ∙ ap (λ (replies : List Reply). turn_replies s lapse.turn ++ replies) (rest_replies s front back lapses)
+
+pub rest_edits : (s : MasterState) (front back : List (Waiting Task)) (client : ℕ) (principal : List ℕ) → parting_edits partings.Leave (rest s front back) client principal ≡ parting_edits partings.Leave s client principal
+rest_edits s front back client principal =
+    ap (λ (puts : List LockPut). relocking s puts ++ PutSession client (record { principal = principal; live = false }) ∷ []) (rest_puts s front back (lapses_of partings.Leave s client))
 
 -- ---- a client's session
 
@@ -219,10 +251,24 @@ module _ (s : MasterState) (front : List (Waiting Task)) (w : Waiting Task) (bac
       let P : Effect → Type 0 = λ effected. IsPlan s w.number (plan_effect s asked.client asked.number effected) in
       subst P (sym t.1) (shape_case call sequencer t.0 work live t.1)
 
+  -- what is planned where the client ends its session
+  departed_case : (call : Call) (sequencer : Option (List ℕ)) → asked.work ≡ works.Calls call sequencer → is_leave call ≡ true → is_live s asked.client ≡ true → IsPlan s w.number (plan_leave s asked.client asked.number)
+  departed_case call sequencer work leave live =
+      let t = some_passes (λ session. session.live) (session_of s asked.client) live in
+      let own : List Reply = left_reply s asked ∷ [] in
+      let lapses : List Lapse = lapses_of partings.Leave s asked.client in
+      let P : Option (Session Reply) → Type 0 = λ o. IsPlan s w.number (option_map_or (λ (session : Session Reply). parting_plan partings.Leave s asked.client session.principal lapses own) o no_plan) in
+      subst P (sym t.1) (Departed front back asked call sequencer t.0 turn work leave t.1 t.2, rw behind refl, append-nil (parting_edits partings.Leave s asked.client t.0.principal))
+
+  live_case : (call : Call) (sequencer : Option (List ℕ)) → asked.work ≡ works.Calls call sequencer → is_live s asked.client ≡ true → IsPlan s w.number (plan_live s asked.client asked.number call sequencer)
+  live_case call sequencer work live =
+      either s w.number (is_leave call) (plan_leave s asked.client asked.number) (plan_asked s asked.client asked.number call (effect (name_space s) (caller s asked.client) s.clock asked.number call sequencer))
+      (λ leave. departed_case call sequencer work leave live) (λ other. effect_case call sequencer work live)
+
   call_case : (call : Call) (sequencer : Option (List ℕ)) → asked.work ≡ works.Calls call sequencer → IsPlan s w.number (plan_call s asked.client asked.number call sequencer)
   call_case call sequencer work =
       let client = asked.client in
-      either s w.number (is_live s client) (plan_asked s client asked.number call (effect (name_space s) (caller s client) s.clock asked.number call sequencer)) no_plan (effect_case call sequencer work)
+      either s w.number (is_live s client) (plan_live s client asked.number call sequencer) no_plan (live_case call sequencer work)
       (λ gone. (OfEnded front back asked call sequencer turn work gone, rw behind refl, refl))
 
   work_case : (work : Work) → asked.work ≡ work → IsPlan s w.number (plan_work s asked.client asked.number work)
@@ -263,15 +309,29 @@ parked_of lease now client session (Some beat) is h =
     let due : (session.live && (not (is_given_up lease beat session) && (owes session || nears_end lease now session))) ≡ true = rw is at t.1 in
     (beat, is, (and_parts session.live (not (is_given_up lease beat session) && (owes session || nears_end lease now session)) due).0)
 
+-- what may be answered while the store refuses is due
+due_of : (lease now client : ℕ) (session : Session Reply) → is_client_answerable lease now client session ≡ true → is_client_due lease now client session ≡ true
+due_of lease now client session h =
+    let t = and_parts (is_client_number client) (is_answerable lease now session) h in
+    let u = and_parts (is_due lease now session) (not (is_expired now session)) t.1 in
+    let number : is_client_number client ≡ true = t.0 in
+    let due : is_due lease now session ≡ true = u.0 in
+    rw (number, due) refl
+
 over_at : (a b : ℕ) → nat_le a b ≡ true → a ≤ b
 over_at a b h = grind (arith, nat_tests)
 
 -- what is planned for a session, and what for none
 abbrev pub expiry_of : MasterState → ℕ → Option (Session Reply) → Plan
-expiry_of s client o = option_map_or (λ (session : Session Reply). expiry_plan s client session.principal (lapses_of s client)) o no_plan
+expiry_of s client o = option_map_or (λ (session : Session Reply). parting_plan partings.Expiry s client session.principal (lapses_of partings.Expiry s client) []) o no_plan
 
 abbrev pub answer_of : MasterState → ℕ → Option Offer → Plan
 answer_of s client o = option_map_or (λ offer. session_plan (Answers client) [] (alive_out s client offer ∷ [])) o no_plan
+
+-- an answer commits nothing
+answer_edits : (s : MasterState) (client : ℕ) (o : Option Offer) → [] ≡ edits_of s (answer_of s client o).update
+answer_edits s client None = refl
+answer_edits s client (Some offer) = refl
 
 module _ (s : MasterState) (order : HasSessionsInOrder s) (orderly : IsOrderly s.gate) where
   expire_case : (client : ℕ) → lowest s.sessions (is_client_expired s.clock) ≡ Some client → IsDone s (actions.Expire client)
@@ -284,18 +344,28 @@ module _ (s : MasterState) (order : HasSessionsInOrder s) (orderly : IsOrderly s
         ap (λ (o : Option (Session Reply)). edits_of s (expiry_of s client o).update) t.1 ∙ append-nil (swept_edits s (Expires client t.0 due)),
       )
 
-  answer_case : (client : ℕ) → lowest s.sessions (is_client_due s.sessions.lease s.clock) ≡ Some client → IsDone s (actions.Answer client)
-  answer_case client is =
-      let t = some_passes (is_client_due s.sessions.lease s.clock client) (session_of s client) (passed s (is_client_due s.sessions.lease s.clock) client order is) in
-      let u = parked_of s.sessions.lease s.clock client t.0 t.0.parked refl t.2 in
-      let due : IsDue s client t.0 u.0 = record { lowest_due = is; found = t.1; live = u.2; is_parked = u.1 } in
+  answer_by : (client : ℕ) (session : Session Reply) → (lowest s.sessions (is_client_due s.sessions.lease s.clock) ≡ Some client) ⊎ (lowest s.sessions (is_client_answerable s.sessions.lease s.clock) ≡ Some client) → session_of s client ≡ Some session → is_client_due s.sessions.lease s.clock client session ≡ true → IsDone s (actions.Answer client)
+  answer_by client session is found passes =
+      let u = parked_of s.sessions.lease s.clock client session session.parked refl passes in
+      let due : IsDue s client session u.0 = record { lowest_due = is; found = found; live = u.2; is_parked = u.1 } in
       let offered : offer_of s.sessions client s.clock ≡ Some (offer_to s.sessions.lease s.clock u.0) =
-      ap (λ (o : Option (Session Reply)). option_and_then (λ session. option_map (offer_to s.sessions.lease s.clock) session.parked) o) t.1
+      ap (λ (o : Option (Session Reply)). option_and_then (λ session. option_map (offer_to s.sessions.lease s.clock) session.parked) o) found
       ∙ ap (λ (o : Option Parked). option_map (offer_to s.sessions.lease s.clock) o) u.1 in (
-        AnswersBeat client t.0 u.0 due,
+        AnswersBeat client session u.0 due,
         ap (λ (o : Option Offer). swept_by_plan s (answer_of s client o) false) offered,
         ap (λ (o : Option Offer). edits_of s (answer_of s client o).update) offered,
       )
+
+  answer_case : (client : ℕ) → lowest s.sessions (is_client_due s.sessions.lease s.clock) ≡ Some client → IsDone s (actions.Answer client)
+  answer_case client is =
+      let t = some_passes (is_client_due s.sessions.lease s.clock client) (session_of s client) (passed s (is_client_due s.sessions.lease s.clock) client order is) in
+      answer_by client t.0 (inl is) t.1 t.2
+
+  -- the same where the store refuses
+  answerable_case : (client : ℕ) → lowest s.sessions (is_client_answerable s.sessions.lease s.clock) ≡ Some client → IsDone s (actions.Answer client)
+  answerable_case client is =
+      let t = some_passes (is_client_answerable s.sessions.lease s.clock client) (session_of s client) (passed s (is_client_answerable s.sessions.lease s.clock) client order is) in
+      answer_by client t.0 (inr is) t.1 (due_of s.sessions.lease s.clock client t.0 t.2)
 
   reopen_case : (instance : ℕ) → due s.locks s.clock ≡ Some instance → IsDone s (actions.Reopen instance)
   reopen_case instance is = (Reopens instance (record { lowest_due = is }), refl, bare (relocking s (puts_of s instance (reopened (lock_at s.locks instance)).lock)))
@@ -303,7 +373,7 @@ module _ (s : MasterState) (order : HasSessionsInOrder s) (orderly : IsOrderly s
   -- ---- the first action that there is
 
   late_case : (o : Option ℕ) → lowest s.sessions (is_client_due s.sessions.lease s.clock) ≡ o → next_idle s ≡ None → due s.locks s.clock ≡ None → next_change s ≡ None → lowest s.sessions (is_client_expired s.clock) ≡ None → (s.recovering && all_heard s.sessions) ≡ false → IsDone s (option_map_or actions.Answer o actions.Quiet)
-  late_case None parked kept closed none live going = (Quiet (rw (going, live, none, closed, kept, parked) refl), refl, refl)
+  late_case None parked kept closed none live going = (Quiet (inl (rw (going, live, none, closed, kept, parked) refl)), refl, refl)
   late_case (Some client) parked kept closed none live going = answer_case client parked
 
   idle_case : (o : Option Idle) → next_idle s ≡ o → due s.locks s.clock ≡ None → next_change s ≡ None → lowest s.sessions (is_client_expired s.clock) ≡ None → (s.recovering && all_heard s.sessions) ≡ false → IsDone s (option_map_or actions.Tidy o (answer_or_quiet s))
@@ -334,9 +404,12 @@ sweep_case s order orderly =
       | false ↦ (λ h. session_case s order orderly (lowest s.sessions (is_client_expired s.clock)) refl h)
     ]) refl
 
--- what the clients of open handles are told of the first action
+-- what the clients of open handles are told of an action, and of the first one
+abbrev pub action_tellings : MasterState → Action → List Telling
+action_tellings s action = tellings_of s (plan_of s action)
+
 abbrev pub first_tellings : MasterState → List Telling
-first_tellings s = tellings_of s (plan_of s (first_action s))
+first_tellings s = action_tellings s (first_action s)
 
 -- a sweep that is made does the first action that there is
 pub does_first : (s : MasterState) (now : ℕ) (p : MasterState × Swept) → sweep_step s now ≡ Ok p → swept (noted s now) (first_action (noted s now)) ≡ p
@@ -364,4 +437,47 @@ swept_case s new now told order orderly h =
           let is : swept there (first_action there) ≡ (new, told) = cc in
           let c = sweep_case there order orderly in
           (c.0, sym is ∙ ap (telling (first_tellings there)) c.1, c.2))
+    ]) h
+
+-- ---- what is answered while the store refuses
+
+beats_case : (s : MasterState) → HasSessionsInOrder s → IsOrderly s.gate → IsSwept s (swept_by_plan s (plan_of s (beats_action s)) (is_quiet (beats_action s))) []
+beats_case s order orderly =
+    (elim (lowest s.sessions (is_client_answerable s.sessions.lease s.clock)) as (λ o. lowest s.sessions (is_client_answerable s.sessions.lease s.clock) ≡ o → IsSwept s (swept_by_plan s (plan_of s (option_map_or actions.Answer o actions.Quiet)) (is_quiet (option_map_or actions.Answer o actions.Quiet))) []) [
+      | None ↦ (λ h. (Quiet (inr (ap (λ o. option_map_or actions.Answer o actions.Quiet) h)), refl, refl))
+      | Some client ↦ (λ h. let c = answerable_case s order orderly client h in (c.0, c.1, answer_edits s client (offer_of s.sessions client s.clock) ∙ c.2))
+    ]) refl
+
+-- one of the cases is what is done, and nothing is committed
+abbrev pub IsAnsweredAndTold : (s : MasterState) → MasterState × Swept → Type 0
+IsAnsweredAndTold s p = (c : SweepCase s) × (p ≡ telling (action_tellings s (beats_action s)) (swept_by s c)) × ([] ≡ swept_edits s c) × ((swept_by s c).0.nodes ≡ (acted s (beats_action s)).0.nodes) × ((swept_by s c).1.lines ≡ [])
+
+-- nothing is printed
+answer_silent : (s : MasterState) (client : ℕ) (o : Option Offer) → (answer_of s client o).taken.lines ≡ []
+answer_silent s client None = refl
+answer_silent s client (Some offer) = refl
+
+beats_silent : (s : MasterState) (o : Option ℕ) → (plan_of s (option_map_or actions.Answer o actions.Quiet)).taken.lines ≡ []
+beats_silent s None = refl
+beats_silent s (Some client) = answer_silent s client (offer_of s.sessions client s.clock)
+
+pub not_tidied : (s : MasterState) (o : Option ℕ) → swept_by_plan s (plan_of s (option_map_or actions.Answer o actions.Quiet)) (is_quiet (option_map_or actions.Answer o actions.Quiet)) ≡ acted s (option_map_or actions.Answer o actions.Quiet)
+not_tidied s None = refl
+not_tidied s (Some client) = refl
+
+pub answered_case : (s new : MasterState) (now : ℕ) (told : Swept) → HasSessionsInOrder s → IsOrderly s.gate → beats_step s now ≡ Ok (new, told) → IsAnsweredAndTold (noted s now) (new, told)
+unfolding beats_step
+answered_case s new now told order orderly h =
+    let there = noted s now in
+    (elim (is_over s now) as (λ b. cond {A = Result (MasterState × Swept) Fault} b (Err faults.Exhausted) (Ok (beats_answered there)) ≡ Ok (new, told) → IsAnsweredAndTold there (new, told)) [
+      | true ↦ (λ e. cc)
+      | false ↦ (λ e.
+          let is : beats_answered there ≡ (new, told) = cc in
+          let c = beats_case there order orderly in (
+            c.0,
+            sym is ∙ ap (telling (action_tellings there (beats_action there))) c.1,
+            c.2,
+            ap (λ (p : MasterState × Swept). p.0.nodes) (sym c.1 ∙ not_tidied there (lowest there.sessions (is_client_answerable there.sessions.lease there.clock))),
+            ap (λ (p : MasterState × Swept). p.1.lines) (sym c.1) ∙ beats_silent there (lowest there.sessions (is_client_answerable there.sessions.lease there.clock)),
+          ))
     ]) h

@@ -15,7 +15,7 @@ use Rattle.over_core.specs.declared.actions.Action.{Action}
 use Rattle.over_core.specs.declared.actions.Action.TheVariants.{Tidy}
 use Rattle.over_core.specs.declared.swept.Swept.{Swept}
 use Rattle.over_core.specs.Plans.{tellings_of, first_action, no_plan}
-use Rattle.over_core.specs.Sweep.{telling, swept, is_over, sweep_step}
+use Rattle.over_core.specs.Sweep.{telling, swept, is_over, sweep_step, beats_answered, beats_step}
 
 -- of nothing nobody is told
 tells_nobody : (s : MasterState) (handles : List (HandleKey × HandleState)) → filter_map (telling_by s None []) handles ≡ []
@@ -43,3 +43,11 @@ stepped s there new now over result is going moment h =
     let P : MasterState → Type 0 = λ m. swept m (first_action m) ≡ (new, result) in
     let ends : swept (noted s now) (first_action (noted s now)) ≡ (new, result) = subst P moment h in
     ap (λ b. cond {A = Result (MasterState × Swept) Fault} b (Err faults.Exhausted) (Ok (swept (noted s now) (first_action (noted s now))))) (sym is ∙ going) ∙ ap Ok ends
+
+-- the same of what is answered while the store refuses
+pub answered_so : (s there new : MasterState) (now : ℕ) (over : Bool) (result : Swept) → over ≡ is_over s now → over ≡ false → there ≡ noted s now → beats_answered there ≡ (new, result) → beats_step s now ≡ Ok (new, result)
+unfolding beats_step
+answered_so s there new now over result is going moment h =
+    let P : MasterState → Type 0 = λ m. beats_answered m ≡ (new, result) in
+    let ends : beats_answered (noted s now) ≡ (new, result) = subst P moment h in
+    ap (λ b. cond {A = Result (MasterState × Swept) Fault} b (Err faults.Exhausted) (Ok (beats_answered (noted s now)))) (sym is ∙ going) ∙ ap Ok ends

@@ -174,6 +174,7 @@ module _ (s : MasterState) where
   node_touches handle (calls.GetSequencer bytes) node here = tt
   node_touches handle (calls.SetSequencer bytes) node here = tt
   node_touches handle (calls.CheckSequencer bytes) node here = tt
+  node_touches handle calls.Leave node here = tt
 
   -- what would be answered at once changes nothing
   answered_touches : (handle : Handle) (call : Call) (o : Option CallResult) → Touches (touched_by handle call) (option_map_or (λ answer. answered answer) o (change_on (name_space s) s.clock handle call))

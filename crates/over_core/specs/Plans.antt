@@ -11,11 +11,13 @@ use Rattle.std.specs.Option.{option_map_or}
 use Rattle.node_core.specs.declared.lines.Line.{Line}
 use Rattle.tags_cell.specs.declared.messages.beats.Invalidation.{Invalidation}
 use Rattle.tags_cell.specs.declared.messages.outs.Out.{Out}
+use Rattle.tags_cell.specs.declared.messages.outs.Reply.{Reply}
 use Rattle.tags_cell.specs.declared.messages.calls.Call.{Call}
 use Rattle.rights_core.specs.Rights.{unacked_of}
 use Rattle.session_core.specs.declared.records.Offer.{Offer}
 use Rattle.session_core.specs.Session.{is_client_expired, is_client_due, offered_span}
 use Rattle.session_core.specs.Sessions.{unacked_events, all_heard, lowest, offer_of}
+use Rattle.lock_core.specs.declared.partings.Parting.{Parting}
 use Rattle.lock_core.specs.declared.turns.Turn.{Turn}
 use Rattle.lock_core.specs.declared.turns.Lapse.{Lapse}
 use Rattle.lock_core.specs.Turns.{reopened}
@@ -27,19 +29,22 @@ use Rattle.cell_core.specs.declared.effects.Effect.{Effect}
 use Rattle.cell_parts.specs.declared.pending.Idle.{Idle}
 use Rattle.cell_parts.specs.declared.pending.Task.{Task}
 use Rattle.cell_parts.specs.declared.pending.Work.{Work}
-use Rattle.cell_state.specs.Lookups.{session_of, may_start, is_live, nothing, turned_away}
+use Rattle.cell_state.specs.Lookups.{session_of, may_start, is_live, nothing, turned_away, reply_of}
+use Rattle.tags_cell.specs.Messages.{is_leave}
 use Rattle.cell_core.specs.Ephemerals.{next_idle, is_still_idle}
 use Rattle.cell_core.specs.Effect.{effect, gone_by_itself}
 use Rattle.over_core.specs.declared.actions.Action.{Action}
 use Rattle.over_core.specs.declared.actions.Action.TheVariants.{Recover, Expire, Apply, Reopen, Tidy, Answer, Quiet}
 use Rattle.cell_state.specs.Replies.{kept_puts, sent, turn_replies, locked_lines, puts_of}
 use Rattle.cell_core.specs.Outcomes.{locking_lines, locking_puts, lock_ended, applied_lines, effect_replies}
-use Rattle.cell_state.specs.Lapses.{lapses_replies, lapses_puts, lapses_of, expiry_lines}
+use Rattle.cell_state.specs.Lapses.{lapses_replies, lapses_puts, lapses_of, parting_lines}
 use Rattle.node_core.specs.declared.refusals.Fault.TheVariants as faults
 use Rattle.node_core.specs.declared.lines.Line.TheVariants as lines
 use Rattle.tags_cell.specs.declared.messages.outs.Out.TheVariants as outs
+use Rattle.tags_cell.specs.declared.messages.outs.CallResult.TheVariants as results
 use Rattle.cell_parts.specs.declared.pending.Task.TheVariants as tasks
 use Rattle.cell_parts.specs.declared.pending.Work.TheVariants as works
+use Rattle.lock_core.specs.declared.partings.Parting.TheVariants as partings
 
 -- ---- who is told
 
@@ -133,10 +138,43 @@ contesting s call effected plan = record plan { contested = contested_by s call 
 abbrev pub plan_asked : MasterState → ℕ → ℕ → Call → Effect → Plan
 plan_asked s client number call effected = contesting s call effected (plan_effect s client number effected)
 
+-- ---- the end of a session
+
+-- it is put as ended, holds no right any more, and lets its locks go; its client is answered first, where it has asked for that
+abbrev pub parting_plan : Parting → MasterState → ℕ → List ℕ → List Lapse → List Reply → Plan
+parting_plan parting s client principal ended own = record {
+  update =
+      record no_update {
+        session = Some (Ends client principal parting);
+        kept = kept_puts (own ++ lapses_replies s ended);
+        locks = lapses_puts s ended;
+      };
+  taken = record { lines = parting_lines parting s client ended; outs = sent (own ++ lapses_replies s ended) };
+  contested = None;
+}
+
+abbrev pub plan_parting : Parting → MasterState → ℕ → List Reply → Plan
+plan_parting parting s client own =
+    option_map_or (λ session. parting_plan parting s client session.principal (lapses_of parting s client) own) (session_of s client) no_plan
+
+abbrev pub plan_expiry : MasterState → ℕ → Plan
+plan_expiry s client = plan_parting partings.Expiry s client []
+
+-- the client ends its session
+abbrev pub plan_leave : MasterState → ℕ → ℕ → Plan
+plan_leave s client number = plan_parting partings.Leave s client (reply_of s client number results.Done ∷ [])
+
+-- ---- a call's turn
+
+abbrev pub plan_live : MasterState → ℕ → ℕ → Call → Option (List ℕ) → Plan
+plan_live s client number call sequencer =
+    if is_leave call then plan_leave s client number
+    else plan_asked s client number call (effect (name_space s) (caller s client) s.clock number call sequencer)
+
 -- a call of a session that has ended changes nothing, and sends nothing
 abbrev pub plan_call : MasterState → ℕ → ℕ → Call → Option (List ℕ) → Plan
 plan_call s client number call sequencer =
-    if is_live s client then plan_asked s client number call (effect (name_space s) (caller s client) s.clock number call sequencer) else no_plan
+    if is_live s client then plan_live s client number call sequencer else no_plan
 
 abbrev pub plan_work : MasterState → ℕ → ℕ → Work → Plan
 plan_work s client number (works.Starts principal received) = plan_start s client number principal received
@@ -155,23 +193,7 @@ plan_task s (tasks.Tidies idle) = plan_tidied s idle
 abbrev pub leaving : ℕ → Plan → Plan
 leaving number plan = record plan { update = record plan.update { leaves = Some number } }
 
--- ---- sessions
-
-abbrev pub expiry_plan : MasterState → ℕ → List ℕ → List Lapse → Plan
-expiry_plan s client principal ended = record {
-  update =
-      record no_update {
-        session = Some (Ends client principal);
-        kept = kept_puts (lapses_replies s ended);
-        locks = lapses_puts s ended;
-      };
-  taken = record { lines = expiry_lines s client ended; outs = sent (lapses_replies s ended) };
-  contested = None;
-}
-
--- it is put as ended
-abbrev pub plan_expiry : MasterState → ℕ → Plan
-plan_expiry s client = option_map_or (λ session. expiry_plan s client session.principal (lapses_of s client)) (session_of s client) no_plan
+-- ---- locks and Beats
 
 abbrev pub reopen_plan : MasterState → ℕ → Turn → Plan
 reopen_plan s instance turn = record {

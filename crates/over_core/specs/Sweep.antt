@@ -7,13 +7,15 @@ use Rattle.cell_state.specs.State.{MasterState}
 use Rattle.over_core.specs.declared.plans.Plan.{Plan}
 use Rattle.node_core.specs.declared.refusals.Fault.{Fault}
 use Rattle.rows_cell.specs.declared.tables.Edit.{Edit}
-use Rattle.session_core.specs.Sessions.{has_spent_events}
+use Rattle.std.specs.Option.{option_map_or}
+use Rattle.session_core.specs.Session.{is_client_answerable}
+use Rattle.session_core.specs.Sessions.{has_spent_events, lowest}
 use Rattle.cell_state.specs.Lookups.{noted}
 use Rattle.cell_core.specs.Step.{is_past_end}
 use Rattle.cell_state.specs.Updates.{done, edits_of}
 use Rattle.cell_core.specs.Ephemerals.{tidied}
 use Rattle.over_core.specs.declared.actions.Action.{Action}
-use Rattle.over_core.specs.declared.actions.Action.TheVariants.{Tidy, Quiet}
+use Rattle.over_core.specs.declared.actions.Action.TheVariants.{Tidy, Answer, Quiet}
 use Rattle.over_core.specs.declared.swept.Swept.{Swept}
 use Rattle.over_core.specs.Plans.{tellings_of, first_action, plan_of}
 use Rattle.node_core.specs.declared.refusals.Fault.TheVariants as faults
@@ -61,3 +63,16 @@ sweep_edits s now = if is_over s now then [] else action_edits (noted s now) (fi
 
 unfoldable pub sweep_step : MasterState → ℕ → Result (MasterState × Swept) Fault
 sweep_step s now = if is_over s now then Err faults.Exhausted else Ok (swept (noted s now) (first_action (noted s now)))
+
+-- ---- what is answered though nothing can be committed
+
+-- the lowest client's parked Beat that is due, where the session's timeout hasn't come: a sweep that can't commit the end of one isn't to keep it alive
+abbrev pub beats_action : MasterState → Action
+beats_action s = option_map_or Answer (lowest s.sessions (is_client_answerable s.sessions.lease s.clock)) Quiet
+
+-- it commits nothing
+abbrev pub beats_answered : MasterState → MasterState × Swept
+beats_answered s = done_and_told s (plan_of s (beats_action s)) (is_quiet (beats_action s))
+
+unfoldable pub beats_step : MasterState → ℕ → Result (MasterState × Swept) Fault
+beats_step s now = if is_over s now then Err faults.Exhausted else Ok (beats_answered (noted s now))

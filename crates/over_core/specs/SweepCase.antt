@@ -1,5 +1,5 @@
 -- By which arm of its table a master sweeps. Each law of it is a match on these.
-use Rattle.std.specs.Prelude.{◌≡◌, ℕ, ◌+◌, ◌≤◌, true, false, List, [], ◌∷◌, ◌++◌, Option, Some, None}
+use Rattle.std.specs.Prelude.{◌≡◌, ◌⊎◌, ℕ, ◌+◌, ◌≤◌, true, false, List, [], ◌∷◌, ◌++◌, Option, Some, None}
 use Rattle.node_core.specs.declared.lines.Line.{Line}
 use Rattle.node_core.specs.declared.views.Mod.TheVariants.{Gone}
 use Rattle.node_core.specs.Nodes.{changed}
@@ -18,6 +18,7 @@ use Rattle.cell_parts.specs.declared.pending.Asked.{Asked}
 use Rattle.cell_parts.specs.declared.pending.Idle.{Idle}
 use Rattle.cell_parts.specs.declared.pending.Task.{Task}
 use Rattle.lock_core.specs.declared.claims.Claim.{Claim}
+use Rattle.lock_core.specs.declared.partings.Parting.{Parting}
 use Rattle.lock_core.specs.Turns.{reopened}
 use Rattle.lock_core.specs.Locks.{lock_at, due}
 use Rattle.cell_state.specs.declared.updates.LockPut.{LockPut}
@@ -27,7 +28,7 @@ use Rattle.cell_state.specs.State.{MasterState}
 use Rattle.cell_core.specs.Ephemerals.{next_idle, tidied, is_still_idle}
 use Rattle.session_core.specs.declared.records.Parked.{Parked}
 use Rattle.session_core.specs.declared.records.Session.{Session}
-use Rattle.session_core.specs.Session.{session_until, prolonged, answered, is_client_expired, is_client_due, offer_to}
+use Rattle.session_core.specs.Session.{session_until, prolonged, answered, is_client_expired, is_client_due, is_client_answerable, offer_to}
 use Rattle.session_core.specs.Sessions.{with_session, with_new, all_heard, lowest}
 use Rattle.cell_state.specs.Lookups.{session_of, may_start, is_live, turned_away, reply_of}
 use Rattle.cell_parts.specs.Answered.{answered_by}
@@ -35,14 +36,16 @@ use Rattle.cell_core.specs.Step.{recorded}
 use Rattle.cell_state.specs.Updates.{with_note, edit_of, with_kept, with_locks, without_lock, lock_changes}
 use Rattle.cell_core.specs.Effect.{effect}
 use Rattle.over_core.specs.declared.swept.Swept.{Swept}
+use Rattle.over_core.specs.Sweep.{beats_action}
 use Rattle.over_core.specs.Plans.{first_action, started_out, alive_out}
-use Rattle.cell_state.specs.Lapses.{expiry_lines, lapses_of, lapses_puts, lapses_replies}
+use Rattle.cell_state.specs.Partings.{ending_by}
+use Rattle.tags_cell.specs.Messages.{is_leave}
+use Rattle.cell_state.specs.Lapses.{parting_lines, lapses_of, lapses_puts, lapses_replies}
 use Rattle.cell_state.specs.Replies.{kept_puts, sent, turn_replies, locked_line, locked_lines, puts_of, replies_to}
 use Rattle.cell_core.specs.Outcomes.{put_listing, leave_lines, left_put}
 use Rattle.node_core.specs.declared.refusals.Fault.TheVariants as faults
 use Rattle.node_core.specs.declared.lines.Line.TheVariants as lines
 use Rattle.tags_cell.specs.declared.messages.outs.Out.TheVariants as outs
-use Rattle.rights_core.specs.declared.endings.Ending.TheVariants as endings
 use Rattle.rights_core.specs.Rights as of_rights
 use Rattle.cell_parts.specs.declared.pending.Task.TheVariants as tasks
 use Rattle.cell_parts.specs.declared.pending.Work.TheVariants as works
@@ -50,6 +53,7 @@ use Rattle.tags_cell.specs.declared.messages.outs.CallResult.TheVariants as resu
 use Rattle.cell_core.specs.declared.effects.Locking.TheVariants as lockings
 use Rattle.session_core.specs.Session as of_session
 use Rattle.over_core.specs.declared.actions.Action.TheVariants as actions
+use Rattle.lock_core.specs.declared.partings.Parting.TheVariants as partings
 
 -- a change has its turn: it waited between these, and no right holds it up
 pub record IsNextApplied (s : MasterState) (front : List (Waiting Task)) (task : Task) (back : List (Waiting Task)) : Type 0 where
@@ -65,9 +69,9 @@ pub record IsDueToEnd (s : MasterState) (client : ℕ) (session : Session Reply)
   pub live : session.live ≡ true
   pub over : session.timeout ≤ s.clock
 
--- a Beat is the one that is to be answered now
+-- a Beat is the one that is to be answered now, by a sweep or while the store refuses
 pub record IsDue (s : MasterState) (client : ℕ) (session : Session Reply) (beat : Parked) : Type 0 where
-  pub lowest_due : lowest s.sessions (is_client_due s.sessions.lease s.clock) ≡ Some client
+  pub lowest_due : (lowest s.sessions (is_client_due s.sessions.lease s.clock) ≡ Some client) ⊎ (lowest s.sessions (is_client_answerable s.sessions.lease s.clock) ≡ Some client)
   pub found : session_of s client ≡ Some session
   pub live : session.live ≡ true
   pub is_parked : session.parked ≡ Some beat
@@ -81,7 +85,7 @@ pub record IsToGo (s : MasterState) (idle : Idle) : Type 0 where
   pub first_idle : next_idle s ≡ Some idle
 
 pub data SweepCase (s : MasterState) : Type 0 where
-  Quiet : first_action s ≡ actions.Quiet → SweepCase s
+  Quiet : (first_action s ≡ actions.Quiet) ⊎ (beats_action s ≡ actions.Quiet) → SweepCase s
   Recovers : s.recovering ≡ true → all_heard s.sessions ≡ true → SweepCase s
   -- A SESSION
   Expires : (client : ℕ) (session : Session Reply) → IsDueToEnd s client session → SweepCase s
@@ -98,6 +102,8 @@ pub data SweepCase (s : MasterState) : Type 0 where
   Tidied : (front back : List (Waiting Task)) (idle : Idle) → IsNextApplied s front (tasks.Tidies idle) back → is_still_idle s idle ≡ true → SweepCase s
   -- A CALL'S TURN
   OfEnded : (front back : List (Waiting Task)) (asked : Asked) (call : Call) (sequencer : Option (List ℕ)) → IsNextApplied s front (tasks.Asked asked) back → asked.work ≡ works.Calls call sequencer → is_live s asked.client ≡ false → SweepCase s
+  -- the client ends its session
+  Departed : (front back : List (Waiting Task)) (asked : Asked) (call : Call) (sequencer : Option (List ℕ)) (session : Session Reply) → IsNextApplied s front (tasks.Asked asked) back → asked.work ≡ works.Calls call sequencer → is_leave call ≡ true → session_of s asked.client ≡ Some session → session.live ≡ true → SweepCase s
   Ended : (front back : List (Waiting Task)) (asked : Asked) (call : Call) (sequencer : Option (List ℕ)) (note : Option Note) (answer : CallResult) → IsNextApplied s front (tasks.Asked asked) back → asked.work ≡ works.Calls call sequencer → is_live s asked.client ≡ true → effect (name_space s) (caller s asked.client) s.clock asked.number call sequencer ≡ record { note = note; change = None; locking = lockings.Nothing; answer = Some answer } → SweepCase s
   Applied : (front back : List (Waiting Task)) (asked : Asked) (call : Call) (sequencer : Option (List ℕ)) (note : Option Note) (change : Change) (answer : CallResult) → IsNextApplied s front (tasks.Asked asked) back → asked.work ≡ works.Calls call sequencer → is_live s asked.client ≡ true → effect (name_space s) (caller s asked.client) s.clock asked.number call sequencer ≡ record { note = note; change = Some change; locking = lockings.Nothing; answer = Some answer } → SweepCase s
   Deleted : (front back : List (Waiting Task)) (asked : Asked) (call : Call) (sequencer : Option (List ℕ)) (change : Change) (instance : ℕ) (waiters : List Claim) (answer : CallResult) → IsNextApplied s front (tasks.Asked asked) back → asked.work ≡ works.Calls call sequencer → is_live s asked.client ≡ true → effect (name_space s) (caller s asked.client) s.clock asked.number call sequencer ≡ record { note = None; change = Some change; locking = lockings.Goes instance waiters; answer = Some answer } → SweepCase s
@@ -122,8 +128,21 @@ abbrev pub told : MasterState → List Reply → MasterState
 told s replies = with_kept s (kept_puts replies)
 
 -- the session has ended, and holds no right any more
-abbrev pub expired : MasterState → ℕ → MasterState
-expired s client = record s { sessions = with_session s.sessions client of_session.ended; rights = of_rights.ended client endings.Expiry s.rights }
+abbrev pub parted : Parting → MasterState → ℕ → MasterState
+parted parting s client = record s { sessions = with_session s.sessions client of_session.ended; rights = of_rights.ended client (ending_by parting) s.rights }
+
+-- and no lock; its client is answered, where it has asked for that, and who waited for a lock that it held
+abbrev pub without_session : Parting → MasterState → ℕ → List Reply → MasterState
+without_session parting s client own =
+    told (with_locks (parted parting s client) (lapses_puts s (lapses_of parting s client))) (own ++ lapses_replies s (lapses_of parting s client))
+
+-- what is sent then
+abbrev pub parting_replies : Parting → MasterState → ℕ → List Reply → List Out
+parting_replies parting s client own = sent (own ++ lapses_replies s (lapses_of parting s client))
+
+-- the answer to a client that ended its session
+abbrev pub left_reply : MasterState → Asked → Reply
+left_reply s asked = reply_of s asked.client asked.number results.Done
 
 -- what is sent of a call's end, and of those that waited for a lock
 abbrev pub replied_with : MasterState → Asked → CallResult → List Reply → List Out
@@ -143,10 +162,8 @@ gone_replies s idle = replies_to s (results.Refused faults.StaleInstance) (lock_
 abbrev pub swept_by : (s : MasterState) → SweepCase s → MasterState × Swept
 swept_by s (Quiet none) = (s, record { lines = []; outs = []; quiet = true })
 swept_by s (Recovers recovering heard) = (record s { recovering = false; serving_from = s.clock }, swept_with (lines.Recovered ∷ []) [])
-swept_by s (Expires client session due) = (
-  told (with_locks (expired s client) (lapses_puts s (lapses_of s client))) (lapses_replies s (lapses_of s client)),
-  swept_with (expiry_lines s client (lapses_of s client)) (sent (lapses_replies s (lapses_of s client))),
-)
+swept_by s (Expires client session due) =
+    (without_session partings.Expiry s client [], swept_with (parting_lines partings.Expiry s client (lapses_of partings.Expiry s client)) (parting_replies partings.Expiry s client []))
 swept_by s (Reopens instance due) = (
   told (with_locks s (puts_of s instance (reopened (lock_at s.locks instance)).lock)) (turn_replies s (reopened (lock_at s.locks instance))),
   swept_with (lines.Reopened instance ∷ locked_lines instance (reopened (lock_at s.locks instance))) (sent (turn_replies s (reopened (lock_at s.locks instance)))),
@@ -171,6 +188,10 @@ swept_by s (Started front back asked principal received turn work none) = (
   swept_with (lines.Started asked.client ∷ []) (started_out s asked.client asked.number received ∷ []),
 )
 swept_by s (OfEnded front back asked call sequencer turn work gone) = (rest s front back, swept_with [] [])
+swept_by s (Departed front back asked call sequencer session turn work leave found live) = (
+  told (with_locks (parted partings.Leave (rest s front back) asked.client) (lapses_puts s (lapses_of partings.Leave s asked.client))) (left_reply s asked ∷ lapses_replies s (lapses_of partings.Leave s asked.client)),
+  swept_with (parting_lines partings.Leave s asked.client (lapses_of partings.Leave s asked.client)) (parting_replies partings.Leave s asked.client (left_reply s asked ∷ [])),
+)
 swept_by s (Ended front back asked call sequencer note answer turn work live made) =
     (ended (rest s front back) asked note answer, swept_with [] (replied_with s asked answer []))
 swept_by s (Applied front back asked call sequencer note change answer turn work live made) = (
@@ -195,9 +216,14 @@ swept_by s (Left front back asked call sequencer note leave answer turn work liv
 abbrev pub relocking : MasterState → List LockPut → List Edit
 relocking s puts = locks_edits (lock_changes s puts)
 
+-- what the end of a session commits
+abbrev pub parting_edits : Parting → MasterState → ℕ → List ℕ → List Edit
+parting_edits parting s client principal = relocking s (lapses_puts s (lapses_of parting s client)) ++ PutSession client (record { principal = principal; live = false }) ∷ []
+
 -- what it commits
 abbrev pub swept_edits : (s : MasterState) → SweepCase s → List Edit
-swept_edits s (Expires client session due) = relocking s (lapses_puts s (lapses_of s client)) ++ PutSession client (record { principal = session.principal; live = false }) ∷ []
+swept_edits s (Expires client session due) = parting_edits partings.Expiry s client session.principal
+swept_edits s (Departed front back asked call sequencer session turn work leave found live) = parting_edits partings.Leave s asked.client session.principal
 swept_edits s (Started front back asked principal received turn work none) = PutSession asked.client (record { principal = principal; live = true }) ∷ []
 swept_edits s (Reopens instance due) = relocking s (puts_of s instance (reopened (lock_at s.locks instance)).lock)
 swept_edits s (Applied front back asked call sequencer _ change answer turn work live made) = edit_of change.change ∷ NextInstance change.next_instance ∷ []

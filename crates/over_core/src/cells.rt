@@ -10,12 +10,13 @@ ghost use Rattle.rows_cell.specs.Rows.{changed_rows};
 ghost use Rattle.rows_cell.specs.Sound.{sound};
 ghost use Rattle.cell_core.specs.Step.{take_step};
 ghost use Rattle.rows_cell.specs.Stores.{Commits, IsCommitted, IsRead, IsRefused, IsUnread};
-ghost use Rattle.over_core.specs.Sweep.{sweep_step, sweep_edits, swept_as};
+ghost use Rattle.over_core.specs.Sweep.{sweep_step, sweep_edits, beats_step, swept_as};
 ghost use Rattle.rights_core.specs.Rights.{totals_of};
 ghost use Rattle.over_core.specs.Kept.{IsKept};
 ghost use Rattle.over_core.specs.Up.{up_edits, next_epoch, ComesUp, StaysDown, CouldComeUp, CouldNotComeUp};
 ghost use Rattle.over_core.specs.Deadlines.{IsDeadline};
 
+use crate::beats::{beats_by, beats_thrice_by};
 use crate::sweeps::{SweptThrice, sweep_by, sweep_thrice_by};
 use crate::swept::Swept;
 use cell_core::Thrice;
@@ -131,6 +132,30 @@ impl<R: Records> Cell<R> {
         ensures lines { IfOk result (λ swept. vec_len room.new + length swept.lines < vec_capacity room.new) }
     {
         sweep_by(&mut self.master, &mut self.records, now, room)
+    }
+
+    /// Answers the lowest client's Beat that is due, where the session's timeout hasn't come; or finds none, and is quiet. No
+    /// store is asked: so sessions live while the store refuses the change whose turn it is. Else as `sweep_with_room`.
+    pub fn beats_with_room<T>(&mut self, now: u64, room: &mut Vec<T>) -> Result<Swept, Fault>
+        ensures ok { IfOk result (λ swept. beats_step self.old.master now ≡ Ok (self.new.master, swept)) }
+        ensures store { self.new ≡ record self.old { master = self.new.master } }
+        ensures fault { IfErr result (λ e. e ≢ Fault.NoMemory → beats_step self.old.master now ≡ Err e) }
+        ensures err { OnErr result (self.new ≡ self.old) }
+        ensures items { room.new.items ≡ room.old.items }
+        ensures outs { IfOk result (λ swept. vec_len room.new + length swept.outs ≤ vec_capacity room.new) }
+        ensures lines { IfOk result (λ swept. vec_len room.new + length swept.lines < vec_capacity room.new) }
+    {
+        beats_by(&mut self.master, now, room)
+    }
+
+    /// The same, its answer three times, and whether it found no Beat. All memory is taken before it has an effect.
+    pub fn beats_thrice(&mut self, now: u64) -> Result<SweptThrice, Fault>
+        ensures ok { IfOk result (λ done. beats_step self.old.master now ≡ Ok (self.new.master, swept_as done.answers done.quiet)) }
+        ensures store { self.new ≡ record self.old { master = self.new.master } }
+        ensures fault { IfErr result (λ e. e ≢ Fault.NoMemory → beats_step self.old.master now ≡ Err e) }
+        ensures err { OnErr result (self.new ≡ self.old) }
+    {
+        beats_thrice_by(&mut self.master, now)
     }
 
     /// A step by a request as `take` does it, its answer three times. All memory is taken before the step has an effect.

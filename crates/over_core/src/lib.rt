@@ -3,6 +3,7 @@
 #![tactic(auto)]
 
 mod actions;
+mod beats;
 mod cells;
 mod deadlines;
 mod lapses;

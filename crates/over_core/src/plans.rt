@@ -4,16 +4,16 @@ ghost use Rattle.node_core.specs.declared.lines.Line.TheVariants as lines;
 ghost use Rattle.over_core.specs.declared.actions.Action.TheVariants as actions;
 ghost use Rattle.cell_state.specs.NameSpace.{name_space};
 ghost use Rattle.cell_core.specs.Effect.{gone_by_itself};
-ghost use Rattle.over_core.specs.Plans.{no_update, started_out, alive_out, plan_session, plan_start, plan_effect, plan_call, plan_asked, plan_work, plan_tidied, plan_task, plan_expiry, invalidation_of, plan_answer, plan_of};
+ghost use Rattle.over_core.specs.Plans.{no_update, started_out, alive_out, plan_session, plan_start, plan_effect, plan_call, plan_live, plan_asked, plan_work, plan_tidied, plan_task, invalidation_of, plan_answer, plan_of};
 ghost use Rattle.cell_core.specs.Outcomes.{lock_ended, locking_puts};
 
 use crate::actions::Action;
-use crate::lapses::{expiry_plan, plan_reopen};
+use crate::lapses::{plan_expiry, plan_leave, plan_reopen};
 use cell_core::{
     Cell, Effect, contested_by, effect_lines, effect_of, effect_replies, gone_by_itself,
     lock_ended, locking_puts, locking_replies,
 };
-use cell_parts::{Asked, Idle, Taken, Task, Work};
+use cell_parts::{Asked, Idle, Taken, Task, Work, is_leave};
 use cell_state::{LockPut, Master, SessionUpdate, Told, Update, told_by};
 use names_cell::{Name, Principal};
 use node_core::{Fault, Line};
@@ -97,17 +97,6 @@ fn plan_recovery(master: &Master) -> Result<Plan, AllocError>
     let mut plan = Plan::of(master.alloc(), None, taken);
     plan.update.recovers = true;
     Ok(plan)
-}
-
-// The session is put as ended, and lets its locks go. Each right that ends with it is printed, and then its end.
-fn plan_expiry(master: &Master, client: u64) -> Result<Plan, AllocError>
-    ensures { IfOk result (λ plan. plan ≡ plan_expiry master.now client) }
-{
-    let Some(session) = master.sessions().get(client) else {
-        return Ok(Plan::of(master.alloc(), None, master.nothing()));
-    };
-    let principal = session.principal.clone()?;
-    expiry_plan(master, client, principal)
 }
 
 // What is done for the change of a number, which then leaves the gate.
@@ -268,6 +257,22 @@ fn plan_call(
 {
     if !master.is_live(client) {
         return Ok(Plan::of(master.alloc(), None, master.nothing()));
+    }
+    plan_live(master, client, number, call, sequencer)
+}
+
+// The client ends its session, or its call is done.
+fn plan_live(
+    master: &Master,
+    client: ClientNumber,
+    number: MessageNumber,
+    call: &Call,
+    sequencer: &Option<Bytes>,
+) -> Result<Plan, AllocError>
+    ensures { IfOk result (λ plan. plan ≡ plan_live master.now client number call.now sequencer.now) }
+{
+    if is_leave(call) {
+        return plan_leave(master, client, number);
     }
     let effect = effect_of(master, client, number, call, sequencer)?;
     plan_asked(master, client, number, call, effect)

@@ -25,16 +25,16 @@ use std::alloc::AllocError;
 use tags_cell::Out;
 
 // What is planned for an action, its answer as often as it is wanted, and what the clients of open handles are told of it.
-struct Prepared<A: Answers> {
-    update: Update,
-    answers: A,
-    tellings: Items<Telling>,
+pub(crate) struct Prepared<A: Answers> {
+    pub(crate) update: Update,
+    pub(crate) answers: A,
+    pub(crate) tellings: Items<Telling>,
 }
 
 // The answer of a sweep as often as it is wanted, and whether the sweep found nothing to do.
-struct Done<A: Answers> {
-    answers: A,
-    quiet: bool,
+pub(crate) struct Done<A: Answers> {
+    pub(crate) answers: A,
+    pub(crate) quiet: bool,
 }
 
 /// The answer of a sweep three times, and whether the sweep found nothing to do.
@@ -123,7 +123,7 @@ fn sweep_as<R: Records, A: Answers, T>(
 }
 
 // A moment past the end of moments, or a session whose count of events is at its end.
-fn is_over(master: &Master, now: u64) -> bool
+pub(crate) fn is_over(master: &Master, now: u64) -> bool
     ensures { result ≡ is_over master.now now }
 {
     now >= MOMENT_LIMIT || master.sessions().has_spent_events()
@@ -246,7 +246,7 @@ fn note_if_quiet(cell: &mut Cell, action: &Action)
 }
 
 // What is planned for an action, with room for what it prints and sends.
-fn planned<A: Answers, T>(
+pub(crate) fn planned<A: Answers, T>(
     cell: &Cell,
     action: &Action,
     room: &mut Vec<T>,
@@ -318,7 +318,7 @@ fn make_room<T>(room: &mut Vec<T>, taken: &Taken) -> Result<(), AllocError>
     room.reserve(lines)
 }
 
-fn is_quiet(action: &Action) -> bool
+pub(crate) fn is_quiet(action: &Action) -> bool
     ensures { result ≡ is_quiet action.now }
 {
     matches!(action, Action::Quiet)

@@ -158,6 +158,9 @@ module _ (client : ℕ) (ending : Ending) (line : ℕ → Line) (tells : (rights
 pub acked_told : (client upto : ℕ) (rights : List CacheRight) → IsRecorded rights → rights_at (map told_of rights) (map lines.Acked (numbers_ending client (endings.Acknowledgement upto) rights)) ≡ Some (map told_of (ended client (endings.Acknowledgement upto) rights))
 acked_told client upto rights h = endings_told client (endings.Acknowledgement upto) lines.Acked (λ told number. refl) 1 [] rights tt h.numbered
 
+pub left_told : (client : ℕ) (rights : List CacheRight) → IsRecorded rights → rights_at (map told_of rights) (map lines.Acked (numbers_ending client endings.Leave rights)) ≡ Some (map told_of (ended client endings.Leave rights))
+left_told client rights h = endings_told client endings.Leave lines.Acked (λ told number. refl) 1 [] rights tt h.numbered
+
 pub expired_told : (client : ℕ) (rights : List CacheRight) → IsRecorded rights → rights_at (map told_of rights) (map lines.Expired (numbers_ending client endings.Expiry rights)) ≡ Some (map told_of (ended client endings.Expiry rights))
 expired_told client rights h = endings_told client endings.Expiry lines.Expired (λ told number. refl) 1 [] rights tt h.numbered
 

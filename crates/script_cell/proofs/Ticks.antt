@@ -71,6 +71,7 @@ tick_out word rest is (steps.Beat n) w = absurd (other (codes "tick") (codes "be
 tick_out word rest is (steps.Take n) w = absurd (other (codes "tick") (codes "take") refl is w.0)
 tick_out word rest is (steps.Give n) w = absurd (other (codes "tick") (codes "give") refl is w.0)
 tick_out word rest is steps.Sweep w = absurd (other (codes "tick") (codes "sweep") refl is w.0)
+tick_out word rest is steps.Beats w = absurd (other (codes "tick") (codes "beats") refl is w.0)
 tick_out word rest is steps.Down w = absurd (other (codes "tick") (codes "down") refl is w.0)
 tick_out word rest is (steps.CutSweep commit) w = absurd (other (codes "tick") (codes "cut") refl is w.0)
 tick_out word rest is (steps.CutUp m commit) w = absurd (other (codes "tick") (codes "cut") refl is w.0)

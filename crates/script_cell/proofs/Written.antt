@@ -324,6 +324,7 @@ handle_out word handle words rest shape (calls.Close n) w = absurd w
 handle_out word handle words rest shape (calls.Poison n) w = absurd w
 handle_out word handle words rest shape (calls.SetSequencer n bytes) w = absurd w
 handle_out word handle words rest shape (calls.CheckSequencer bytes) w = absurd w
+handle_out word handle words rest shape calls.Leave w = absurd w
 
 pub handle_written : (word handle : List ℕ) (words rest : List (List ℕ)) (n : ℕ) (call : NodeCall) → decimal n ≡ handle → IsNumber n → words ≡ handle ∷ rest → WritesNodeCall word rest call → IsHandleCall word words (calls.Node n call)
 handle_written word handle words rest n call is small shape w = (rest, shape ∙ ap (λ x. x ∷ rest) (sym is), (small, w))
@@ -352,6 +353,7 @@ open_out word rest is (calls.Close n) w = absurd (other (codes "open") (codes "c
 open_out word rest is (calls.Poison n) w = absurd (other (codes "open") (codes "poison") refl is w.0)
 open_out word rest is (calls.SetSequencer n bytes) w = absurd (other (codes "open") (codes "setseq") refl is w.0)
 open_out word rest is (calls.CheckSequencer bytes) w = absurd (other (codes "open") (codes "checkseq") refl is w.0)
+open_out word rest is calls.Leave w = absurd (other (codes "open") (codes "leave") refl is w.0)
 open_out word rest is (calls.Node n call) w = absurd (no_node_call word w.0 call is w.2.1)
 
 pub open_call_part : (word : List ℕ) (rest : List (List ℕ)) → word ≡ codes "open" → IsPart {A = Open} {B = Ask} (WritesOpen rest) open_fault (WritesCall word rest) call_fault
@@ -367,20 +369,22 @@ as_call word rest (calls.Close n) w = absurd w
 as_call word rest (calls.Poison n) w = absurd w
 as_call word rest (calls.SetSequencer n bytes) w = absurd w
 as_call word rest (calls.CheckSequencer bytes) w = absurd w
+as_call word rest calls.Leave w = absurd w
 
-as_handle_call : (word : List ℕ) (rest : List (List ℕ)) → word ≢ codes "open" → word ≢ codes "close" → word ≢ codes "poison" → word ≢ codes "setseq" → word ≢ codes "checkseq" → (call : Ask) → WritesCall word rest call → IsHandleCall word rest call
-as_handle_call word rest a b c d e (calls.Node n call) w = w
-as_handle_call word rest a b c d e (calls.Open opening) w = a w.0
-as_handle_call word rest a b c d e (calls.Close n) w = b w.0
-as_handle_call word rest a b c d e (calls.Poison n) w = c w.0
-as_handle_call word rest a b c d e (calls.SetSequencer n bytes) w = d w.0
-as_handle_call word rest a b c d e (calls.CheckSequencer bytes) w = e w.0
+as_handle_call : (word : List ℕ) (rest : List (List ℕ)) → word ≢ codes "open" → word ≢ codes "close" → word ≢ codes "poison" → word ≢ codes "setseq" → word ≢ codes "checkseq" → word ≢ codes "leave" → (call : Ask) → WritesCall word rest call → IsHandleCall word rest call
+as_handle_call word rest a b c d e f (calls.Node n call) w = w
+as_handle_call word rest a b c d e f (calls.Open opening) w = a w.0
+as_handle_call word rest a b c d e f (calls.Close n) w = b w.0
+as_handle_call word rest a b c d e f (calls.Poison n) w = c w.0
+as_handle_call word rest a b c d e f (calls.SetSequencer n bytes) w = d w.0
+as_handle_call word rest a b c d e f (calls.CheckSequencer bytes) w = e w.0
+as_handle_call word rest a b c d e f calls.Leave w = f w.0
 
-pub other_call : (word : List ℕ) (rest : List (List ℕ)) → word ≢ codes "open" → word ≢ codes "close" → word ≢ codes "poison" → word ≢ codes "setseq" → word ≢ codes "checkseq" → (r : Result Ask Flaw) → Reads (IsHandleCall word rest) call_fault r → Reads (WritesCall word rest) call_fault r
-other_call word rest a b c d e (Ok call) h = (as_call word rest call h.0, h.1)
-other_call word rest a b c d e (Err Bad) h = λ call w. h call (as_handle_call word rest a b c d e call w)
-other_call word rest a b c d e (Err (Refused fault)) h = (h.0, as_call word rest h.0 h.1, h.2)
-other_call word rest a b c d e (Err NoMemory) h = tt
+pub other_call : (word : List ℕ) (rest : List (List ℕ)) → word ≢ codes "open" → word ≢ codes "close" → word ≢ codes "poison" → word ≢ codes "setseq" → word ≢ codes "checkseq" → word ≢ codes "leave" → (r : Result Ask Flaw) → Reads (IsHandleCall word rest) call_fault r → Reads (WritesCall word rest) call_fault r
+other_call word rest a b c d e f (Ok call) h = (as_call word rest call h.0, h.1)
+other_call word rest a b c d e f (Err Bad) h = λ call w. h call (as_handle_call word rest a b c d e f call w)
+other_call word rest a b c d e f (Err (Refused fault)) h = (h.0, as_call word rest h.0 h.1, h.2)
+other_call word rest a b c d e f (Err NoMemory) h = tt
 
 -- ---- sequencers
 
@@ -388,6 +392,7 @@ pub setting_out : (words : List (List ℕ)) (handle text : List ℕ) → words �
 setting_out words handle text shape (calls.SetSequencer n bytes) w =
     (bytes, subst (λ x. IsHex x bytes) (ap (λ x. head (tail x)) (sym w.1.1 ∙ shape)) w.1.2.1)
 setting_out words handle text shape (calls.CheckSequencer bytes) w = absurd (other (codes "setseq") (codes "checkseq") refl refl w.0)
+setting_out words handle text shape calls.Leave w = absurd (other (codes "setseq") (codes "leave") refl refl w.0)
 setting_out words handle text shape (calls.Open opening) w = absurd (other (codes "setseq") (codes "open") refl refl w.0)
 setting_out words handle text shape (calls.Close n) w = absurd (other (codes "setseq") (codes "close") refl refl w.0)
 setting_out words handle text shape (calls.Poison n) w = absurd (other (codes "setseq") (codes "poison") refl refl w.0)
@@ -406,6 +411,7 @@ setting_out words handle text shape (calls.Node n call) w = absurd (no_setting w
 
 pub check_out : (words : List (List ℕ)) (text : List ℕ) → words ≡ text ∷ [] → (b : Ask) → WritesCall (codes "checkseq") words b → (bytes : List ℕ) × IsHex text bytes
 check_out words text shape (calls.CheckSequencer bytes) w = (bytes, subst (λ x. IsHex x bytes) (ap head (sym w.1.1 ∙ shape)) w.1.2)
+check_out words text shape calls.Leave w = absurd (other (codes "checkseq") (codes "leave") refl refl w.0)
 check_out words text shape (calls.SetSequencer n bytes) w = absurd (other (codes "checkseq") (codes "setseq") refl refl w.0)
 check_out words text shape (calls.Open opening) w = absurd (other (codes "checkseq") (codes "open") refl refl w.0)
 check_out words text shape (calls.Close n) w = absurd (other (codes "checkseq") (codes "close") refl refl w.0)
@@ -439,6 +445,7 @@ ask_out words rest client word shape (steps.Tick ticks) w = absurd (other (codes
 ask_out words rest client word shape (steps.Take n) w = absurd (other (codes "ask") (codes "take") refl refl w.0)
 ask_out words rest client word shape (steps.Give n) w = absurd (other (codes "ask") (codes "give") refl refl w.0)
 ask_out words rest client word shape steps.Sweep w = absurd (other (codes "ask") (codes "sweep") refl refl w.0)
+ask_out words rest client word shape steps.Beats w = absurd (other (codes "ask") (codes "beats") refl refl w.0)
 ask_out words rest client word shape steps.Down w = absurd (other (codes "ask") (codes "down") refl refl w.0)
 ask_out words rest client word shape (steps.CutSweep commit) w = absurd (other (codes "ask") (codes "cut") refl refl w.0)
 ask_out words rest client word shape (steps.CutUp m commit) w = absurd (other (codes "ask") (codes "cut") refl refl w.0)
@@ -469,6 +476,7 @@ no_client words client principal n is small none shape (steps.Tick ticks) w = ot
 no_client words client principal n is small none shape (steps.Take m) w = other (codes "join") (codes "take") refl refl w.0
 no_client words client principal n is small none shape (steps.Give m) w = other (codes "join") (codes "give") refl refl w.0
 no_client words client principal n is small none shape steps.Sweep w = other (codes "join") (codes "sweep") refl refl w.0
+no_client words client principal n is small none shape steps.Beats w = other (codes "join") (codes "beats") refl refl w.0
 no_client words client principal n is small none shape steps.Down w = other (codes "join") (codes "down") refl refl w.0
 no_client words client principal n is small none shape (steps.CutSweep commit) w = other (codes "join") (codes "cut") refl refl w.0
 no_client words client principal n is small none shape (steps.CutUp m commit) w = other (codes "join") (codes "cut") refl refl w.0

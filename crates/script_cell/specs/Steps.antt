@@ -187,6 +187,7 @@ WritesCall word rest (calls.Poison handle) = (word ≡ codes "poison") × Writes
 WritesCall word rest (calls.Node handle call) = WritesHandleCall word rest handle call
 WritesCall word rest (calls.SetSequencer handle bytes) = (word ≡ codes "setseq") × WritesSetting rest handle bytes
 WritesCall word rest (calls.CheckSequencer bytes) = (word ≡ codes "checkseq") × WritesHex rest bytes
+WritesCall word rest calls.Leave = (word ≡ codes "leave") × (rest ≡ [])
 
 -- a client, the word of a call, and the words behind it
 abbrev pub WritesAsk : List (List ℕ) → ℕ → Ask → Type 0
@@ -227,6 +228,7 @@ WritesStep word rest (steps.Tick ticks) = (word ≡ codes "tick") × WritesTicks
 WritesStep word rest (steps.Take message) = (word ≡ codes "take") × WritesNumber rest message
 WritesStep word rest (steps.Give message) = (word ≡ codes "give") × WritesNumber rest message
 WritesStep word rest steps.Sweep = (word ≡ codes "sweep") × (rest ≡ [])
+WritesStep word rest steps.Beats = (word ≡ codes "beats") × (rest ≡ [])
 WritesStep word rest steps.Down = (word ≡ codes "down") × (rest ≡ [])
 WritesStep word rest (steps.CutSweep commit) = (word ≡ codes "cut") × (rest ≡ codes "sweep" ∷ (commit_word commit ∷ []))
 WritesStep word rest (steps.CutUp moment commit) = (word ≡ codes "cut") × ((rest ≡ codes "up" ∷ (decimal moment ∷ (commit_word commit ∷ []))) × IsNumber moment)

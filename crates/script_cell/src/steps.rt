@@ -113,6 +113,7 @@ fn step_of(alloc: Global, word: &str, rest: &[&str]) -> Result<Step, Flaw>
         "take" => Ok(Step::Take(only_number(rest)?)),
         "give" => Ok(Step::Give(only_number(rest)?)),
         "sweep" if rest.is_empty() => Ok(Step::Sweep),
+        "beats" if rest.is_empty() => Ok(Step::Beats),
         "down" if rest.is_empty() => Ok(Step::Down),
         "cut" => cut(rest),
         _ => Err(Flaw::Bad),
@@ -223,6 +224,7 @@ fn call_of(alloc: Global, word: &str, rest: &[&str]) -> Result<Ask, Flaw>
         "poison" => Ok(Ask::Poison(only_number(rest)?)),
         "setseq" => set_sequencer(alloc, rest),
         "checkseq" => check_sequencer(alloc, rest),
+        "leave" => leave(rest),
         _ => handle_call(alloc, word, rest),
     }
 }
@@ -514,6 +516,16 @@ fn check_sequencer(alloc: Global, words: &[&str]) -> Result<Ask, Flaw>
     };
     let sequencer = hex_of(alloc, sequencer)?;
     Ok(Ask::CheckSequencer(sequencer))
+}
+
+// The end of a session.
+fn leave(words: &[&str]) -> Result<Ask, Flaw>
+    ensures { Reads (WritesCall (codes "leave") (texts words.now)) call_fault result }
+{
+    match words {
+        [] => Ok(Ask::Leave),
+        _ => Err(Flaw::Bad),
+    }
 }
 
 // The generation that has to be present, where one is given.

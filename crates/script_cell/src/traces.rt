@@ -92,6 +92,7 @@ fn call_kind(call: &Call) -> &'static str {
         Call::GetSequencer(_) => "Call getseq",
         Call::SetSequencer(_) => "Call setseq",
         Call::CheckSequencer(_) => "Call checkseq",
+        Call::Leave => "Call leave",
     }
 }
 

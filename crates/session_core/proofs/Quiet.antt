@@ -14,7 +14,7 @@ use Rattle.session_core.specs.declared.records.Parked.{Parked}
 use Rattle.session_core.specs.declared.records.Session.{Session}
 use Rattle.node_core.specs.Limits.{number_limit}
 use Rattle.event_core.specs.Queue.{count_of, is_exhausted}
-use Rattle.session_core.specs.Session.{events_of, owes, has_heard, nears_end, is_given_up, is_due, is_client_expired, is_client_due}
+use Rattle.session_core.specs.Session.{events_of, owes, has_heard, nears_end, is_given_up, is_due, is_client_expired, is_due_by, is_client_due_by}
 use Rattle.session_core.specs.Sessions.{SessionTable, has_spent_events, all_heard, passes, AreAllAmong}
 use Rattle.timer_core.specs.Timers.{TimerState, never, has_key, wakes}
 use Rattle.session_core.specs.declared.bounds.Bounds.{Bounds}
@@ -204,6 +204,15 @@ due_by {K} lease now session h =
       | Some beat ↦ (λ k. answers_by session.live (is_given_up lease beat session) (owes session) (min session.timeout session.lease_end) (3000 + lease / 16) now k)
     ]) h
 
+and_first : (a b : Bool) → (a && b) ≡ true → a ≡ true
+and_first true b h = refl
+and_first false b h = absurd (cc)
+
+-- whether or not a session is spared
+due_all : {K : Type 0} (spares : Bool) (lease now : ℕ) (session : Session K) → is_due_by spares lease now session ≡ true → is_due lease now session ≡ true
+due_all false lease now session h = h
+due_all true lease now session h = and_first (is_due lease now session) _ h
+
 and_second : (a b : Bool) → (a && b) ≡ true → b ≡ true
 and_second true b h = h
 and_second false b h = absurd (cc)
@@ -221,10 +230,10 @@ ends_among {K} view s ends answers clients now same h known =
     let P : SessionTable K → Type 0 = λ x. AreAllAmong x (is_client_expired now) clients in
     subst P same (λ client. passing view (is_client_expired now) client (has_key clients client ≡ true) (λ session there holds. known client (end_moment session) (h.each client session there).0 (ends_by session.live session.timeout now holds)))
 
-pub answers_among : {K : Type 0} (view s : SessionTable K) (ends answers : TimerState) (clients : List ℕ) (now : ℕ) → view ≡ s → AreNoted K view.lease ends answers view.sessions → ((k m : ℕ) → wakes answers k m ≡ true → m ≤ now → has_key clients k ≡ true) → AreAllAmong s (is_client_due s.lease now) clients
-answers_among {K} view s ends answers clients now same h known =
-    let P : SessionTable K → Type 0 = λ x. AreAllAmong x (is_client_due x.lease now) clients in
-    subst P same (λ client. passing view (is_client_due view.lease now) client (has_key clients client ≡ true) (λ session there holds. known client (answer_moment view.lease session) (h.each client session there).1 (due_by view.lease now session (and_second _ (is_due view.lease now session) holds))))
+pub answers_among : {K : Type 0} (view s : SessionTable K) (ends answers : TimerState) (clients : List ℕ) (spares : Bool) (now : ℕ) → view ≡ s → AreNoted K view.lease ends answers view.sessions → ((k m : ℕ) → wakes answers k m ≡ true → m ≤ now → has_key clients k ≡ true) → AreAllAmong s (is_client_due_by spares s.lease now) clients
+answers_among {K} view s ends answers clients spares now same h known =
+    let P : SessionTable K → Type 0 = λ x. AreAllAmong x (is_client_due_by spares x.lease now) clients in
+    subst P same (λ client. passing view (is_client_due_by spares view.lease now) client (has_key clients client ≡ true) (λ session there holds. known client (answer_moment view.lease session) (h.each client session there).1 (due_by view.lease now session (due_all spares view.lease now session (and_second _ (is_due_by spares view.lease now session) holds)))))
 
 -- ---- one that wasn't heard from
 

@@ -186,6 +186,21 @@ is_due lease now session = option_map_or (λ beat. session.live && (not (is_give
 abbrev pub is_client_due : {K : Type 0} → ℕ → ℕ → ℕ → Session K → Bool
 is_client_due lease now client session = is_client_number client && is_due lease now session
 
+-- it is, and the session's timeout hasn't come: so it may be answered also where the session's end can't be committed
+abbrev pub is_answerable : {K : Type 0} → ℕ → ℕ → Session K → Bool
+is_answerable lease now session = is_due lease now session && not (is_expired now session)
+
+abbrev pub is_client_answerable : {K : Type 0} → ℕ → ℕ → ℕ → Session K → Bool
+is_client_answerable lease now client session = is_client_number client && is_answerable lease now session
+
+-- the one test, or the other, which spares a session whose timeout has come
+abbrev pub is_due_by : {K : Type 0} → Bool → ℕ → ℕ → Session K → Bool
+is_due_by false lease now session = is_due lease now session
+is_due_by true lease now session = is_answerable lease now session
+
+abbrev pub is_client_due_by : {K : Type 0} → Bool → ℕ → ℕ → ℕ → Session K → Bool
+is_client_due_by spares lease now client session = is_client_number client && is_due_by spares lease now session
+
 -- from the receipt of a message to a lease behind its answer
 abbrev pub offered_span : ℕ → ℕ → ℕ → ℕ
 offered_span lease received now = (now + lease) - received

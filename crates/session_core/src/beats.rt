@@ -3,7 +3,7 @@ ghost use Rattle.std.specs.Prelude.{◌≡◌, ◌≤◌, if◌then◌else◌, S
 ghost use Rattle.std.specs.Option.{option_map, option_map_or};
 ghost use Rattle.lease_core.specs.Lease.{IsMoment, longest_lease};
 ghost use Rattle.event_core.specs.Queue.{count_of, acknowledged_to};
-ghost use Rattle.session_core.specs.Session.{events_of, live_beat_fault, beat_fault, acknowledging, beaten, is_client_due, prolonged, unparked, answered};
+ghost use Rattle.session_core.specs.Session.{events_of, live_beat_fault, beat_fault, acknowledging, beaten, is_client_due, is_client_answerable, is_due_by, is_client_due_by, prolonged, unparked, answered};
 
 use crate::records::{Offer, Parked, Session};
 use crate::sessions::Sessions;
@@ -63,6 +63,18 @@ impl<K> Session<K> {
             number: beat.number,
             received,
         });
+    }
+
+    // Whether its parked Beat is to be answered, where none is spared or its timeout hasn't come.
+    fn is_due_by(&self, spares: bool, lease: u64, now: u64) -> bool
+        requires { lease ≤ longest_lease }
+        ensures { result ≡ is_due_by spares lease now self.now }
+    {
+        if spares {
+            self.is_due(lease, now) && !self.is_expired(now)
+        } else {
+            self.is_due(lease, now)
+        }
     }
 
     // Its client is offered a lease that ends then: it lives until that moment at least.
@@ -138,42 +150,59 @@ impl<K> Sessions<K> {
         ensures value { result ≡ lowest self.now (is_client_due self.now.lease now) }
         ensures lowest { IsLowest self.now (is_client_due self.now.lease now) result }
     {
+        self.due_by(false, now)
+    }
+
+    /// The lowest client of which the same holds and whose session the master may not end yet: its Beat may be answered
+    /// though nothing can be committed. Takes no memory.
+    pub fn answerable(&self, now: u64) -> Option<ClientNumber>
+        ensures value { result ≡ lowest self.now (is_client_answerable self.now.lease now) }
+        ensures lowest { IsLowest self.now (is_client_answerable self.now.lease now) result }
+    {
+        self.due_by(true, now)
+    }
+
+    // One of the two; the second spares a session whose timeout has come.
+    fn due_by(&self, spares: bool, now: u64) -> Option<ClientNumber>
+        ensures value { result ≡ lowest self.now (is_client_due_by spares self.now.lease now) }
+        ensures lowest { IsLowest self.now (is_client_due_by spares self.now.lease now) result }
+    {
         match self.bounds.answers.soon(now) {
-            Some(clients) => self.due_among(clients, now),
-            None => self.due_of_all(now),
+            Some(clients) => self.due_among(clients, spares, now),
+            None => self.due_of_all(spares, now),
         }
     }
 
     // Where each one whose Beat is to be answered is among these clients.
-    fn due_among(&self, clients: &BTreeSet<u64>, now: u64) -> Option<ClientNumber>
-        requires { AreAllAmong self.now (is_client_due self.now.lease now) clients.now.keys }
-        ensures value { result ≡ lowest self.now (is_client_due self.now.lease now) }
-        ensures lowest { IsLowest self.now (is_client_due self.now.lease now) result }
+    fn due_among(&self, clients: &BTreeSet<u64>, spares: bool, now: u64) -> Option<ClientNumber>
+        requires { AreAllAmong self.now (is_client_due_by spares self.now.lease now) clients.now.keys }
+        ensures value { result ≡ lowest self.now (is_client_due_by spares self.now.lease now) }
+        ensures lowest { IsLowest self.now (is_client_due_by spares self.now.lease now) result }
     {
         let _ordered = self.map.len();
         for number in clients.iter() {
-            if let Some(client) = self.due_at(*number, now) {
+            if let Some(client) = self.due_at(*number, spares, now) {
                 return Some(client);
             }
         }
         None
     }
 
-    fn due_at(&self, number: u64, now: u64) -> Option<ClientNumber>
-        ensures { result ≡ (if passes self.now (is_client_due self.now.lease now) number then Some number else None) }
+    fn due_at(&self, number: u64, spares: bool, now: u64) -> Option<ClientNumber>
+        ensures { result ≡ (if passes self.now (is_client_due_by spares self.now.lease now) number then Some number else None) }
     {
         match self.map.get(&number) {
             None => None,
-            Some(session) => due_client(number, session, self.lease, now),
+            Some(session) => due_client(number, session, spares, self.lease, now),
         }
     }
 
-    fn due_of_all(&self, now: u64) -> Option<ClientNumber>
-        ensures value { result ≡ lowest self.now (is_client_due self.now.lease now) }
-        ensures lowest { IsLowest self.now (is_client_due self.now.lease now) result }
+    fn due_of_all(&self, spares: bool, now: u64) -> Option<ClientNumber>
+        ensures value { result ≡ lowest self.now (is_client_due_by spares self.now.lease now) }
+        ensures lowest { IsLowest self.now (is_client_due_by spares self.now.lease now) result }
     {
         for (number, session) in self.map.iter() {
-            if let Some(client) = due_client(*number, session, self.lease, now) {
+            if let Some(client) = due_client(*number, session, spares, self.lease, now) {
                 return Some(client);
             }
         }
@@ -211,12 +240,18 @@ impl<K> Sessions<K> {
 }
 
 // A client whose parked Beat is to be answered, by its number.
-fn due_client<K>(number: u64, session: &Session<K>, lease: u64, now: u64) -> Option<ClientNumber>
+fn due_client<K>(
+    number: u64,
+    session: &Session<K>,
+    spares: bool,
+    lease: u64,
+    now: u64,
+) -> Option<ClientNumber>
     requires { lease ≤ longest_lease }
-    ensures { result ≡ (if is_client_due lease now number session.now then Some number else None) }
+    ensures { result ≡ (if is_client_due_by spares lease now number session.now then Some number else None) }
 {
     let client = ClientNumber::new(number)?;
-    if session.is_due(lease, now) {
+    if session.is_due_by(spares, lease, now) {
         Some(client)
     } else {
         None

@@ -187,7 +187,7 @@ impl Keeper {
         if self.published >= NUMBER_LIMIT {
             return Err(Fault::Exhausted);
         }
-        let Ok(ops) = self.client.note_ops(now) else {
+        let Ok(ops) = self.client.ask_ops(now, asked) else {
             return Err(Fault::NoMemory);
         };
         let answer = match self.client.ask(now, asked) {

@@ -184,6 +184,7 @@ impl Alike for Call {
             (Call::GetSequencer(a), Call::GetSequencer(b)) => a.is_same(b),
             (Call::SetSequencer(a), Call::SetSequencer(b)) => a.is_same(b),
             (Call::CheckSequencer(a), Call::CheckSequencer(b)) => a.is_same(b),
+            (Call::Leave, Call::Leave) => true,
             _ => false,
         }
     }

@@ -80,6 +80,7 @@ call_any (calls.Release handle) = refl
 call_any (calls.GetSequencer handle) = refl
 call_any (calls.SetSequencer handle) = refl
 call_any (calls.CheckSequencer bytes) = refl
+call_any calls.Leave = refl
 
 call_takes : (k : CallKind) (bytes : List ℕ) (x : Call) (rest : List ℕ) → (choice all_calls call_place).is k → IsBytes bytes → call_behind k bytes ≡ Ok (x, rest)
     → TakesKind call_kind call_is call_bytes k bytes x rest
@@ -97,6 +98,7 @@ call_takes of.Release bytes x rest placed fits e = behind_takes calls.Release of
 call_takes of.GetSequencer bytes x rest placed fits e = behind_takes calls.GetSequencer of.GetSequencer block_form (λ a. refl) (λ a h. h) (λ a. refl) bytes x rest fits e
 call_takes of.SetSequencer bytes x rest placed fits e = behind_takes calls.SetSequencer of.SetSequencer block_form (λ a. refl) (λ a h. h) (λ a. refl) bytes x rest fits e
 call_takes of.CheckSequencer bytes x rest placed fits e = behind_takes calls.CheckSequencer of.CheckSequencer block_form (λ a. refl) (λ a h. h) (λ a. refl) bytes x rest fits e
+call_takes of.Leave bytes x rest placed fits e = behind_takes (λ _. calls.Leave) of.Leave nothing_form (λ a. refl) (λ a h. h) (λ a. refl) bytes x rest fits e
 
 call_again : (x : Call) (rest : List ℕ) → call_is x → IsShort (call_bytes x) → call_behind (call_kind x) (call_bytes x ++ rest) ≡ Ok (x, rest)
 call_again (calls.Open o) rest holds short = behind_again calls.Open open_call_form o rest holds short
@@ -113,6 +115,7 @@ call_again (calls.Release handle) rest holds short = behind_again calls.Release 
 call_again (calls.GetSequencer handle) rest holds short = behind_again calls.GetSequencer block_form handle rest holds short
 call_again (calls.SetSequencer handle) rest holds short = behind_again calls.SetSequencer block_form handle rest holds short
 call_again (calls.CheckSequencer bytes) rest holds short = behind_again calls.CheckSequencer block_form bytes rest holds short
+call_again calls.Leave rest holds short = behind_again (λ _. calls.Leave) nothing_form tt rest holds short
 
 pub call_form : IsForm call
 unfolding call

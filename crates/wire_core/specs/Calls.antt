@@ -77,7 +77,7 @@ lock_fields = block ⊗ lock_mode
 abbrev pub all_calls : List CallKind
 all_calls =
     of.Open ∷ of.Close ∷ of.Read ∷ of.Stat ∷ of.List ∷ of.Set ∷ of.SetAcl
-    ∷ of.Delete ∷ of.Acquire ∷ of.TryAcquire ∷ of.Release ∷ of.GetSequencer ∷ of.SetSequencer ∷ of.CheckSequencer ∷ []
+    ∷ of.Delete ∷ of.Acquire ∷ of.TryAcquire ∷ of.Release ∷ of.GetSequencer ∷ of.SetSequencer ∷ of.CheckSequencer ∷ of.Leave ∷ []
 
 abbrev pub call_place : CallKind → ℕ
 call_place of.Open = 0
@@ -94,6 +94,7 @@ call_place of.Release = 10
 call_place of.GetSequencer = 11
 call_place of.SetSequencer = 12
 call_place of.CheckSequencer = 13
+call_place of.Leave = 14
 
 abbrev pub call_kind : Call → CallKind
 call_kind (calls.Open o) = of.Open
@@ -110,6 +111,7 @@ call_kind (calls.Release handle) = of.Release
 call_kind (calls.GetSequencer handle) = of.GetSequencer
 call_kind (calls.SetSequencer handle) = of.SetSequencer
 call_kind (calls.CheckSequencer bytes) = of.CheckSequencer
+call_kind calls.Leave = of.Leave
 
 abbrev pub call_is : Call → Type 0
 call_is (calls.Open o) = open_call.is o
@@ -126,6 +128,7 @@ call_is (calls.Release handle) = block.is handle
 call_is (calls.GetSequencer handle) = block.is handle
 call_is (calls.SetSequencer handle) = block.is handle
 call_is (calls.CheckSequencer bytes) = block.is bytes
+call_is calls.Leave = Unit {0}
 
 abbrev pub call_bytes : Call → List ℕ
 call_bytes (calls.Open o) = open_call.write o
@@ -142,6 +145,7 @@ call_bytes (calls.Release handle) = block.write handle
 call_bytes (calls.GetSequencer handle) = block.write handle
 call_bytes (calls.SetSequencer handle) = block.write handle
 call_bytes (calls.CheckSequencer bytes) = block.write bytes
+call_bytes calls.Leave = []
 
 abbrev pub call_behind : CallKind → List ℕ → Result (Call × List ℕ) WireFault
 call_behind of.Open rest = behind calls.Open open_call rest
@@ -158,6 +162,7 @@ call_behind of.Release rest = behind calls.Release block rest
 call_behind of.GetSequencer rest = behind calls.GetSequencer block rest
 call_behind of.SetSequencer rest = behind calls.SetSequencer block rest
 call_behind of.CheckSequencer rest = behind calls.CheckSequencer block rest
+call_behind of.Leave rest = behind (λ _. calls.Leave) nothing rest
 
 -- the kind of a call, and its fields
 unfoldable pub call : Form Call

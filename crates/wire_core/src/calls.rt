@@ -44,6 +44,7 @@ fn read_call_of(alloc: Global, input: &mut Input, kind: CallKind) -> Result<Call
         CallKind::GetSequencer => Ok(Call::GetSequencer(read_handle(alloc, input)?)),
         CallKind::SetSequencer => Ok(Call::SetSequencer(read_handle(alloc, input)?)),
         CallKind::CheckSequencer => Ok(Call::CheckSequencer(read_bytes(alloc, input)?)),
+        CallKind::Leave => Ok(Call::Leave),
     }
 }
 
@@ -115,6 +116,7 @@ pub(crate) fn put_call(out: &mut Vec<u8>, asked: &Call) -> Result<(), AllocError
         Call::GetSequencer(handle) => put_on(out, 11, handle.as_slice()),
         Call::SetSequencer(handle) => put_on(out, 12, handle.as_slice()),
         Call::CheckSequencer(bytes) => put_on(out, 13, bytes.as_slice()),
+        Call::Leave => put_byte(out, 14),
     }
 }
 

@@ -31,9 +31,10 @@ pub enum CallKind {
     GetSequencer,
     SetSequencer,
     CheckSequencer,
+    Leave,
 }
 
-pub(crate) const CALL_KINDS: [CallKind; 14] = [
+pub(crate) const CALL_KINDS: [CallKind; 15] = [
     CallKind::Open,
     CallKind::Close,
     CallKind::Read,
@@ -48,6 +49,7 @@ pub(crate) const CALL_KINDS: [CallKind; 14] = [
     CallKind::GetSequencer,
     CallKind::SetSequencer,
     CallKind::CheckSequencer,
+    CallKind::Leave,
 ];
 
 /// Of which kind a master's message is.

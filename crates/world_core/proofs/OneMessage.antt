@@ -7,7 +7,7 @@ use Rattle.cell_state.specs.State.{MasterState}
 use Rattle.cell_core.specs.Step.{take_step}
 use Rattle.cell_state.specs.Lookups.{repeated_reply, noted}
 use Rattle.cell_core.specs.Cases.{TakeCase, taken_by}
-use Rattle.cell_core.specs.Cases.TakeCase.{Repeated}
+use Rattle.cell_core.specs.Cases.TakeCase.{LeftBefore, Repeated}
 use Rattle.cell_core.proofs.TakeCases.{taken_case}
 
 repeated_few : (reply : Option Reply) → length (repeated_reply reply).outs ≤ 1
@@ -15,6 +15,7 @@ repeated_few None = search rules
 repeated_few (Some reply) = search rules
 
 taken_few : (s : MasterState) (request : Request) (c : TakeCase s request) → length (taken_by s request c).1.outs ≤ 1
+taken_few s request (LeftBefore message kept request_is same_epoch ended is same) = repeated_few kept.reply
 taken_few s request (Repeated message kept heard is same) = repeated_few kept.reply
 taken_few s request _ = search rules
 

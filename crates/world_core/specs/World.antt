@@ -22,7 +22,7 @@ use Rattle.cell_state.specs.State.{MasterState}
 use Rattle.cell_core.specs.Step.{take_step, is_past_end}
 use Rattle.over_core.specs.declared.swept.Swept.{Swept}
 use Rattle.over_core.specs.Kept.{IsKept}
-use Rattle.over_core.specs.Sweep.{sweep_step, sweep_edits}
+use Rattle.over_core.specs.Sweep.{sweep_step, sweep_edits, beats_step}
 use Rattle.over_core.specs.Up.{up_step, up_edits, up_commit}
 use Rattle.client_core.specs.declared.parts.asks.Ask.{Ask}
 use Rattle.client_core.specs.declared.parts.asks.Asked.{Asked}
@@ -261,6 +261,16 @@ abbrev pub world_sweep : WorldState → Option MasterState → Result (WorldStat
 world_sweep w None = Err faults.MasterDown
 world_sweep w (Some master) = swept w master (sweep_step master w.clock)
 
+-- ---- the master answers a Beat, and commits nothing
+
+abbrev pub answered : WorldState → Result (MasterState × Swept) Fault → Outcome
+answered w (Err fault) = Err fault
+answered w (Ok step) = Ok (record w { master = Some step.0; messages = w.messages ++ map ToClient step.1.outs }, step.1.lines)
+
+abbrev pub world_beats : WorldState → Option MasterState → Outcome
+world_beats w None = Err faults.MasterDown
+world_beats w (Some master) = answered w (beats_step master w.clock)
+
 abbrev pub without_quiet : Result (WorldState × SweepResult) Fault → Outcome
 without_quiet (Ok p) = Ok (p.0, p.1.lines)
 without_quiet (Err fault) = Err fault
@@ -302,6 +312,7 @@ world_step w (steps.Tick ticks) = world_tick w ticks
 world_step w (steps.Take number) = world_take w number w.master
 world_step w (steps.Give number) = world_give w number
 world_step w steps.Sweep = without_quiet (world_sweep w w.master)
+world_step w steps.Beats = world_beats w w.master
 world_step w steps.Down = world_down w w.master
 world_step w (steps.CutSweep commit) = world_cut_sweep w commit
 world_step w (steps.CutUp now commit) = world_cut_up w now commit w.master

@@ -2,7 +2,7 @@
 ghost use Rattle.lease_core.specs.Lease.{longest_lease};
 ghost use Rattle.std.specs.Prelude.{◌≡◌, ◌≤◌, ◌<◌, ◌+◌, ◌∷◌, ◌++◌, [], length, filter, false, Some, None, Ok, Err, IfOk, IfErr, OnOk, OnErr, is_some};
 ghost use Rattle.std.specs.Vec.{vec_len, vec_capacity};
-ghost use Rattle.world_core.specs.World.{opened, store_in, with_refusal, world_join, world_ask, world_beat, world_tick, world_take, world_give, world_sweep, world_down, without_master, is_of_commit, world_cut_sweep, moves_nobody, are_fair, goes_past_end, ticked, step_edits, IsStored, IsLeft, MayRefuseStep, Agrees};
+ghost use Rattle.world_core.specs.World.{opened, store_in, with_refusal, world_join, world_ask, world_beat, world_tick, world_take, world_beats, world_give, world_sweep, world_down, without_master, is_of_commit, world_cut_sweep, moves_nobody, are_fair, goes_past_end, ticked, step_edits, IsStored, IsLeft, MayRefuseStep, Agrees};
 ghost use Rattle.world_core.specs.Made.{IsTyped, WasMade, WasRefused};
 
 use crate::mail;
@@ -92,6 +92,7 @@ impl<R: Records + Drop> WorldParts<R> {
             Step::Take(number) => self.take(*number),
             Step::Give(number) => self.give(*number),
             Step::Sweep => Ok(self.sweep()?.lines),
+            Step::Beats => self.beats(),
             Step::Down => self.down(),
             Step::CutSweep(commit) => self.cut_sweep(*commit),
             Step::CutUp(now, commit) => self.cut_up(*now, *commit),
@@ -425,6 +426,23 @@ impl<R: Records + Drop> WorldParts<R> {
         match &self.master {
             None => self.clients.move_alone(ticks),
             Some(_) => self.clients.move_beside(ticks, now),
+        }
+    }
+
+    // The master answers a Beat, and commits nothing.
+    fn beats(&mut self) -> Result<Items<Line>, Fault>
+        ensures ok { IfOk result (λ lines. world_beats self.old.world self.old.world.master ≡ Ok (self.new.world, lines)) }
+        ensures stored { OnOk result (IsStored [] self.old self.new) }
+        ensures fault { IfErr result (λ e. MayRefuseStep (world_beats self.old.world self.old.world.master) Step.Beats e self.old self.new) }
+        ensures left { OnErr result (IsLeft [] self.old self.new) }
+    {
+        match &mut self.master {
+            None => Err(Fault::MasterDown),
+            Some(cell) => {
+                let swept = cell.beats_with_room(self.clock, &mut self.messages)?;
+                mail::send_all(&mut self.messages, swept.outs);
+                Ok(swept.lines)
+            }
         }
     }
 

@@ -41,6 +41,9 @@ pub enum Step {
     /// The message of this number comes to its client.
     Give(u64),
     Sweep,
+    /// The lowest client's Beat that is due is answered, where its session's timeout hasn't come; nothing is committed. So a
+    /// master keeps sessions alive whose store refuses.
+    Beats,
     /// The master is gone; the rows stay.
     Down,
     /// A sweep that a crash cuts behind its commit, or before: nothing is sent, and the master is gone.

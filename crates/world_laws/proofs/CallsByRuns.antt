@@ -48,11 +48,11 @@ use Rattle.cell_core.specs.declared.effects.Effect.{Effect}
 use Rattle.cell_core.specs.Effect.{answered, refused, try_by, try_at, change_at, change_on, handle_effect, effect}
 use Rattle.cell_state.specs.Replies.{locked_line, locked_lines}
 use Rattle.cell_core.specs.Outcomes.{put_listing, leave_lines, left_put}
-use Rattle.cell_state.specs.Lapses.{lapses_lines, lapses_of}
+use Rattle.cell_state.specs.Lapses.{lapses_lines, lapses_of, parting_lines}
 use Rattle.cell_core.specs.Cases.{TakeCase, taken_by}
 use Rattle.over_core.specs.SweepCase.{IsNextApplied, SweepCase, swept_by, rest, ended, mapped}
 use Rattle.cell_core.specs.Cases.TakeCase.{StartQueued, Answered, Granted, Waits}
-use Rattle.over_core.specs.SweepCase.SweepCase.{Quiet, Recovers, Expires, Reopens, Tidies, Spared, Tidied, AnswersBeat, TurnedAway, StartedAgain, Started as StartedFirst, OfEnded, Ended, Applied, Deleted, Locked, Awaited, Left}
+use Rattle.over_core.specs.SweepCase.SweepCase.{Quiet, Recovers, Expires, Reopens, Tidies, Spared, Tidied, AnswersBeat, TurnedAway, StartedAgain, Started as StartedFirst, OfEnded, Ended, Applied, Deleted, Locked, Awaited, Left, Departed}
 use Rattle.over_core.specs.Kept.{IsKept, task_fits, waiting_fits}
 use Rattle.world_core.specs.declared.steps.Step.{Step}
 use Rattle.world_core.specs.declared.steps.Step.TheVariants.{Take, Sweep, CutSweep}
@@ -74,6 +74,9 @@ use Rattle.world_laws.proofs.ConsistentSteps.{noted_fits}
 use Rattle.world_laws.proofs.CutLines.{cut_lines, swept_kept}
 use Rattle.world_laws.proofs.OnceByRuns.{taken_silent}
 use Rattle.world_laws.proofs.RowsByRuns.{Tells, run_tells}
+use Rattle.lock_core.specs.declared.partings.Parting.{Parting}
+use Rattle.lock_core.specs.declared.partings.Parting.TheVariants as partings
+use Rattle.cell_state.specs.Partings.{right_line, ending_by}
 
 -- ---- lists
 
@@ -107,20 +110,22 @@ silent_split (line ∷ printed) [] rest client number change names h e =
 silent_split (line ∷ printed) (b ∷ before) rest client number change names h e =
     let t : printed ≡ before ++ lines.Applied client number change names ∷ rest = cc in silent_split printed before rest client number change names h.1 t
 
--- an expiry tells of no change
-expiry_split : (numbers : List ℕ) (others : List Line) (whose : ℕ) (before rest : List Line) (client number : ℕ) (change : Mod) (names : List (List ℕ)) → IsSilent others → map lines.Expired numbers ++ others ++ lines.Ended whose ∷ [] ≡ before ++ lines.Applied client number change names ∷ rest → ⊥
-expiry_split [] others whose before rest client number change names silent e =
+-- the end of a session tells of no change
+parting_split : (parting : Parting) (numbers : List ℕ) (others : List Line) (whose : ℕ) (before rest : List Line) (client number : ℕ) (change : Mod) (names : List (List ℕ)) → IsSilent others → map (right_line parting) numbers ++ others ++ lines.Ended whose ∷ [] ≡ before ++ lines.Applied client number change names ∷ rest → ⊥
+parting_split parting [] others whose before rest client number change names silent e =
     elim (split others (lines.Ended whose ∷ []) before rest (lines.Applied client number change names) e) [
       | inl k ↦ silent_split others before k.0 client number change names silent k.1
       | inr k ↦
           (let t = one_split (lines.Ended whose) k.0 rest (lines.Applied client number change names) k.2 in
           let line : lines.Ended whose ≡ lines.Applied client number change names = t.1 in cc)
     ]
-expiry_split (right ∷ numbers) others whose [] rest client number change names silent e =
+parting_split partings.Expiry (right ∷ numbers) others whose [] rest client number change names silent e =
     let line : lines.Expired right ≡ lines.Applied client number change names = cc in cc
-expiry_split (right ∷ numbers) others whose (b ∷ before) rest client number change names silent e =
-    let t : map lines.Expired numbers ++ others ++ lines.Ended whose ∷ [] ≡ before ++ lines.Applied client number change names ∷ rest = cc in
-    expiry_split numbers others whose before rest client number change names silent t
+parting_split partings.Leave (right ∷ numbers) others whose [] rest client number change names silent e =
+    let line : lines.Acked right ≡ lines.Applied client number change names = cc in cc
+parting_split parting (right ∷ numbers) others whose (b ∷ before) rest client number change names silent e =
+    let t : map (right_line parting) numbers ++ others ++ lines.Ended whose ∷ [] ≡ before ++ lines.Applied client number change names ∷ rest = cc in
+    parting_split parting numbers others whose before rest client number change names silent t
 
 -- nor does a master that came up and is gone
 up_split : (epoch : ℕ) (before rest : List Line) (client number : ℕ) (change : Mod) (names : List (List ℕ)) → lines.Up epoch ∷ lines.Down ∷ [] ≡ before ++ lines.Applied client number change names ∷ rest → ⊥
@@ -258,6 +263,7 @@ sweep_calls : (g : Ground) (s : MasterState) (c : SweepCase s) → AreCalled g s
 sweep_calls g s (Quiet none) h = h
 sweep_calls g s (Recovers recovering heard) h = h
 sweep_calls g s (Expires client session due) h = h
+sweep_calls g s (Departed front back asked call sequencer session turn work leave found live) h = (application_calls g s front (tasks.Asked asked) back turn h).1
 sweep_calls g s (Reopens instance due) h = h
 sweep_calls g s (Tidies idle due) h =
     asking_calls g (queued s (with_parent idle.name) (tasks.Tidies idle)) (with_parent idle.name)
@@ -397,6 +403,7 @@ noted_change s now client number (calls.Release bytes) sequencer = refl
 noted_change s now client number (calls.GetSequencer bytes) sequencer = refl
 noted_change s now client number (calls.SetSequencer bytes) sequencer = refl
 noted_change s now client number (calls.CheckSequencer bytes) sequencer = refl
+noted_change s now client number calls.Leave sequencer = refl
 
 agreed : (w : WorldState) (m : Option MasterState) (s : MasterState) → m ≡ Some s → Agrees w m → IsKept w.cell w.rows s
 agreed w m s e h = rw e at h
@@ -463,6 +470,11 @@ of_itself s idle before told client number change names still e =
     let l : names ≡ [] = cc in
     record { first = t.0; listed = l ∙ ap (put_listing s.nodes) (sym m); does = inr (record { gone = idle; still = still; nobody = c; unnumbered = n; goes = m }) }
 
+ended_split : (parting : Parting) (s : MasterState) (whose : ℕ) (before told : List Line) (client number : ℕ) (change : Mod) (names : List (List ℕ)) → parting_lines parting s whose (lapses_of parting s whose) ≡ before ++ lines.Applied client number change names ∷ told → ⊥
+ended_split parting s whose before told client number change names e =
+    let others = lapses_lines parting whose (lapses_of parting s whose) in
+    parting_split parting (numbers_ending whose (ending_by parting) s.rights) others whose before told client number change names (quiet_silent others (lapses_of_locks parting whose (lapses_of parting s whose)).quiet) e
+
 of_application : (s : MasterState) (c : SweepCase s) (before told : List Line) (client number : ℕ) (change : Mod) (names : List (List ℕ)) → (swept_by s c).1.lines ≡ before ++ lines.Applied client number change names ∷ told → IsOfApplication s before client number change names
 of_application s (Applied front back asked call sequencer _ made answer turn work live does) before told client number change names e =
     of_call s front back asked call sequencer made.change before told client number change names turn work (ap change_of does) e
@@ -472,9 +484,9 @@ of_application s (Tidied front back idle turn still) before told client number c
 of_application s (Recovers recovering heard) before told client number change names e =
     let t = one_split lines.Recovered before told (lines.Applied client number change names) e in
     let line : lines.Recovered ≡ lines.Applied client number change names = t.1 in cc
-of_application s (Expires whose session due) before told client number change names e =
-    let others = lapses_lines whose (lapses_of s whose) in
-    absurd (expiry_split (numbers_ending whose endings.Expiry s.rights) others whose before told client number change names (quiet_silent others (lapses_of_locks whose (lapses_of s whose)).quiet) e)
+of_application s (Expires whose session due) before told client number change names e = absurd (ended_split partings.Expiry s whose before told client number change names e)
+of_application s (Departed front back asked call sequencer session turn work leave found live) before told client number change names e =
+    absurd (ended_split partings.Leave s asked.client before told client number change names e)
 of_application s (StartedFirst front back asked principal received turn work none) before told client number change names e =
     let t = one_split (lines.Started asked.client) before told (lines.Applied client number change names) e in
     let line : lines.Started asked.client ≡ lines.Applied client number change names = t.1 in cc
@@ -616,8 +628,11 @@ made_here g step next printed before told later client number change names steps
       | Ticks t ↦ absurd (silent_split printed before told client number change names (rw t.tells tt) e)
       | Takes t ↦ absurd (silent_split printed before told client number change names (rw t.tells (taken_silent (noted t.master g.here.world.clock) t.request t.case)) e)
       | Sweeps t ↦
-          of_sweep g step next printed before told later client number change names steps rest new h (inl t.is_step) t.master t.is_up
-          (of_application (noted t.master g.here.world.clock) t.case before told client number change names (sym t.tells ∙ e)) made run e r
+          elim t.is_step [
+            | inl sweeps ↦ of_sweep g step next printed before told later client number change names steps rest new h (inl sweeps) t.master t.is_up
+                (of_application (noted t.master g.here.world.clock) t.case before told client number change names (sym t.tells ∙ e)) made run e r
+            | inr beats ↦ absurd (no_split before told (lines.Applied client number change names) (sym (t.tells ∙ t.silent beats) ∙ e))
+          ]
       | GoesDown d ↦ absurd (silent_split printed before told client number change names (rw d.tells (tt, tt)) e)
       | CutsSweep k ↦
           of_sweep g step next printed before told later client number change names steps rest new h (inr k.is_step) k.sweeps.master k.sweeps.is_up

@@ -45,15 +45,16 @@ use Rattle.cell_state.specs.Updates.{with_note, with_kept_put}
 use Rattle.node_core.specs.Nodes.{with_parent}
 use Rattle.cell_core.specs.Step.{queued as queued_in, with_call, asking, asking_for, names_of}
 use Rattle.cell_core.specs.Cases.{TakeCase, taken_by}
-use Rattle.cell_core.specs.Cases.TakeCase.{StartQueued, BeatParked, Repeated, Recovering, Answered, Granted, Waits}
+use Rattle.cell_core.specs.Cases.TakeCase.{StartQueued, BeatParked, LeftBefore, Repeated, Recovering, Answered, Granted, Waits}
 use Rattle.cell_core.specs.declared.effects.Effect.{Effect}
 use Rattle.cell_core.specs.Effect.{effect}
 use Rattle.cell_state.specs.Replies.{kept_puts, sent, replies_to, reply_to, turn_replies}
 use Rattle.cell_state.specs.Lapses.{lapses_replies, lapses_of}
 use Rattle.over_core.specs.SweepCase.{SweepCase, swept_by, gone_replies}
-use Rattle.over_core.specs.SweepCase.SweepCase.{Quiet, Recovers, Expires, Reopens, Tidies, Spared, Tidied, AnswersBeat, StartedAgain, Started, OfEnded, Ended, Applied, Deleted, Locked, Awaited, Left}
+use Rattle.over_core.specs.SweepCase.SweepCase.{Quiet, Recovers, Expires, Reopens, Tidies, Spared, Tidied, AnswersBeat, StartedAgain, Started, OfEnded, Ended, Applied, Deleted, Locked, Awaited, Left, Departed}
 use Rattle.world_laws.proofs.OneSession.{kept_in, each_session, each_with_new, each_issued}
 use Rattle.world_laws.proofs.EffectContents.{IsShown, IsShownIf, answer_shown, effect_faithful}
+use Rattle.lock_core.specs.declared.partings.Parting.TheVariants as partings
 
 module _ (R : Reply → Type 0) (E : Event → Type 0) where
   -- ---- what it says of each part
@@ -231,6 +232,7 @@ module _ (R : Reply → Type 0) (E : Event → Type 0) where
   pub taken_outs_hold : (s : MasterState) (request : Request) (c : TakeCase s request) → Shows s → OfSessions s.sessions → OfOuts (taken_by s request c).1.outs
   taken_outs_hold s request (StartQueued start is may serving room) shows h = tt
   taken_outs_hold s request (BeatParked beat is epoch taken) shows h = tt
+  taken_outs_hold s request (LeftBefore message kept request_is same_epoch ended is same) shows h = repeated_hold kept.reply (kept_holds s.sessions h message.client kept is)
   taken_outs_hold s request (Repeated message kept heard is same) shows h = repeated_hold kept.reply (kept_holds s.sessions h message.client kept is)
   taken_outs_hold s request (Recovering message new recovering) shows h = (shows (reply_of s message.client message.number (results.Refused faults.Recovering)) tt, tt)
   taken_outs_hold s request (Answered message note answer new serving answered) shows h =
@@ -273,7 +275,9 @@ module _ (R : Reply → Type 0) (E : Event → Type 0) where
   pub swept_outs_hold : (s : MasterState) (c : SweepCase s) → Shows s → OfSessions s.sessions → OfOuts (swept_by s c).1.outs
   swept_outs_hold s (Quiet none) shows h = tt
   swept_outs_hold s (Recovers recovering heard) shows h = tt
-  swept_outs_hold s (Expires client session due) shows h = sent_hold (lapses_replies s (lapses_of s client)) (lapses_hold s shows (lapses_of s client))
+  swept_outs_hold s (Expires client session due) shows h = sent_hold (lapses_replies s (lapses_of partings.Expiry s client)) (lapses_hold s shows (lapses_of partings.Expiry s client))
+  swept_outs_hold s (Departed front back asked call sequencer session turn work leave found live) shows h =
+      (shows (reply_of s asked.client asked.number results.Done) tt, sent_hold (lapses_replies s (lapses_of partings.Leave s asked.client)) (lapses_hold s shows (lapses_of partings.Leave s asked.client)))
   swept_outs_hold s (Reopens instance due) shows h = sent_hold (turn_replies s (reopened (lock_at s.locks instance))) (turn_hold s shows (reopened (lock_at s.locks instance)))
   swept_outs_hold s (Tidies idle due) shows h = tt
   swept_outs_hold s (Spared front back idle turn held) shows h = tt
@@ -299,7 +303,12 @@ module _ (R : Reply → Type 0) (E : Event → Type 0) where
 
   pub swept_hold : (s : MasterState) (c : SweepCase s) → OfSessions s.sessions → OfOuts (swept_by s c).1.outs → OfSessions (swept_by s c).0.sessions
   swept_hold s (Expires client session due) h k =
-      replies_hold (with_session s.sessions client of_session.ended) (lapses_replies s (lapses_of s client)) (stepped_holds s.sessions h client of_session.ended (λ session g. (g.0, tt))) k
+      replies_hold (with_session s.sessions client of_session.ended) (lapses_replies s (lapses_of partings.Expiry s client)) (stepped_holds s.sessions h client of_session.ended (λ session g. (g.0, tt))) k
+  swept_hold s (Departed front back asked call sequencer session turn work leave found live) h k =
+      let over = with_session s.sessions asked.client of_session.ended in
+      let reply = reply_of s asked.client asked.number results.Done in
+      replies_hold (with_session over asked.client (keeping (answered_by reply))) (lapses_replies s (lapses_of partings.Leave s asked.client))
+      (keeping_holds over (stepped_holds s.sessions h asked.client of_session.ended (λ session g. (g.0, tt))) asked.client (answered_by reply) k.0) k.1
   swept_hold s (Reopens instance due) h k = replies_hold s.sessions (turn_replies s (reopened (lock_at s.locks instance))) h k
   swept_hold s (Tidies idle due) h k = asking_holds (queued_in s (with_parent idle.name) (tasks.Tidies idle)) (with_parent idle.name) h
   swept_hold s (Tidied front back idle turn still) h k = replies_hold s.sessions (gone_replies s idle) h k

@@ -34,13 +34,13 @@ use Rattle.cell_state.specs.State.{MasterState}
 use Rattle.cell_state.specs.Lookups.{acknowledgement, granted_lines, repeated_reply, noted}
 use Rattle.cell_state.specs.Updates.{with_note}
 use Rattle.cell_core.specs.Cases.{TakeCase, taken_by}
-use Rattle.cell_core.specs.Cases.TakeCase.{StartRefused, OldBeat, BeatRefused, BeatParked, OldEpoch, NoSession, Repeated, OlderCall, Outstanding as StillOutstanding, Granted}
+use Rattle.cell_core.specs.Cases.TakeCase.{StartRefused, OldBeat, BeatRefused, BeatParked, OldEpoch, NoSession, LeftBefore, Repeated, OlderCall, Outstanding as StillOutstanding, Granted}
 use Rattle.cell_core.specs.declared.effects.Leave.{Leave}
 use Rattle.cell_state.specs.Replies.{locked_line, locked_lines, line_if}
 use Rattle.cell_core.specs.Outcomes.{leave_lines}
-use Rattle.cell_state.specs.Lapses.{lapse_lines, lapses_lines, lapses_of}
+use Rattle.cell_state.specs.Lapses.{lapse_lines, lapses_lines, lapses_of, parting_lines}
 use Rattle.over_core.specs.SweepCase.{SweepCase, swept_by}
-use Rattle.over_core.specs.SweepCase.SweepCase.{Recovers, Expires, Reopens, Tidied, Started as StartedFirst, Applied, Deleted, Locked, Left}
+use Rattle.over_core.specs.SweepCase.SweepCase.{Recovers, Expires, Reopens, Tidied, Started as StartedFirst, Applied, Deleted, Locked, Left, Departed as Leaves}
 use Rattle.client_core.specs.declared.parts.asks.Ask.{Ask}
 use Rattle.client_core.specs.declared.parts.sessions.Session.{Session}
 use Rattle.client_core.specs.declared.parts.sessions.Session.TheVariants as sessions
@@ -55,7 +55,7 @@ use Rattle.client_core.specs.Gives.{with_processed, takes_offer, is_jeopardy, sa
 use Rattle.client_core.specs.Cases.{noted_moment, AskCase, asked_in, BeatCase, beaten_in, GiveCase, given_in}
 use Rattle.client_core.specs.Cases.AskCase.{AskedTooLate, Unsafe, Refused, ReadServed, AbsenceServed, Shared, OutOfHandles, Released, OutOfCalls, Sent, Poisoned}
 use Rattle.client_core.specs.Cases.BeatCase.{BeatTooLate, OutOfBeats, Starts, Beats as BeatSent, Quiet}
-use Rattle.client_core.specs.Cases.GiveCase.{GivenTooLate, OfAnother, Started, StartedUnfit, StartedDropped, LeaseTaken, LeaseStays, AliveUnfit, AliveDropped, OutOfNumbers, Replied, Installed, ReplyDropped, NotAwaited, Learns, Lost, TurnedAway, RefusalDropped}
+use Rattle.client_core.specs.Cases.GiveCase.{GivenTooLate, OfAnother, Started, StartedUnfit, StartedDropped, LeaseTaken, LeaseStays, AliveUnfit, AliveDropped, OutOfNumbers, Replied, Installed, Departed, ReplyDropped, NotAwaited, Learns, Lost, TurnedAway, RefusalDropped}
 use Rattle.world_core.specs.declared.steps.Step.{Step}
 use Rattle.world_core.specs.declared.members.WorldClient.{WorldClient}
 use Rattle.world_core.specs.World.{WorldState, is_of_commit, with_refusal, asked, beaten, gave}
@@ -65,6 +65,9 @@ use Rattle.world_laws.proofs.OwnSteps.{Comes, it_comes}
 use Rattle.world_laws.proofs.TellsOn.{IsCarried}
 use Rattle.world_laws.proofs.WorldCases.{WorldCase}
 use Rattle.world_laws.proofs.WorldCases.WorldCase.{ComesUp, Joins, Asks, Beats, Gives, Ticks, Takes, Sweeps, GoesDown, CutsSweep, CutsUp, LosesUp}
+use Rattle.lock_core.specs.declared.partings.Parting.{Parting}
+use Rattle.lock_core.specs.declared.partings.Parting.TheVariants as partings
+use Rattle.cell_state.specs.Partings.{right_line, lock_line, ending_by}
 
 module _ (R : Reply → Type 0) (E : Event → Type 0) where
   -- a call is told as it was replied, and an event as it was sent
@@ -162,7 +165,7 @@ module _ (R : Reply → Type 0) (E : Event → Type 0) where
     ask_tells ask (Unsafe fault early is) = refusal_lines (note_lines s then) fault (noted_lines s s.session then)
     ask_tells ask (Refused fault safe is) = (tt, tt)
     ask_tells ask (ReadServed handle mine call entry given safe is readable) = (tt, tt)
-    ask_tells ask (AbsenceServed opening safe is plain cached) = (tt, tt)
+    ask_tells ask (AbsenceServed opening safe stays is plain cached) = (tt, tt)
     ask_tells ask (Shared opening view handle safe is shared room) = (tt, (tt, tt))
     ask_tells ask (OutOfHandles opening view handle safe is shared last) = tt
     ask_tells ask (Released handle mine safe is there shared) = (tt, tt)
@@ -204,6 +207,7 @@ module _ (R : Reply → Type 0) (E : Event → Type 0) where
     give_tells out (OutOfNumbers message call heard is for last) h = tt
     give_tells out (Replied message call heard is for room kept plain) h = replied_tells out message h is heard.own
     give_tells out (Installed message call taught_it stamp heard is for learned) h = replied_tells out message h is heard.own
+    give_tells out (Departed message call heard is for leaving done) h = told_lines s then (lines.Done s.number message.number answers.Okay ∷ []) (tt, tt)
     give_tells out (ReplyDropped message call heard is for dropped) h = nothing_told
     give_tells out (NotAwaited message heard is none) h = nothing_told
     give_tells out (Learns message present heard is later) h = told_lines s then (unknown_lines s.number s.outstanding) (unknown_hold s.number s.outstanding)
@@ -221,17 +225,31 @@ module _ (R : Reply → Type 0) (E : Event → Type 0) where
   left_lines client leave =
       both_lines (line_if leave.held (lines.Freed client leave.instance)) (locked_lines leave.instance leave.turn) (if_line leave.held (lines.Freed client leave.instance) tt) (got_lines leave.instance leave.turn.lock.generation leave.turn.granted)
 
-  lapse_hold : (client : ℕ) (lapse : Lapse) → OfLines (lapse_lines client lapse)
-  lapse_hold client lapse =
-      let ends = line_if (not (is_nobody lapse.ended)) (lines.Lapsed client lapse.instance) in
+  own_line : (parting : Parting) (client instance : ℕ) → OfLine (lock_line parting client instance)
+  own_line partings.Expiry client instance = tt
+  own_line partings.Leave client instance = tt
+
+  own_right : (parting : Parting) (number : ℕ) → OfLine (right_line parting number)
+  own_right partings.Expiry number = tt
+  own_right partings.Leave number = tt
+
+  lapse_hold : (parting : Parting) (client : ℕ) (lapse : Lapse) → OfLines (lapse_lines parting client lapse)
+  lapse_hold parting client lapse =
+      let ends = line_if (not (is_nobody lapse.ended)) (lock_line parting client lapse.instance) in
       let opens = line_if lapse.reopens (lines.Reopened lapse.instance) in
       both_lines (ends ++ opens) (locked_lines lapse.instance lapse.turn)
-      (both_lines ends opens (if_line (not (is_nobody lapse.ended)) (lines.Lapsed client lapse.instance) tt) (if_line lapse.reopens (lines.Reopened lapse.instance) tt))
+      (both_lines ends opens (if_line (not (is_nobody lapse.ended)) (lock_line parting client lapse.instance) (own_line parting client lapse.instance)) (if_line lapse.reopens (lines.Reopened lapse.instance) tt))
       (got_lines lapse.instance lapse.turn.lock.generation lapse.turn.granted)
 
-  lapses_hold : (client : ℕ) (lapses : List Lapse) → OfLines (lapses_lines client lapses)
-  lapses_hold client [] = tt
-  lapses_hold client (lapse ∷ lapses) = both_lines (lapse_lines client lapse) (lapses_lines client lapses) (lapse_hold client lapse) (lapses_hold client lapses)
+  lapses_hold : (parting : Parting) (client : ℕ) (lapses : List Lapse) → OfLines (lapses_lines parting client lapses)
+  lapses_hold parting client [] = tt
+  lapses_hold parting client (lapse ∷ lapses) = both_lines (lapse_lines parting client lapse) (lapses_lines parting client lapses) (lapse_hold parting client lapse) (lapses_hold parting client lapses)
+
+  ended_tells : (parting : Parting) (s : MasterState) (client : ℕ) → OfLines (parting_lines parting s client (lapses_of parting s client))
+  ended_tells parting s client =
+      let ends = map (right_line parting) (numbers_ending client (ending_by parting) s.rights) in
+      both_lines (ends ++ lapses_lines parting client (lapses_of parting s client)) (lines.Ended client ∷ [])
+      (both_lines ends (lapses_lines parting client (lapses_of parting s client)) (each_line (right_line parting) (own_right parting) (numbers_ending client (ending_by parting) s.rights)) (lapses_hold parting client (lapses_of parting s client))) (tt, tt)
 
   repeated_lines : (o : Option Reply) → OfLines (repeated_reply o).lines
   repeated_lines None = tt
@@ -250,6 +268,7 @@ module _ (R : Reply → Type 0) (E : Event → Type 0) where
   taken_tells s request (BeatParked beat is of taken) = each_line lines.Acked (λ number. tt) (numbers_ending beat.client (acknowledgement beat) s.rights)
   taken_tells s request (OldEpoch message is apart) = (tt, tt)
   taken_tells s request (NoSession message is of dead) = (tt, tt)
+  taken_tells s request (LeftBefore message kept request_is same_epoch ended is number) = repeated_lines kept.reply
   taken_tells s request (Repeated message kept heard is number) = repeated_lines kept.reply
   taken_tells s request (OlderCall message kept heard is less) = (tt, tt)
   taken_tells s request (StillOutstanding message kept heard is more none) = (tt, tt)
@@ -258,10 +277,8 @@ module _ (R : Reply → Type 0) (E : Event → Type 0) where
 
   swept_tells : (s : MasterState) (c : SweepCase s) → OfLines (swept_by s c).1.lines
   swept_tells s (Recovers recovering heard) = (tt, tt)
-  swept_tells s (Expires client session due) =
-      let ends = map lines.Expired (numbers_ending client endings.Expiry s.rights) in
-      both_lines (ends ++ lapses_lines client (lapses_of s client)) (lines.Ended client ∷ [])
-      (both_lines ends (lapses_lines client (lapses_of s client)) (each_line lines.Expired (λ number. tt) (numbers_ending client endings.Expiry s.rights)) (lapses_hold client (lapses_of s client))) (tt, tt)
+  swept_tells s (Expires client session due) = ended_tells partings.Expiry s client
+  swept_tells s (Leaves front back asked call sequencer session turn work leave found live) = ended_tells partings.Leave s asked.client
   swept_tells s (Reopens instance due) = (tt, got_lines instance (reopened (lock_at s.locks instance)).lock.generation (reopened (lock_at s.locks instance)).granted)
   swept_tells s (StartedFirst front back asked principal received turn work none) = (tt, tt)
   swept_tells s (Applied front back asked call sequencer _ change answer turn work live made) = (tt, tt)

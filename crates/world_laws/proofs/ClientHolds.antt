@@ -62,6 +62,7 @@ use Rattle.world_core.specs.Messages.{call_of}
 use Rattle.world_laws.specs.Consistent.{AreHandles, IsSharedByName, HasAsked, Holds, OpensAs, IsAnswer}
 use Rattle.world_laws.proofs.MessagesGrow.{call_stays, call_new, its_call}
 use Rattle.world_laws.proofs.OneSession.{at_each}
+use Rattle.client_core.proofs.Leaving.{asked_off, beaten_off, given_off}
 
 some_is : {A : Type 0} (x y : A) → Some x ≡ Some y → x ≡ y
 some_is x y h = cc
@@ -343,6 +344,7 @@ module _ (s : ClientState) where
   made_plan moment (asks.Node number node) = made_node moment number node (handle_of s.handles number) refl
   made_plan moment (asks.SetSequencer number sequencer) = made_sequencer number sequencer (usable_handle (handle_of s.handles number))
   made_plan moment (asks.CheckSequencer bytes) = made_send (calls.CheckSequencer bytes) None targets.Checking (λ number at. cc)
+  made_plan moment asks.Leave = made_send calls.Leave None targets.Leaving (λ number at. cc)
 
 -- it is the next call, which nobody sent before
 pub grips_sent : (sent : List Message) (s : ClientState) (moment : ℕ) (ask : Ask) (call : Call) (sequencer : Option (List ℕ)) (target : Target) → Grips sent s → plan_of s moment ask ≡ Ok (plans.Send call sequencer target) → call_of sent s.number (s.calls + 1) ≡ None → Grips (sent ++ ToMaster (message_of s call sequencer) ∷ []) (with_call s moment call sequencer target)
@@ -433,6 +435,7 @@ module _ (sent later : List Message) (s : ClientState) (now : ℕ) (h : Holds se
     handles = g.handles;
     kept = g.kept;
     asked = g.asked;
+    off = asked_off s now ask c h.off;
   }
 
   pub beaten_rest : (c : BeatCase s now) → Grips later (beaten_in s now c).0 → Holds later (beaten_in s now c).0
@@ -442,6 +445,7 @@ module _ (sent later : List Message) (s : ClientState) (now : ℕ) (h : Holds se
     handles = g.handles;
     kept = g.kept;
     asked = g.asked;
+    off = beaten_off s now c h.off;
   }
 
   -- who has no session then had none before
@@ -469,6 +473,7 @@ module _ (sent later : List Message) (s : ClientState) (now : ℕ) (h : Holds se
     handles = g.handles;
     kept = g.kept;
     asked = g.asked;
+    off = given_off s now out c h.off;
   }
 
 -- more messages take nothing of it
@@ -485,7 +490,7 @@ pub grips_more : (xs ys : List Message) (s : ClientState) → Grips xs s → Gri
 grips_more xs ys s h = record { handles = h.handles; kept = h.kept; asked = λ call is. asked_stays_asked xs ys s call (h.asked call is) }
 
 pub holds_more : (xs ys : List Message) (s : ClientState) → Holds xs s → Holds (xs ++ ys) s
-holds_more xs ys s h = record { entries = h.entries; none_before = h.none_before; handles = h.handles; kept = h.kept; asked = λ call is. asked_stays_asked xs ys s call (h.asked call is) }
+holds_more xs ys s h = record { entries = h.entries; none_before = h.none_before; handles = h.handles; kept = h.kept; asked = λ call is. asked_stays_asked xs ys s call (h.asked call is); off = h.off }
 
 -- a client that has done nothing yet
 pub new_holds : (sent : List Message) (number : ℕ) (principal : List ℕ) → Holds sent (new_client number principal)
@@ -496,4 +501,5 @@ new_holds sent number principal = record {
   handles = record { in_order = tt; counted = λ q x is. cc; named = λ q x is. cc };
   kept = tt;
   asked = λ call is. cc;
+  off = record { shuts = λ leave. cc; begun = λ leave. cc };
 }

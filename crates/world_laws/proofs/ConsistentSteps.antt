@@ -48,12 +48,12 @@ use Rattle.cell_core.proofs.AskedFor.{asks_only}
 use Rattle.cell_core.specs.Step.{with_call, asking_for, queued, names_of}
 use Rattle.cell_core.specs.Cases.{TakeCase, taken_by}
 use Rattle.over_core.specs.SweepCase.{SweepCase, swept_by, swept_edits, gone_replies}
-use Rattle.over_core.proofs.SweepCases.{first_tellings}
-use Rattle.cell_core.specs.Cases.TakeCase.{Repeated, StartQueued, OldBeat, BeatRefused, BeatParked, OldEpoch, Answered, Granted, Waits}
+use Rattle.over_core.proofs.SweepCases.{action_tellings}
+use Rattle.cell_core.specs.Cases.TakeCase.{LeftBefore, Repeated, StartQueued, OldBeat, BeatRefused, BeatParked, OldEpoch, Answered, Granted, Waits}
 use Rattle.cell_core.specs.Outcomes.{left_put}
 use Rattle.cell_state.specs.Replies.{turn_replies, puts_of, replies_to}
 use Rattle.cell_state.specs.Lapses.{lapses_of, lapses_puts, lapses_replies}
-use Rattle.over_core.specs.SweepCase.SweepCase.{Quiet, Recovers, Expires, Reopens, Tidies, Spared, Tidied, StartedAgain, Started as StartedFirst, OfEnded, Ended, Applied, Deleted, Locked, Awaited, Left}
+use Rattle.over_core.specs.SweepCase.SweepCase.{Quiet, Recovers, Expires, Reopens, Tidies, Spared, Tidied, StartedAgain, Started as StartedFirst, OfEnded, Ended, Applied, Deleted, Locked, Awaited, Left, Departed}
 use Rattle.over_core.specs.Kept.{IsKept}
 use Rattle.over_core.specs.Up.{up_edits}
 use Rattle.client_core.specs.declared.parts.sessions.Session.TheVariants as sessions
@@ -85,6 +85,9 @@ use Rattle.world_laws.proofs.OwnSteps.{IsNoCall, IsNextCall, Sends, OfEpoch, sen
 use Rattle.world_laws.proofs.OwnSteps.Sends.{Nothing, NoCall, NextCall}
 use Rattle.world_laws.proofs.OwnSteps.OfEpoch.{SameEpoch, GrantedEpoch, LearnedEpoch}
 use Rattle.world_laws.proofs.Slices.{started_some}
+use Rattle.lock_core.specs.declared.partings.Parting.TheVariants as partings
+use Rattle.tags_cell.specs.Messages.{is_leave}
+use Rattle.over_core.specs.declared.actions.Action.{Action}
 
 least : (n : ℕ) → n ≤ n
 least n = omega arith
@@ -102,6 +105,7 @@ pub record HasLater (old new : WorldState) (client : ℕ) (member : WorldClient)
   pub next : WorldClient
   pub there : member_of new client ≡ Some next
   pub calls : member.client.calls ≤ next.client.calls
+  pub leaves : member.client.leaving ≡ true → next.client.leaving ≡ true
   pub clock : member.clock ≤ next.clock
   pub lead : new.rows.epoch ≡ old.rows.epoch → 16 * next.least_now + 17 * member.least_clock ≤ 16 * member.least_now + 17 * next.least_clock
 
@@ -145,7 +149,7 @@ module _ (old new : WorldState) (more : List Message) (h : IsConsistent old) (la
       let at_least = y.calls in
       let past = x.past in
       let epoch = later.epoch in
-      record { member = y.next; joined = y.there; within = omega arith; past = omega arith }
+      record { member = y.next; joined = y.there; within = omega arith; past = omega arith; leaves = λ leave. y.leaves (x.leaves leave) }
 
   all_named : (at : ℕ) (call : CallMessage) → request_at new.messages at ≡ Some (requests.Call call) → call_of new.messages call.client call.number ≡ Some call
   all_named at call is =
@@ -268,6 +272,7 @@ same_clients old new e epoch clock = record {
     next = member;
     there = subst (λ (c : Clients). lookup (is_at (nat_cmp client)) c ≡ Some member) (sym e) is;
     calls = least member.client.calls;
+    leaves = λ was. was;
     clock = least member.clock;
     lead = λ same. no_more member.least_now member.least_clock;
   };
@@ -318,6 +323,7 @@ module _ (w : WorldState) (h : IsConsistent w) (now : ℕ) where
       next = at_up now member;
       there = each_found (λ number. at_up now) w.clients client ∙ ap (λ o. option_map (at_up now) o) is;
       calls = least member.client.calls;
+      leaves = λ was. was;
       clock = least member.clock;
       lead = λ same. not_next same;
     };
@@ -355,6 +361,7 @@ module _ (w : WorldState) (h : IsConsistent w) (number : ℕ) (principal : List 
       next = x;
       there = at_others q (λ e. let i : member_of w number ≡ Some x = rw e at is in cc) ∙ is;
       calls = least x.client.calls;
+      leaves = λ was. was;
       clock = least x.clock;
       lead = λ same. no_more x.least_now x.least_clock;
     };
@@ -385,13 +392,14 @@ module _ (w : WorldState) (h : IsConsistent w) (number : ℕ) (member : WorldCli
   abbrev acted : WorldState
   acted = record w { clients = stepped w.clients number member client; messages = messages }
 
-  own_later : member.client.calls ≤ client.calls → Later w acted
-  own_later more = record {
+  own_later : member.client.calls ≤ client.calls → (member.client.leaving ≡ true → client.leaving ≡ true) → Later w acted
+  own_later more keeps = record {
     clients = λ q x is. (at_each (λ n. (y : WorldClient) → member_of w n ≡ Some y → HasLater w acted n y) number
         (λ y at. subst (λ z. HasLater w acted number z) (some_same member y (sym found ∙ at)) (record {
           next = record member { client = client };
           there = own_member w.clients number member client found;
           calls = more;
+          leaves = keeps;
           clock = least member.clock;
           lead = λ same. no_more member.least_now member.least_clock;
         }))
@@ -399,6 +407,7 @@ module _ (w : WorldState) (h : IsConsistent w) (number : ℕ) (member : WorldCli
           next = y;
           there = other_member w.clients number member client found n apart ∙ at;
           calls = least y.client.calls;
+          leaves = λ was. was;
           clock = least y.clock;
           lead = λ same. no_more y.least_now y.least_clock;
         }) q) x is;
@@ -466,8 +475,8 @@ unsent w h number member found call m (Some other) is =
     let is_next = m.number in
     absurd (omega arith)
 
-call_fresh : (w : WorldState) (h : IsConsistent w) (number : ℕ) (member : WorldClient) (found : member_of w number ≡ Some member) (client : ClientState) (call : CallMessage) → IsNextCall member.client call → client.calls ≡ member.client.calls + 1 → AreFresh w (record w { clients = stepped w.clients number member client; messages = w.messages ++ ToMaster (requests.Call call) ∷ [] }) (ToMaster (requests.Call call) ∷ [])
-call_fresh w h number member found client call m calls =
+call_fresh : (w : WorldState) (h : IsConsistent w) (number : ℕ) (member : WorldClient) (found : member_of w number ≡ Some member) (client : ClientState) (call : CallMessage) → IsNextCall member.client call → client.calls ≡ member.client.calls + 1 → (is_leave call.call ≡ true → client.leaving ≡ true) → AreFresh w (record w { clients = stepped w.clients number member client; messages = w.messages ++ ToMaster (requests.Call call) ∷ [] }) (ToMaster (requests.Call call) ∷ [])
+call_fresh w h number member found client call m calls departs =
     let new : WorldState = record w { clients = stepped w.clients number member client; messages = w.messages ++ ToMaster (requests.Call call) ∷ [] } in
     let t = h.clients number member found in
     let n : call.client ≡ number = m.client ∙ t.own in
@@ -479,6 +488,7 @@ call_fresh w h number member found client call m calls =
       joined = own_member w.clients number member client found;
       within = omega arith;
       past = omega arith;
+      leaves = departs;
     }) in
     record {
       grown = refl;
@@ -492,26 +502,26 @@ call_fresh w h number member found client call m calls =
     }
 
 module _ (w : WorldState) (h : IsConsistent w) (number : ℕ) (member : WorldClient) (found : member_of w number ≡ Some member) (client : ClientState) (own : IsMember w.rows.epoch number (record member { client = client })) where
-  sends_holds : (sent : Option Request) → Sends member.client client sent → Becomes (record w { clients = stepped w.clients number member client; messages = w.messages ++ sending sent })
-  sends_holds None (Nothing e calls) =
-      own_consistent w h number member found client (w.messages ++ []) [] refl (own_later w h number member found client (w.messages ++ []) (omega (arith, calls)))
+  sends_holds : (sent : Option Request) → Sends member.client client sent → (member.client.leaving ≡ true → client.leaving ≡ true) → ((call : CallMessage) → sent ≡ Some (requests.Call call) → is_leave call.call ≡ true → client.leaving ≡ true) → Becomes (record w { clients = stepped w.clients number member client; messages = w.messages ++ sending sent })
+  sends_holds None (Nothing e calls) keeps departs =
+      own_consistent w h number member found client (w.messages ++ []) [] refl (own_later w h number member found client (w.messages ++ []) (omega (arith, calls)) keeps)
       (none_fresh w (record w { clients = stepped w.clients number member client; messages = w.messages ++ [] }) (append-nil w.messages)) own
-  sends_holds None (NoCall request e none calls) = cc
-  sends_holds None (NextCall call e m calls) = cc
-  sends_holds (Some request) (Nothing e calls) = cc
-  sends_holds (Some request) (NoCall sent e none calls) =
+  sends_holds None (NoCall request e none calls) keeps departs = cc
+  sends_holds None (NextCall call e m calls) keeps departs = cc
+  sends_holds (Some request) (Nothing e calls) keeps departs = cc
+  sends_holds (Some request) (NoCall sent e none calls) keeps departs =
       let is : sent ≡ request = sym (some_same request sent e) in
-      own_consistent w h number member found client (w.messages ++ ToMaster request ∷ []) (ToMaster request ∷ []) refl (own_later w h number member found client (w.messages ++ ToMaster request ∷ []) (omega (arith, calls)))
+      own_consistent w h number member found client (w.messages ++ ToMaster request ∷ []) (ToMaster request ∷ []) refl (own_later w h number member found client (w.messages ++ ToMaster request ∷ []) (omega (arith, calls)) keeps)
       (beat_fresh w (record w { clients = stepped w.clients number member client; messages = w.messages ++ ToMaster request ∷ [] }) request (subst IsNoCall is none) refl) own
-  sends_holds (Some request) (NextCall call e m calls) =
+  sends_holds (Some request) (NextCall call e m calls) keeps departs =
       subst (λ r. Becomes (record w { clients = stepped w.clients number member client; messages = w.messages ++ ToMaster r ∷ [] })) (sym (some_same request (requests.Call call) e))
       (own_consistent w h number member found client (w.messages ++ ToMaster (requests.Call call) ∷ []) (ToMaster (requests.Call call) ∷ []) refl
-      (own_later w h number member found client (w.messages ++ ToMaster (requests.Call call) ∷ []) (omega (arith, calls))) (call_fresh w h number member found client call m calls) own)
+      (own_later w h number member found client (w.messages ++ ToMaster (requests.Call call) ∷ []) (omega (arith, calls)) keeps) (call_fresh w h number member found client call m calls (departs call e)) own)
 
 own_holds : (old new : WorldState) (printed : List Line) → IsConsistent old → IsOwn old new printed → Becomes new
 own_holds old new printed h o =
     subst Becomes (sym (o.is ∙ ap (λ m. record old { clients = stepped old.clients o.number o.member o.client; messages = m }) o.grown))
-    (sends_holds old h o.number o.member o.found o.client (stepped_by old h o.number o.member o.found o.client o.own o.notes o.epoch) o.sent o.sends)
+    (sends_holds old h o.number o.member o.found o.client (stepped_by old h o.number o.member o.found o.client o.own o.notes o.epoch) o.sent o.sends o.keeps o.departs)
 
 more_calls : (s new : ClientState) (sent : Option Request) → Sends s new sent → s.calls ≤ new.calls
 more_calls s new sent (Nothing e calls) = omega (arith, calls)
@@ -519,7 +529,7 @@ more_calls s new sent (NoCall request e none calls) = omega (arith, calls)
 more_calls s new sent (NextCall call e m calls) = omega (arith, calls)
 
 pub own_goes : (old new : WorldState) (printed : List Line) → IsConsistent old → IsOwn old new printed → Later old new
-own_goes old new printed h o = subst (Later old) (sym o.is) (own_later old h o.number o.member o.found o.client new.messages (more_calls o.member.client o.client o.sent o.sends))
+own_goes old new printed h o = subst (Later old) (sym o.is) (own_later old h o.number o.member o.found o.client new.messages (more_calls o.member.client o.client o.sent o.sends) o.keeps)
 
 -- ---- clocks move
 
@@ -534,6 +544,7 @@ module _ (w : WorldState) (h : IsConsistent w) (ticks : ClockSteps) where
           next = moved w.master w ticks q x;
           there = each_found (moved w.master w ticks) w.clients q ∙ ap (λ o. option_map (moved w.master w ticks q) o) is;
           calls = subst (λ (c : ClientState). x.client.calls ≤ c.calls) (sym same) (least x.client.calls);
+          leaves = λ was. ap (λ (c : ClientState). c.leaving) same ∙ was;
           clock = omega (arith, to);
           lead = λ epoch. m.least;
         };
@@ -613,6 +624,7 @@ taken_tells : (s : MasterState) (request : Request) (c : TakeCase s request) →
 taken_tells s request (OldBeat beat is apart) = (least s.epoch, tt)
 taken_tells s request (BeatRefused beat fault is same refused) = (beat_tells s.epoch (session_of s beat.client) beat fault refused, tt)
 taken_tells s request (OldEpoch message is apart) = (least s.epoch, tt)
+taken_tells s request (LeftBefore message kept request_is same_epoch ended is number) = repeated_tells s.epoch kept.reply
 taken_tells s request (Repeated message kept heard is number) = repeated_tells s.epoch kept.reply
 taken_tells s request (StartQueued start is may serving room) = tt
 taken_tells s request (BeatParked beat is same taken) = tt
@@ -627,7 +639,8 @@ replies_tell epoch (reply ∷ replies) = (tt, replies_tell epoch replies)
 swept_tells : (s : MasterState) (c : SweepCase s) → AreTellingIn s.epoch (swept_by s c).1.outs
 swept_tells s (Quiet none) = tt
 swept_tells s (Recovers recovering heard) = tt
-swept_tells s (Expires client session due) = replies_tell s.epoch (lapses_replies s (lapses_of s client))
+swept_tells s (Expires client session due) = replies_tell s.epoch (lapses_replies s (lapses_of partings.Expiry s client))
+swept_tells s (Departed front back asked call sequencer session turn work leave found live) = (tt, replies_tell s.epoch (lapses_replies s (lapses_of partings.Leave s asked.client)))
 swept_tells s (Reopens instance due) = replies_tell s.epoch (turn_replies s (reopened (lock_at s.locks instance)))
 swept_tells s (Tidies idle due) = tt
 swept_tells s (Spared front back idle turn held) = tt
@@ -648,7 +661,9 @@ mod_epoch rows (Gone name) next = refl
 
 pub swept_epoch : (rows : Rows) (s : MasterState) (c : SweepCase s) → (changed_rows rows (swept_edits s c)).epoch ≡ rows.epoch
 swept_epoch rows s (Expires client session due) =
-    (let_go rows (lock_changes s (lapses_puts s (lapses_of s client))) client (record { principal = session.principal; live = false })).beside.epoch
+    (let_go rows (lock_changes s (lapses_puts s (lapses_of partings.Expiry s client))) client (record { principal = session.principal; live = false })).beside.epoch
+swept_epoch rows s (Departed front back asked call sequencer session turn work leave found live) =
+    (let_go rows (lock_changes s (lapses_puts s (lapses_of partings.Leave s asked.client))) asked.client (record { principal = session.principal; live = false })).beside.epoch
 swept_epoch rows s (Reopens instance due) = (relocked_rows rows (lock_changes s (puts_of s instance (reopened (lock_at s.locks instance)).lock))).beside.epoch
 swept_epoch rows s (Applied front back asked call sequencer _ change answer turn work live made) = mod_epoch rows change.change change.next_instance
 swept_epoch rows s (Deleted front back asked call sequencer change instance waiters answer turn work live made) = mod_epoch rows change.change change.next_instance
@@ -702,20 +717,20 @@ module _ (w : WorldState) (h : IsConsistent w) (s : MasterState) (up : w.master 
       all_consistent w new (map ToClient sent) h (same_clients w new refl (least w.rows.epoch) refl) (outs_fresh w new sent refl telling) (same_members w new h refl (least w.rows.epoch))
       fits refl (omega (arith, clock, early)) (fair_at w w.master s up h.fair)
 
-  sweep_holds : (c : SweepCase (noted s w.clock)) → Becomes (record w { rows = changed_rows w.rows (swept_edits (noted s w.clock) c); master = Some (swept_master (noted s w.clock) c); messages = w.messages ++ map ToClient (swept_by (noted s w.clock) c).1.outs })
-  sweep_holds c =
+  sweep_holds : (c : SweepCase (noted s w.clock)) (action : Action) → Becomes (record w { rows = changed_rows w.rows (swept_edits (noted s w.clock) c); master = Some (swept_master (noted s w.clock) c action); messages = w.messages ++ map ToClient (swept_by (noted s w.clock) c).1.outs })
+  sweep_holds c action =
       let sent : List Out = (swept_by (noted s w.clock) c).1.outs in
-      let new : WorldState = record w { rows = changed_rows w.rows (swept_edits (noted s w.clock) c); master = Some (swept_master (noted s w.clock) c); messages = w.messages ++ map ToClient sent } in
+      let new : WorldState = record w { rows = changed_rows w.rows (swept_edits (noted s w.clock) c); master = Some (swept_master (noted s w.clock) c action); messages = w.messages ++ map ToClient sent } in
       let stays : new.rows.epoch ≡ w.rows.epoch = swept_epoch w.rows (noted s w.clock) c in
       let epoch : s.epoch ≡ new.rows.epoch = (agrees_at w w.master s up h.master).epoch ∙ sym stays in
       let telling : AreTellingIn new.rows.epoch sent = subst (λ n. AreTellingIn n sent) epoch (swept_tells (noted s w.clock) c) in
       let own = shows_own (noted s w.clock) (agrees_at w w.master s up h.master).own in
-      let fits = tellings_fit w.messages (swept_by (noted s w.clock) c).0 (first_tellings (noted s w.clock)) (sweep_fits w.messages (noted s w.clock) c (noted_fits w h s up) own) in
+      let fits = tellings_fit w.messages (swept_by (noted s w.clock) c).0 (action_tellings (noted s w.clock) action) (sweep_fits w.messages (noted s w.clock) c (noted_fits w h s up) own) in
       let no_less : w.rows.epoch ≤ new.rows.epoch = omega (arith, stays) in
       let clock = swept_clock (noted s w.clock) c in
       let early = within in
       all_consistent w new (map ToClient sent) h (same_clients w new refl no_less refl) (outs_fresh w new sent refl telling) (same_members w new h refl no_less)
-      (fits_stays w.messages (map ToClient sent) (swept_master (noted s w.clock) c) fits) refl (omega (arith, clock, early)) (fair_at w w.master s up h.fair)
+      (fits_stays w.messages (map ToClient sent) (swept_master (noted s w.clock) c action) fits) refl (omega (arith, clock, early)) (fair_at w w.master s up h.fair)
 
 -- ---- the master goes down
 
@@ -758,7 +773,7 @@ case_holds old step new printed h (Beats b) = own_holds old new printed h (beats
 case_holds old step new printed h (Gives g) = own_holds old new printed h (gives_own old step new printed g)
 case_holds old step new printed h (Ticks t) = subst Becomes (sym t.is) (tick_holds old h t.ticks t.fair)
 case_holds old step new printed h (Takes t) = subst Becomes (sym t.is) (take_holds old h t.master t.is_up t.at t.request t.case t.was_sent)
-case_holds old step new printed h (Sweeps t) = subst Becomes (sym t.is) (sweep_holds old h t.master t.is_up t.case)
+case_holds old step new printed h (Sweeps t) = subst Becomes (sym t.is) (sweep_holds old h t.master t.is_up t.case t.action)
 case_holds old step new printed h (GoesDown d) = subst Becomes (sym d.is) (down_holds old h)
 case_holds old step new printed h (CutsSweep k) = subst Becomes (sym k.is) (cut_holds old h k.mid.rows (sweep_more old steps.Sweep k.mid k.told k.sweeps))
 case_holds old step new printed h (CutsUp k) = subst Becomes (sym (k.is ∙ rows_only old k.mid.rows k.comes.none)) (cut_holds old h k.mid.rows (up_more old (steps.Up k.now) k.mid k.told k.comes))

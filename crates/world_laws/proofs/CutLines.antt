@@ -12,11 +12,12 @@ use Rattle.lock_core.specs.Locks.{lock_at}
 use Rattle.cell_state.specs.State.{MasterState}
 use Rattle.cell_state.specs.Lapses.{lapses_of}
 use Rattle.over_core.specs.SweepCase.{SweepCase, swept_by}
-use Rattle.over_core.specs.SweepCase.SweepCase.{Recovers, Expires, Reopens, Left}
+use Rattle.over_core.specs.SweepCase.SweepCase.{Recovers, Expires, Reopens, Left, Departed}
 use Rattle.world_core.specs.World.{is_of_commit}
-use Rattle.world_laws.proofs.LockLines.{reopened_of_locks, left_of_locks, expiry_kept}
+use Rattle.world_laws.proofs.LockLines.{reopened_of_locks, left_of_locks, parting_kept}
 use Rattle.rights_core.specs.Grants.{Told, rights_by, rights_at}
 use Rattle.world_laws.specs.Runs.{map_by, map_at, epoch_by, epoch_at, live_by, live_at, put_number, applied}
+use Rattle.lock_core.specs.declared.partings.Parting.TheVariants as partings
 
 -- the lines of a sweep that was cut
 abbrev pub cut_lines : List Line → List Line
@@ -55,7 +56,9 @@ kept_rights rights (line ∷ told) =
 
 pub swept_kept : (s : MasterState) (c : SweepCase s) → (filter is_of_commit (swept_by s c).1.lines ≡ (swept_by s c).1.lines) ⊎ (filter is_of_commit (swept_by s c).1.lines ≡ [])
 swept_kept s (Recovers recovering heard) = inr refl
-swept_kept s (Expires client session due) = inl (expiry_kept client (numbers_ending client endings.Expiry s.rights) (lapses_of s client))
+swept_kept s (Expires client session due) = inl (parting_kept partings.Expiry client (numbers_ending client endings.Expiry s.rights) (lapses_of partings.Expiry s client))
+swept_kept s (Departed front back asked call sequencer session turn work leave found live) =
+    inl (parting_kept partings.Leave asked.client (numbers_ending asked.client endings.Leave s.rights) (lapses_of partings.Leave s asked.client))
 swept_kept s (Reopens instance due) = inl (reopened_of_locks instance (reopened (lock_at s.locks instance))).kept
 swept_kept s (Left front back asked call sequencer _ leave answer turn work live made) = inl (left_of_locks asked.client leave).kept
 swept_kept s _ = inl refl

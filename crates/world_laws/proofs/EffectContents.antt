@@ -155,6 +155,7 @@ module _ (s : MasterState) where
   on_node_shown handle (calls.GetSequencer bytes) view found = sequencer_shown (sequencer_of (lock_under (name_space s) handle) handle.instance handle.name (owner_of handle))
   on_node_shown handle (calls.SetSequencer bytes) view found = tt
   on_node_shown handle (calls.CheckSequencer bytes) view found = tt
+  on_node_shown handle calls.Leave view found = tt
 
   on_node_under_shown : (handle : Handle) (call : Call) (view : Node) (o : Option Fault) → get_node s.nodes handle.name ≡ Some view → IsShownIf s.nodes (answer_under (name_space s) handle call view o)
   on_node_under_shown handle call view (Some fault) found = tt
@@ -180,6 +181,7 @@ module _ (s : MasterState) where
   on_shown handle (calls.GetSequencer bytes) sequencer = at_node_shown handle (calls.GetSequencer bytes) sequencer
   on_shown handle (calls.SetSequencer bytes) sequencer = at_node_shown handle (calls.SetSequencer bytes) sequencer
   on_shown handle (calls.CheckSequencer bytes) sequencer = at_node_shown handle (calls.CheckSequencer bytes) sequencer
+  on_shown handle calls.Leave sequencer = at_node_shown handle calls.Leave sequencer
 
   handle_shown : (call : Call) (sequencer : Option (List ℕ)) (o : Option Handle) → IsShownIf s.nodes (handle_admission s call sequencer o).answer
   handle_shown call sequencer None = tt
@@ -205,6 +207,7 @@ module _ (s : MasterState) where
         | false ↦ tt
       ]
   admission_shown client number (calls.CheckSequencer bytes) sequencer = check_shown bytes (sequencer_fault (name_space s) sequencer)
+  admission_shown client number calls.Leave sequencer = tt
   admission_shown client number (calls.Close bytes) sequencer = handle_shown (calls.Close bytes) sequencer (shown_handle s client bytes)
   admission_shown client number (calls.Read bytes) sequencer = handle_shown (calls.Read bytes) sequencer (shown_handle s client bytes)
   admission_shown client number (calls.Stat bytes) sequencer = handle_shown (calls.Stat bytes) sequencer (shown_handle s client bytes)
@@ -302,6 +305,7 @@ module _ (s : MasterState) where
   change_faithful handle (calls.GetSequencer bytes) view found = (tt, tt)
   change_faithful handle (calls.SetSequencer bytes) view found = (tt, tt)
   change_faithful handle (calls.CheckSequencer bytes) view found = (tt, tt)
+  change_faithful handle calls.Leave view found = (tt, tt)
 
   change_on_faithful : (handle : Handle) (call : Call) → IsFaithful s (change_on (name_space s) s.clock handle call)
   change_on_faithful handle call =
@@ -327,6 +331,7 @@ module _ (s : MasterState) where
   on_faithful handle (calls.GetSequencer bytes) sequencer = first_faithful handle (calls.GetSequencer bytes) (answer_on (name_space s) handle (calls.GetSequencer bytes) sequencer) (on_shown handle (calls.GetSequencer bytes) sequencer)
   on_faithful handle (calls.SetSequencer bytes) sequencer = first_faithful handle (calls.SetSequencer bytes) (answer_on (name_space s) handle (calls.SetSequencer bytes) sequencer) (on_shown handle (calls.SetSequencer bytes) sequencer)
   on_faithful handle (calls.CheckSequencer bytes) sequencer = first_faithful handle (calls.CheckSequencer bytes) (answer_on (name_space s) handle (calls.CheckSequencer bytes) sequencer) (on_shown handle (calls.CheckSequencer bytes) sequencer)
+  on_faithful handle calls.Leave sequencer = first_faithful handle calls.Leave (answer_on (name_space s) handle calls.Leave sequencer) (on_shown handle calls.Leave sequencer)
 
   shown_faithful : (call : Call) (sequencer : Option (List ℕ)) (o : Option Handle) → IsFaithful s (handle_effect (name_space s) s.clock call sequencer o)
   shown_faithful call sequencer None = (tt, tt)
@@ -348,3 +353,4 @@ module _ (s : MasterState) where
   effect_faithful client number (calls.GetSequencer bytes) sequencer = shown_faithful (calls.GetSequencer bytes) sequencer (read_handle s.secret bytes)
   effect_faithful client number (calls.SetSequencer bytes) sequencer = shown_faithful (calls.SetSequencer bytes) sequencer (read_handle s.secret bytes)
   effect_faithful client number (calls.CheckSequencer bytes) sequencer = shown_faithful (calls.CheckSequencer bytes) sequencer (read_handle s.secret [])
+  effect_faithful client number calls.Leave sequencer = shown_faithful calls.Leave sequencer (read_handle s.secret [])

@@ -160,6 +160,7 @@ change_gives s handle (calls.Release bytes) view there = released_gives s handle
 change_gives s handle (calls.GetSequencer bytes) view there = tt
 change_gives s handle (calls.SetSequencer bytes) view there = tt
 change_gives s handle (calls.CheckSequencer bytes) view there = tt
+change_gives s handle calls.Leave view there = tt
 
 first_gives : (s : MasterState) (handle : Handle) (call : Call) (o : Option CallResult) → GivesBy s (option_map_or (λ answer. answered answer) o (change_on (name_space s) s.clock handle call))
 first_gives s handle call o = found_or s (λ (answer : CallResult). answered answer) o (change_on (name_space s) s.clock handle call) (λ answer is. tt)
@@ -181,6 +182,7 @@ on_gives s handle (calls.Release bytes) sequencer = first_gives s handle (calls.
 on_gives s handle (calls.GetSequencer bytes) sequencer = first_gives s handle (calls.GetSequencer bytes) (answer_on (name_space s) handle (calls.GetSequencer bytes) sequencer)
 on_gives s handle (calls.SetSequencer bytes) sequencer = first_gives s handle (calls.SetSequencer bytes) (answer_on (name_space s) handle (calls.SetSequencer bytes) sequencer)
 on_gives s handle (calls.CheckSequencer bytes) sequencer = first_gives s handle (calls.CheckSequencer bytes) (answer_on (name_space s) handle (calls.CheckSequencer bytes) sequencer)
+on_gives s handle calls.Leave sequencer = first_gives s handle calls.Leave (answer_on (name_space s) handle calls.Leave sequencer)
 
 shown_gives : (s : MasterState) (call : Call) (sequencer : Option (List ℕ)) (o : Option Handle) → GivesBy s (handle_effect (name_space s) s.clock call sequencer o)
 shown_gives s call sequencer None = tt
@@ -202,3 +204,4 @@ effect_gives s client number (calls.Release bytes) sequencer = shown_gives s (ca
 effect_gives s client number (calls.GetSequencer bytes) sequencer = shown_gives s (calls.GetSequencer bytes) sequencer (read_handle s.secret bytes)
 effect_gives s client number (calls.SetSequencer bytes) sequencer = shown_gives s (calls.SetSequencer bytes) sequencer (read_handle s.secret bytes)
 effect_gives s client number (calls.CheckSequencer bytes) sequencer = shown_gives s (calls.CheckSequencer bytes) sequencer (read_handle s.secret [])
+effect_gives s client number calls.Leave sequencer = shown_gives s calls.Leave sequencer (read_handle s.secret [])

@@ -148,6 +148,7 @@ change_raises s handle (calls.Release bytes) view = released_raises s handle (re
 change_raises s handle (calls.GetSequencer bytes) view = tt
 change_raises s handle (calls.SetSequencer bytes) view = tt
 change_raises s handle (calls.CheckSequencer bytes) view = tt
+change_raises s handle calls.Leave view = tt
 
 first_raises : (s : MasterState) (handle : Handle) (call : Call) (o : Option CallResult) → Raises s (option_map_or (λ answer. answered answer) o (change_on (name_space s) s.clock handle call))
 first_raises s handle call o = found_or s (λ (answer : CallResult). answered answer) o (change_on (name_space s) s.clock handle call) (λ answer. tt)
@@ -168,6 +169,7 @@ on_raises s handle (calls.Release bytes) sequencer = first_raises s handle (call
 on_raises s handle (calls.GetSequencer bytes) sequencer = first_raises s handle (calls.GetSequencer bytes) (answer_on (name_space s) handle (calls.GetSequencer bytes) sequencer)
 on_raises s handle (calls.SetSequencer bytes) sequencer = first_raises s handle (calls.SetSequencer bytes) (answer_on (name_space s) handle (calls.SetSequencer bytes) sequencer)
 on_raises s handle (calls.CheckSequencer bytes) sequencer = first_raises s handle (calls.CheckSequencer bytes) (answer_on (name_space s) handle (calls.CheckSequencer bytes) sequencer)
+on_raises s handle calls.Leave sequencer = first_raises s handle calls.Leave (answer_on (name_space s) handle calls.Leave sequencer)
 
 shown_raises : (s : MasterState) (call : Call) (sequencer : Option (List ℕ)) (o : Option Handle) → Raises s (handle_effect (name_space s) s.clock call sequencer o)
 shown_raises s call sequencer None = tt
@@ -189,3 +191,4 @@ effect_raises s client number (calls.Release bytes) sequencer = shown_raises s (
 effect_raises s client number (calls.GetSequencer bytes) sequencer = shown_raises s (calls.GetSequencer bytes) sequencer (read_handle s.secret bytes)
 effect_raises s client number (calls.SetSequencer bytes) sequencer = shown_raises s (calls.SetSequencer bytes) sequencer (read_handle s.secret bytes)
 effect_raises s client number (calls.CheckSequencer bytes) sequencer = shown_raises s (calls.CheckSequencer bytes) sequencer (read_handle s.secret [])
+effect_raises s client number calls.Leave sequencer = shown_raises s calls.Leave sequencer (read_handle s.secret [])

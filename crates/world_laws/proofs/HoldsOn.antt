@@ -15,7 +15,7 @@ use Rattle.client_core.specs.Asks.{message_of}
 use Rattle.client_core.specs.Cases.{noted_moment, IsAwaited, AskCase, asked_in, BeatCase, beaten_in, GiveCase, given_in}
 use Rattle.client_core.specs.Cases.AskCase.{AskedTooLate, Unsafe, Refused, ReadServed, AbsenceServed, Shared, OutOfHandles, Released, OutOfCalls, Sent, Poisoned}
 use Rattle.client_core.specs.Cases.BeatCase.{BeatTooLate, OutOfBeats, Starts, Beats as BeatSent, Quiet}
-use Rattle.client_core.specs.Cases.GiveCase.{GivenTooLate, OfAnother, Started, StartedUnfit, StartedDropped, LeaseTaken, LeaseStays, AliveUnfit, AliveDropped, OutOfNumbers, Replied, Installed, ReplyDropped, NotAwaited, Learns, Lost, TurnedAway, RefusalDropped}
+use Rattle.client_core.specs.Cases.GiveCase.{GivenTooLate, OfAnother, Started, StartedUnfit, StartedDropped, LeaseTaken, LeaseStays, AliveUnfit, AliveDropped, OutOfNumbers, Replied, Installed, Departed, ReplyDropped, NotAwaited, Learns, Lost, TurnedAway, RefusalDropped}
 use Rattle.world_core.specs.declared.steps.Step.{Step}
 use Rattle.world_core.specs.declared.mail.Message.{Message}
 use Rattle.world_core.specs.declared.mail.Message.TheVariants.{ToMaster}
@@ -70,7 +70,7 @@ module _ (w : WorldState) (h : IsConsistent w) (number : ℕ) (member : WorldCli
   ask_holds ask (Unsafe fault early is) = ask_stays ask (Unsafe fault early is) (grips_stay w.messages s _ held (note_grips s s.session then))
   ask_holds ask (Refused fault safe is) = ask_stays ask (Refused fault safe is) (grips_stay w.messages s _ held (record { number = refl; opened = refl; handles = refl; kept = refl; outstanding = refl }))
   ask_holds ask (ReadServed handle mine call entry given safe is readable) = ask_stays ask (ReadServed handle mine call entry given safe is readable) (grips_stay w.messages s _ held (record { number = refl; opened = refl; handles = refl; kept = refl; outstanding = refl }))
-  ask_holds ask (AbsenceServed opening safe is plain cached) = ask_stays ask (AbsenceServed opening safe is plain cached) (grips_stay w.messages s _ held (record { number = refl; opened = refl; handles = refl; kept = refl; outstanding = refl }))
+  ask_holds ask (AbsenceServed opening safe stays is plain cached) = ask_stays ask (AbsenceServed opening safe stays is plain cached) (grips_stay w.messages s _ held (record { number = refl; opened = refl; handles = refl; kept = refl; outstanding = refl }))
   ask_holds ask (Shared opening view handle safe is shared room) =
       ask_stays ask (Shared opening view handle safe is shared room)
       (grips_shared w.messages s then (kept_handle handle opening true) held (serves_name s.kept opening.name view.node.instance handle own.kept shared.kept))
@@ -120,6 +120,7 @@ module _ (w : WorldState) (h : IsConsistent w) (number : ℕ) (member : WorldCli
     give_holds (Replied message call heard is for room kept plain) =
         give_stays (Replied message call heard is for room kept plain) (grips_replied w.messages w.rows.secret s then message call message.result held (the_reply message call heard.own is for) refl)
     give_holds (Installed message call taught stamp heard is for learned) = give_stays (Installed message call taught stamp heard is for learned) (grips_end w.messages s _ own.handles own.kept refl)
+    give_holds (Departed message call heard is for leaving done) = give_stays (Departed message call heard is for leaving done) (grips_end w.messages s _ own.handles own.kept refl)
     give_holds (ReplyDropped message call heard is for dropped) = give_stays (ReplyDropped message call heard is for dropped) (grips_end w.messages s _ own.handles own.kept refl)
     give_holds (NotAwaited message heard is none) = give_stays (NotAwaited message heard is none) noted_only
     give_holds (Learns message present heard is later) = give_stays (Learns message present heard is later) (grips_end w.messages s _ own.handles own.kept refl)

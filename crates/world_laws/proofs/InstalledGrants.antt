@@ -89,6 +89,7 @@ is_open (calls.Release bytes) opening h = cc
 is_open (calls.GetSequencer bytes) opening h = cc
 is_open (calls.SetSequencer bytes) opening h = cc
 is_open (calls.CheckSequencer bytes) opening h = cc
+is_open calls.Leave opening h = cc
 
 module _ (sent : List Message) (secret : List ℕ) (s : ClientState) (message : Reply) (call : Outstanding) (handles : AreHandles s.opened s.handles) (r : IsReplied sent secret s message call) (name x : List ℕ) (entry : Option View) (asks : name_asked secret r.asked.message.call ≡ Some name) where
   by_handle : (view : View) (number : ℕ) (o : Option ClientHandle) → call.target ≡ targets.Handle number → handle_of s.handles number ≡ o → viewed o view ≡ Some (x, entry) → Learned name x (Some view) entry
@@ -105,6 +106,7 @@ module _ (sent : List Message) (secret : List ℕ) (s : ClientState) (message : 
   by_view view (targets.Handle number) at h = by_handle view number (handle_of s.handles number) at refl h
   by_view view (targets.Sequencing number) at h = cc
   by_view view targets.Checking at h = cc
+  by_view view targets.Leaving at h = cc
   by_view view targets.Dropped at h = cc
 
   by_plain : (opening : Open) (b : Bool) → opening_in r.asked.message.call ≡ Some opening → cond {A = Option Lesson} b (Some (opening.name, None)) None ≡ Some (x, entry) → Learned name x None entry

@@ -21,6 +21,7 @@ use Rattle.cell_state.specs.Replies.{reply_to, replies_to, turn_replies}
 use Rattle.cell_state.specs.Lapses.{lapses_replies}
 use Rattle.world_laws.specs.Consistent.{awaits_lock, OpensAs}
 use Rattle.world_laws.proofs.LockWaiters.{or_left, or_right, ComesFrom, lapsed_comes}
+use Rattle.lock_core.specs.declared.partings.Parting.{Parting}
 
 -- it opens no handle, and may not be kept in a cache
 pub record IsLate (s : MasterState) (reply : Reply) : Type 0 where
@@ -66,13 +67,13 @@ module _ (s : MasterState) where
       (replies_late results.Done turn.granted (λ call. tt) (λ q e. waited q (comes.granted (λ claim. is_of_client q claim.owner) e)))
       (replies_late (results.Refused faults.Exhausted) turn.exhausted (λ call. tt) (λ q e. waited q (comes.exhausted (λ claim. is_of_client q claim.owner) e)))
 
-  pub lapses_late : (client : ℕ) (locks : LockTable) → ((q : ℕ) → awaits_lock q locks ≡ true → awaits_lock q s.locks ≡ true) → AreLate s (lapses_replies s (lapses locks client s.clock))
-  lapses_late client [] h = tt
-  lapses_late client (entry ∷ rest) h =
-      let more = lapses_late client rest (λ q e. h q (or_right (any_waits (is_of_client q) entry.1) (awaits_lock q rest) e)) in
-      let after = lapsed entry.0 entry.1 client s.clock in
-      elim (concerns client entry.1) as (λ b. AreLate s (lapses_replies s (map (λ e. lapsed e.0 e.1 client s.clock) (cond b (entry ∷ filter (λ e. concerns client e.1) rest) (filter (λ e. concerns client e.1) rest))))) [
-        | true ↦ late_both (turn_replies s after.turn) (lapses_replies s (lapses rest client s.clock))
-            (application_late entry.1.waiters after.turn (lapsed_comes entry.0 entry.1 client s.clock) (λ q e. h q (or_left (any_waits (is_of_client q) entry.1) (awaits_lock q rest) e))) more
+  pub lapses_late : (parting : Parting) (client : ℕ) (locks : LockTable) → ((q : ℕ) → awaits_lock q locks ≡ true → awaits_lock q s.locks ≡ true) → AreLate s (lapses_replies s (lapses parting locks client s.clock))
+  lapses_late parting client [] h = tt
+  lapses_late parting client (entry ∷ rest) h =
+      let more = lapses_late parting client rest (λ q e. h q (or_right (any_waits (is_of_client q) entry.1) (awaits_lock q rest) e)) in
+      let after = lapsed parting entry.0 entry.1 client s.clock in
+      elim (concerns client entry.1) as (λ b. AreLate s (lapses_replies s (map (λ e. lapsed parting e.0 e.1 client s.clock) (cond b (entry ∷ filter (λ e. concerns client e.1) rest) (filter (λ e. concerns client e.1) rest))))) [
+        | true ↦ late_both (turn_replies s after.turn) (lapses_replies s (lapses parting rest client s.clock))
+            (application_late entry.1.waiters after.turn (lapsed_comes parting entry.0 entry.1 client s.clock) (λ q e. h q (or_left (any_waits (is_of_client q) entry.1) (awaits_lock q rest) e))) more
         | false ↦ more
       ]

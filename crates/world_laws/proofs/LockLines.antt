@@ -13,6 +13,9 @@ use Rattle.cell_core.specs.Outcomes.{leave_lines}
 use Rattle.cell_state.specs.Lapses.{lapse_lines, lapses_lines}
 use Rattle.world_core.specs.World.{is_of_commit}
 use Rattle.world_laws.proofs.SilentLines.{IsQuiet, append_quiet, AreOthers, both_others}
+use Rattle.lock_core.specs.declared.partings.Parting.{Parting}
+use Rattle.lock_core.specs.declared.partings.Parting.TheVariants as partings
+use Rattle.cell_state.specs.Partings.{right_line, lock_line}
 
 -- what is seen of them
 pub record AreOfLocks (printed : List Line) : Type 0 where
@@ -62,21 +65,27 @@ left_of_locks client leave =
 pub reopened_of_locks : (instance : ℕ) (turn : Turn) → AreOfLocks (lines.Reopened instance ∷ locked_lines instance turn)
 reopened_of_locks instance turn = both_of_locks (lines.Reopened instance ∷ []) (locked_lines instance turn) (record { quiet = (tt, tt, tt); others = (tt, tt); kept = refl }) (locked_of_locks instance turn)
 
-lapse_of_locks : (client : ℕ) (lapse : Lapse) → AreOfLocks (lapse_lines client lapse)
-lapse_of_locks client lapse =
-    let ends = line_if (not (is_nobody lapse.ended)) (lines.Lapsed client lapse.instance) in
+-- of a session that expires, and of one that leaves
+own_of_locks : (parting : Parting) (client instance : ℕ) → AreOfLocks (lock_line parting client instance ∷ [])
+own_of_locks partings.Expiry client instance = record { quiet = (tt, tt, tt); others = (tt, tt); kept = refl }
+own_of_locks partings.Leave client instance = record { quiet = (tt, tt, tt); others = (tt, tt); kept = refl }
+
+lapse_of_locks : (parting : Parting) (client : ℕ) (lapse : Lapse) → AreOfLocks (lapse_lines parting client lapse)
+lapse_of_locks parting client lapse =
+    let ends = line_if (not (is_nobody lapse.ended)) (lock_line parting client lapse.instance) in
     let opens = line_if lapse.reopens (lines.Reopened lapse.instance) in
     both_of_locks (ends ++ opens) (locked_lines lapse.instance lapse.turn)
-    (both_of_locks ends opens (if_of_locks (not (is_nobody lapse.ended)) (lines.Lapsed client lapse.instance) (record { quiet = (tt, tt, tt); others = (tt, tt); kept = refl }))
+    (both_of_locks ends opens (if_of_locks (not (is_nobody lapse.ended)) (lock_line parting client lapse.instance) (own_of_locks parting client lapse.instance))
     (if_of_locks lapse.reopens (lines.Reopened lapse.instance) (record { quiet = (tt, tt, tt); others = (tt, tt); kept = refl })))
     (locked_of_locks lapse.instance lapse.turn)
 
-pub lapses_of_locks : (client : ℕ) (lapses : List Lapse) → AreOfLocks (lapses_lines client lapses)
-lapses_of_locks client [] = none_of_locks
-lapses_of_locks client (lapse ∷ lapses) = both_of_locks (lapse_lines client lapse) (lapses_lines client lapses) (lapse_of_locks client lapse) (lapses_of_locks client lapses)
+pub lapses_of_locks : (parting : Parting) (client : ℕ) (lapses : List Lapse) → AreOfLocks (lapses_lines parting client lapses)
+lapses_of_locks parting client [] = none_of_locks
+lapses_of_locks parting client (lapse ∷ lapses) = both_of_locks (lapse_lines parting client lapse) (lapses_lines parting client lapses) (lapse_of_locks parting client lapse) (lapses_of_locks parting client lapses)
 
--- those of an expiry, behind the lines of rights
-pub expiry_kept : (client : ℕ) (numbers : List ℕ) (lapses : List Lapse) → filter is_of_commit (map lines.Expired numbers ++ lapses_lines client lapses ++ lines.Ended client ∷ []) ≡ map lines.Expired numbers ++ lapses_lines client lapses ++ lines.Ended client ∷ []
-expiry_kept client [] lapses =
-    filter_both is_of_commit (lapses_lines client lapses) (lines.Ended client ∷ []) ∙ ap (λ told. told ++ lines.Ended client ∷ []) (lapses_of_locks client lapses).kept
-expiry_kept client (number ∷ numbers) lapses = ap (λ told. lines.Expired number ∷ told) (expiry_kept client numbers lapses)
+-- those of a session's end, behind the lines of rights
+pub parting_kept : (parting : Parting) (client : ℕ) (numbers : List ℕ) (lapses : List Lapse) → filter is_of_commit (map (right_line parting) numbers ++ lapses_lines parting client lapses ++ lines.Ended client ∷ []) ≡ map (right_line parting) numbers ++ lapses_lines parting client lapses ++ lines.Ended client ∷ []
+parting_kept parting client [] lapses =
+    filter_both is_of_commit (lapses_lines parting client lapses) (lines.Ended client ∷ []) ∙ ap (λ told. told ++ lines.Ended client ∷ []) (lapses_of_locks parting client lapses).kept
+parting_kept partings.Expiry client (number ∷ numbers) lapses = ap (λ told. lines.Expired number ∷ told) (parting_kept partings.Expiry client numbers lapses)
+parting_kept partings.Leave client (number ∷ numbers) lapses = ap (λ told. lines.Acked number ∷ told) (parting_kept partings.Leave client numbers lapses)

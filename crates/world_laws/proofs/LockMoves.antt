@@ -168,6 +168,7 @@ module _ (s : MasterState) (client number : ℕ) where
     change_moves (calls.GetSequencer bytes) view = tt
     change_moves (calls.SetSequencer bytes) view = tt
     change_moves (calls.CheckSequencer bytes) view = tt
+    change_moves calls.Leave view = tt
 
     behind : (call : Call) (o : Option CallResult) → Moves (option_map_or (λ answer. answered answer) o (change_on (name_space s) s.clock handle call))
     behind call (Some answer) = tt
@@ -188,6 +189,7 @@ module _ (s : MasterState) (client number : ℕ) where
     on_moves (calls.GetSequencer bytes) sequencer = behind (calls.GetSequencer bytes) (answer_on (name_space s) handle (calls.GetSequencer bytes) sequencer)
     on_moves (calls.SetSequencer bytes) sequencer = behind (calls.SetSequencer bytes) (answer_on (name_space s) handle (calls.SetSequencer bytes) sequencer)
     on_moves (calls.CheckSequencer bytes) sequencer = behind (calls.CheckSequencer bytes) (answer_on (name_space s) handle (calls.CheckSequencer bytes) sequencer)
+    on_moves calls.Leave sequencer = behind calls.Leave (answer_on (name_space s) handle calls.Leave sequencer)
 
   -- ---- by the call
 
@@ -212,3 +214,4 @@ module _ (s : MasterState) (client number : ℕ) where
   effect_moves (calls.GetSequencer bytes) sequencer own = shown_moves (calls.GetSequencer bytes) sequencer (read_handle s.secret bytes) own
   effect_moves (calls.SetSequencer bytes) sequencer own = shown_moves (calls.SetSequencer bytes) sequencer (read_handle s.secret bytes) own
   effect_moves (calls.CheckSequencer bytes) sequencer own = shown_moves (calls.CheckSequencer bytes) sequencer (read_handle s.secret []) own
+  effect_moves calls.Leave sequencer own = shown_moves calls.Leave sequencer (read_handle s.secret []) own

@@ -14,7 +14,7 @@ use Rattle.lock_core.specs.declared.claims.Owner.{Owner}
 use Rattle.lock_core.specs.declared.claims.Claim.{Claim}
 use Rattle.lock_core.specs.declared.turns.Turn.{Turn}
 use Rattle.lock_core.specs.State.{LockState, lock_of, fits, is_exhausted, hold_of}
-use Rattle.lock_core.specs.Turns.{held_by, served_from, turned_away, served, settled, is_owner, is_of_client, without, any_waits, released, closed_by, reopened, claims_of, greatest_delay, closed_for, is_abandoned, lapsed, concerns}
+use Rattle.lock_core.specs.Turns.{held_by, served_from, turned_away, served, settled, is_owner, is_of_client, without, any_waits, released, closed_by, reopened, claims_of, delay_of, closed_for, is_abandoned, lapsed, concerns}
 use Rattle.lock_core.specs.Locks.{LockTable, lock_at, with_lock, lapses}
 use Rattle.cell_state.specs.declared.updates.LockPut.{LockPut}
 use Rattle.cell_state.specs.State.{MasterState}
@@ -22,6 +22,7 @@ use Rattle.cell_state.specs.Updates.{with_lock_put}
 use Rattle.cell_state.specs.Replies.{name_of, puts_of}
 use Rattle.cell_state.specs.Lapses.{lapses_puts}
 use Rattle.world_laws.specs.Consistent.{awaits_lock}
+use Rattle.lock_core.specs.declared.partings.Parting.{Parting}
 
 -- ---- tests
 
@@ -129,13 +130,13 @@ closing_comes lock now delay =
       | false ↦ record { left = λ test e. e; granted = part_none lock.waiters; exhausted = part_none lock.waiters }
     ]
 
-pub lapsed_comes : (instance : ℕ) (lock : LockState) (client now : ℕ) → ComesFrom lock.waiters (lapsed instance lock client now).turn
-lapsed_comes instance lock client now =
+pub lapsed_comes : (parting : Parting) (instance : ℕ) (lock : LockState) (client now : ℕ) → ComesFrom lock.waiters (lapsed parting instance lock client now).turn
+lapsed_comes parting instance lock client now =
     let left = without (is_of_client client) lock in
     let ended = claims_of client lock.holders in
-    from_more left.waiters lock.waiters (lapsed instance lock client now).turn (part_filter (λ claim. not (is_of_client client claim.owner)) lock.waiters)
-    (elim (is_abandoned ended left) as (λ b. ComesFrom left.waiters (cond b (closed_for left now (greatest_delay ended)) (settled left))) [
-      | true ↦ closing_comes left now (greatest_delay ended)
+    from_more left.waiters lock.waiters (lapsed parting instance lock client now).turn (part_filter (λ claim. not (is_of_client client claim.owner)) lock.waiters)
+    (elim (is_abandoned ended left) as (λ b. ComesFrom left.waiters (cond b (closed_for left now (delay_of parting ended)) (settled left))) [
+      | true ↦ closing_comes left now (delay_of parting ended)
       | false ↦ settled_comes left
     ])
 
@@ -193,15 +194,15 @@ puts_for P s instance lock h =
     elim (name_of s.nodes instance) as (λ o. ArePutFor P (option_map_or (λ name. record { name = name; instance = instance; lock = lock } ∷ []) o [])) [ None ↦ tt | Some name ↦ (h, tt) ]
 
 -- the locks that the end of a session leaves
-pub lapses_for : (P : ℕ → Type 0) (s : MasterState) (client : ℕ) (locks : LockTable) → ((q : ℕ) → awaits_lock q locks ≡ true → P q) → ArePutFor P (lapses_puts s (lapses locks client s.clock))
-lapses_for P s client [] h = tt
-lapses_for P s client (entry ∷ rest) h =
-    let more = lapses_for P s client rest (λ q e. h q (or_right (any_waits (is_of_client q) entry.1) (awaits_lock q rest) e)) in
-    let after = lapsed entry.0 entry.1 client s.clock in
-    elim (concerns client entry.1) as (λ b. ArePutFor P (lapses_puts s (map (λ e. lapsed e.0 e.1 client s.clock) (cond b (entry ∷ filter (λ e. concerns client e.1) rest) (filter (λ e. concerns client e.1) rest))))) [
-      | true ↦ put_both P (puts_of s entry.0 after.turn.lock) (lapses_puts s (lapses rest client s.clock))
+pub lapses_for : (P : ℕ → Type 0) (parting : Parting) (s : MasterState) (client : ℕ) (locks : LockTable) → ((q : ℕ) → awaits_lock q locks ≡ true → P q) → ArePutFor P (lapses_puts s (lapses parting locks client s.clock))
+lapses_for P parting s client [] h = tt
+lapses_for P parting s client (entry ∷ rest) h =
+    let more = lapses_for P parting s client rest (λ q e. h q (or_right (any_waits (is_of_client q) entry.1) (awaits_lock q rest) e)) in
+    let after = lapsed parting entry.0 entry.1 client s.clock in
+    elim (concerns client entry.1) as (λ b. ArePutFor P (lapses_puts s (map (λ e. lapsed parting e.0 e.1 client s.clock) (cond b (entry ∷ filter (λ e. concerns client e.1) rest) (filter (λ e. concerns client e.1) rest))))) [
+      | true ↦ put_both P (puts_of s entry.0 after.turn.lock) (lapses_puts s (lapses parting rest client s.clock))
           (puts_for P s entry.0 after.turn.lock
-          (λ q waits. h q (or_left (any_waits (is_of_client q) entry.1) (awaits_lock q rest) ((lapsed_comes entry.0 entry.1 client s.clock).left (λ claim. is_of_client q claim.owner) waits)))) more
+          (λ q waits. h q (or_left (any_waits (is_of_client q) entry.1) (awaits_lock q rest) ((lapsed_comes parting entry.0 entry.1 client s.clock).left (λ claim. is_of_client q claim.owner) waits)))) more
       | false ↦ more
     ]
 

@@ -39,7 +39,7 @@ use Rattle.cell_state.specs.Lapses.{lapses_of, lapses_puts}
 use Rattle.cell_core.proofs.AskedFor.{asks_only}
 use Rattle.cell_core.specs.Step.{queued}
 use Rattle.over_core.specs.SweepCase.{SweepCase, swept_by, swept_edits}
-use Rattle.over_core.specs.SweepCase.SweepCase.{Quiet, Recovers, Expires, Tidies, Spared, Tidied, AnswersBeat, TurnedAway, StartedAgain, Started, Reopens, OfEnded, Ended, Applied, Deleted, Locked, Awaited, Left}
+use Rattle.over_core.specs.SweepCase.SweepCase.{Quiet, Recovers, Expires, Tidies, Spared, Tidied, AnswersBeat, TurnedAway, StartedAgain, Started, Reopens, OfEnded, Ended, Applied, Deleted, Locked, Awaited, Left, Departed}
 use Rattle.cell_state.specs.Lookups.{noted}
 use Rattle.over_core.specs.Kept.{IsKept, is_there}
 use Rattle.world_laws.specs.Locks.{AreLegalRows, begins_in, CountsHolds}
@@ -48,6 +48,8 @@ use Rattle.world_laws.proofs.LockHolders.{begins_by_rows, legal_rows}
 use Rattle.world_laws.proofs.EffectLocks.{IsGone, Raises, effect_raises}
 use Rattle.world_laws.proofs.EffectInstances.{IsGiven, GivesBy, effect_gives}
 use Rattle.world_laws.proofs.InstancesKept.{there_by_rows, was_given, has_left, generation_left, rows_left, begins_by, left_begin}
+use Rattle.lock_core.specs.declared.partings.Parting.{Parting}
+use Rattle.lock_core.specs.declared.partings.Parting.TheVariants as partings
 
 -- ---- rows beside rows
 
@@ -125,7 +127,7 @@ only_put : (locks : LockTable) (o : Option (List ℕ)) (instance : ℕ) (lock : 
 only_put locks None instance lock own = tt
 only_put locks (Some name) instance lock own = (own, tt)
 
--- ---- locks of a session that expires
+-- ---- locks of a session that ends
 
 less_apart : (a b : ℕ) → nat_cmp a b ≡ Less → b ≢ a
 less_apart a b h e =
@@ -143,23 +145,23 @@ unfolding IsStrictlySortedBy
 each_found [] sorted = tt
 each_found (e ∷ es) sorted = (rw (at_itself e.0) refl, found_behind e es es sorted.0 (each_found es sorted.1))
 
-module _ (s : MasterState) (client : ℕ) where
+module _ (s : MasterState) (parting : Parting) (client : ℕ) where
   entries_rise : (es : LockTable) → AllByRecursion (λ x. lookup (is_at (nat_cmp x.0)) s.locks ≡ Some x.1) es
-      → AllByRecursion (RisesPut s.locks) (lapses_puts s (map (λ entry. lapsed entry.0 entry.1 client s.clock) (filter (λ entry. concerns client entry.1) es)))
+      → AllByRecursion (RisesPut s.locks) (lapses_puts s (map (λ entry. lapsed parting entry.0 entry.1 client s.clock) (filter (λ entry. concerns client entry.1) es)))
   entries_rise [] all = tt
   entries_rise (e ∷ es) all =
       let others : LockTable = filter (λ entry. concerns client entry.1) es in
       let rest = entries_rise es all.1 in
-      (elim (concerns client e.1) as (λ b. AllByRecursion (RisesPut s.locks) (lapses_puts s (map (λ entry. lapsed entry.0 entry.1 client s.clock) (cond b (e ∷ others) others)))) [
+      (elim (concerns client e.1) as (λ b. AllByRecursion (RisesPut s.locks) (lapses_puts s (map (λ entry. lapsed parting entry.0 entry.1 client s.clock) (cond b (e ∷ others) others)))) [
         | true ↦
-            let lock : LockState = (lapsed e.0 e.1 client s.clock).turn.lock in
+            let lock : LockState = (lapsed parting e.0 e.1 client s.clock).turn.lock in
             let P : LockState → Type 0 = λ old. RisesTo old lock in
             let here : lock_at s.locks e.0 ≡ e.1 = ap (λ o. unwrap_or o (lock_of 0)) all.0 in
-            one_put s.locks (name_of s.nodes e.0) e.0 lock (lapses_puts s (map (λ entry. lapsed entry.0 entry.1 client s.clock) others)) (subst P (sym here) (rises_lapsed e.0 e.1 client s.clock)) rest
+            one_put s.locks (name_of s.nodes e.0) e.0 lock (lapses_puts s (map (λ entry. lapsed parting entry.0 entry.1 client s.clock) others)) (subst P (sym here) (rises_lapsed parting e.0 e.1 client s.clock)) rest
         | false ↦ rest
       ])
 
-  lapses_rise : IsStrictlySortedBy nat_cmp (keys_of s.locks) → AllByRecursion (RisesPut s.locks) (lapses_puts s (lapses_of s client))
+  lapses_rise : IsStrictlySortedBy nat_cmp (keys_of s.locks) → AllByRecursion (RisesPut s.locks) (lapses_puts s (lapses_of parting s client))
   lapses_rise sorted = entries_rise s.locks (each_found s.locks sorted)
 
 -- ---- a node that is put
@@ -299,7 +301,9 @@ module _ (cell : List ℕ) (rows : Rows) (s : MasterState) (k : IsKept cell rows
   pub case_grows : (c : SweepCase s) → IsGrown c
   case_grows (Quiet none) l = same_grown (Quiet none) refl refl refl l
   case_grows (Recovers recovering heard) l = same_grown (Recovers recovering heard) refl refl refl l
-  case_grows (Expires client session due) l = put_grown (Expires client session due) (lapses_puts s (lapses_of s client)) refl refl refl (lapses_rise s client k.locks.in_order) l
+  case_grows (Expires client session due) l = put_grown (Expires client session due) (lapses_puts s (lapses_of partings.Expiry s client)) refl refl refl (lapses_rise s partings.Expiry client k.locks.in_order) l
+  case_grows (Departed front back asked call sequencer session turn work leave found live) l =
+      put_grown (Departed front back asked call sequencer session turn work leave found live) (lapses_puts s (lapses_of partings.Leave s asked.client)) refl refl refl (lapses_rise s partings.Leave asked.client k.locks.in_order) l
   case_grows (Reopens instance due) l =
       put_grown (Reopens instance due) (puts_of s instance (reopened (lock_at s.locks instance)).lock) refl refl refl
       (only_put s.locks (name_of s.nodes instance) instance (reopened (lock_at s.locks instance)).lock (rises_reopened (lock_at s.locks instance))) l

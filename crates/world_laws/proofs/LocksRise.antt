@@ -18,9 +18,10 @@ use Rattle.lock_core.specs.declared.turns.Turn.{Turn}
 use Rattle.lock_core.specs.declared.turns.Acquired.{Acquired}
 use Rattle.lock_core.specs.declared.turns.Acquired.TheVariants.{Held, Waits}
 use Rattle.lock_core.specs.State.{LockState, Holders, owner_order, mode_of, nobody_holds, fits, is_exhausted, hold_of}
-use Rattle.lock_core.specs.Turns.{generation_after, held_by, waited_by, served_from, served, settled, is_nobody, may_hold, tried, acquired, acquired_by, released, closed_by, reopened, lapsed, closed_for, is_abandoned, greatest_delay, claims_of, without, is_owner, is_of_client, any_waits}
+use Rattle.lock_core.specs.Turns.{generation_after, held_by, waited_by, served_from, served, settled, is_nobody, may_hold, tried, acquired, acquired_by, released, closed_by, reopened, lapsed, closed_for, is_abandoned, delay_of, claims_of, without, is_owner, is_of_client, any_waits}
 use Rattle.lock_core.proofs.Legal.{some_insert}
 use Rattle.lock_core.proofs.Generations.{rise_of, settled_rises, tried_is}
+use Rattle.lock_core.specs.declared.partings.Parting.{Parting}
 
 -- ---- who holds it
 
@@ -330,7 +331,7 @@ rises_closed lock owner = elim (is_some (hold_of lock owner) || any_waits (is_ow
   | false ↦ tt
 ]
 
-module _ (lock : LockState) (client now : ℕ) where
+module _ (parting : Parting) (lock : LockState) (client now : ℕ) where
   abbrev left : LockState
   left = without (is_of_client client) lock
 
@@ -338,9 +339,9 @@ module _ (lock : LockState) (client now : ℕ) where
   delayed_rises true d none = rises_left lock (is_of_client client)
   delayed_rises false d none = rises_none lock (record left { closed = Some (record { from = now; delay = d }) }) refl none
 
-  abandoned_rises : (b : Bool) → is_abandoned (claims_of client lock.holders) left ≡ b → RisesTo lock (cond b (closed_for left now (greatest_delay (claims_of client lock.holders))) (settled left)).lock
-  abandoned_rises true is = delayed_rises (greatest_delay (claims_of client lock.holders) == 0) (greatest_delay (claims_of client lock.holders)) (and_parts (not (is_nobody (claims_of client lock.holders))) (nobody_holds left) is).1
+  abandoned_rises : (b : Bool) → is_abandoned (claims_of client lock.holders) left ≡ b → RisesTo lock (cond b (closed_for left now (delay_of parting (claims_of client lock.holders))) (settled left)).lock
+  abandoned_rises true is = delayed_rises (delay_of parting (claims_of client lock.holders) == 0) (delay_of parting (claims_of client lock.holders)) (and_parts (not (is_nobody (claims_of client lock.holders))) (nobody_holds left) is).1
   abandoned_rises false is = rises_left lock (is_of_client client)
 
-pub rises_lapsed : (instance : ℕ) (lock : LockState) (client now : ℕ) → RisesTo lock (lapsed instance lock client now).turn.lock
-rises_lapsed instance lock client now = abandoned_rises lock client now (is_abandoned (claims_of client lock.holders) (left lock client now)) refl
+pub rises_lapsed : (parting : Parting) (instance : ℕ) (lock : LockState) (client now : ℕ) → RisesTo lock (lapsed parting instance lock client now).turn.lock
+rises_lapsed parting instance lock client now = abandoned_rises parting lock client now (is_abandoned (claims_of client lock.holders) (left parting lock client now)) refl

@@ -66,8 +66,8 @@ use Rattle.over_core.specs.Kept.{is_unanswered}
 use Rattle.cell_state.specs.Replies.{replies_to, turn_replies, puts_of}
 use Rattle.cell_core.specs.Outcomes.{left_put}
 use Rattle.cell_state.specs.Lapses.{lapses_of, lapses_puts, lapses_replies}
-use Rattle.over_core.specs.SweepCase.{IsNextApplied, SweepCase, swept_by, rest, ended, mapped, told, expired, gone_change, gone_replies}
-use Rattle.over_core.specs.SweepCase.SweepCase.{Quiet, Recovers, Expires, Reopens, Tidies, Spared, Tidied, AnswersBeat, TurnedAway, StartedAgain, Started as StartedFirst, OfEnded, Ended, Applied, Deleted, Locked, Awaited, Left}
+use Rattle.over_core.specs.SweepCase.{IsNextApplied, SweepCase, swept_by, rest, ended, mapped, told, parted, gone_change, gone_replies}
+use Rattle.over_core.specs.SweepCase.SweepCase.{Quiet, Recovers, Expires, Reopens, Tidies, Spared, Tidied, AnswersBeat, TurnedAway, StartedAgain, Started as StartedFirst, OfEnded, Ended, Applied, Deleted, Locked, Awaited, Left, Departed}
 use Rattle.world_core.specs.declared.mail.Message.{Message}
 use Rattle.world_core.specs.declared.mail.Message.TheVariants.{ToClient}
 use Rattle.world_core.specs.Messages.{call_of}
@@ -80,6 +80,9 @@ use Rattle.world_laws.proofs.OpensNamed.{answer_opens}
 use Rattle.world_laws.proofs.AnswersSent.{answer_stays, plain_answer, told_answer, answered_opens, applied_opens}
 use Rattle.world_laws.proofs.OneSession.{at_each, same, kept_in, each_apart, each_session, each_with_new, each_issued, answered_so}
 use Rattle.world_laws.proofs.MembersFound.{some_same}
+use Rattle.lock_core.specs.declared.partings.Parting.{Parting}
+use Rattle.lock_core.specs.declared.partings.Parting.TheVariants as partings
+use Rattle.cell_state.specs.Partings.{ending_by}
 
 -- a change that waits
 abbrev pub waits_as : ℕ → List (List ℕ) → Task → Waiting Task
@@ -653,6 +656,15 @@ module _ (sent : List Message) (s : MasterState) (front : List (Waiting Task)) (
       replied_left puts from =
           answered_by_fits sent (with_locks (rest s front back) puts) (locks_fit sent (rest s front back) call_left puts from) asked.client reply its_reply none_left
 
+      -- behind the end of its session
+      parted_left : (parting : Parting) → ArePutFor (λ q. waiting q (front ++ back) ≡ []) (lapses_puts s (lapses_of parting s asked.client)) → FitsMessages sent (recorded (with_locks (parted parting (rest s front back) asked.client) (lapses_puts s (lapses_of parting s asked.client))) asked.client (answered_by reply))
+      parted_left parting from =
+          let r : MasterState = rest s front back in
+          let t : MasterState = parted parting r asked.client in
+          let puts = lapses_puts s (lapses_of parting s asked.client) in
+          let over = right_fits sent (record r { sessions = with_session r.sessions asked.client of_session.ended }) (of_rights.ended asked.client (ending_by parting) s.rights) (expired_fits sent r call_left asked.client) in
+          answered_by_fits sent (with_locks t puts) (locks_fit sent t over puts from) asked.client reply its_reply none_left
+
     -- ---- what becomes of locks
 
     pub moved : (made : Effect) → effect (name_space s) (caller s asked.client) s.clock asked.number call sequencer ≡ made → ShowsOwn s → MovesLocks s asked.client made.locking
@@ -678,12 +690,12 @@ pub sweep_fits : (sent : List Message) (s : MasterState) (c : SweepCase s) → F
 sweep_fits sent s (Quiet none) h own = h
 sweep_fits sent s (Recovers recovering heard) h own = record { queue = h.queue; kept = h.kept; replies = h.replies; answers = h.answers; turns = h.turns; awaited = h.awaited }
 sweep_fits sent s (Expires client session due) h own =
-    let t = expired s client in
-    let puts = lapses_puts s (lapses_of s client) in
-    let replies = lapses_replies s (lapses_of s client) in
+    let t = parted partings.Expiry s client in
+    let puts = lapses_puts s (lapses_of partings.Expiry s client) in
+    let replies = lapses_replies s (lapses_of partings.Expiry s client) in
     let ended = right_fits sent (record s { sessions = with_session s.sessions client of_session.ended }) (of_rights.ended client endings.Expiry s.rights) (expired_fits sent s h client) in
-    told_fits sent (with_locks t puts) replies (locks_fit sent t ended puts (lapses_for (λ q. waiting q s.gate.waiting ≡ []) s client s.locks h.awaited))
-    (all_late sent s (with_locks t puts) replies h refl refl (λ q none. none) (lapses_late s client s.locks (λ q waits. waits)))
+    told_fits sent (with_locks t puts) replies (locks_fit sent t ended puts (lapses_for (λ q. waiting q s.gate.waiting ≡ []) partings.Expiry s client s.locks h.awaited))
+    (all_late sent s (with_locks t puts) replies h refl refl (λ q none. none) (lapses_late s partings.Expiry client s.locks (λ q waits. waits)))
 sweep_fits sent s (Reopens instance due) h own =
     let lock = lock_at s.locks instance in
     let turn = reopened lock in
@@ -710,6 +722,13 @@ sweep_fits sent s (StartedFirst front back asked principal received turn work no
     let t : MasterState = record s { sessions = with_new s.sessions asked.client (session_until principal true (s.clock + s.sessions.lease)) } in
     start_left sent t front asked back (record { number = turn.number; touched = turn.touched; waited = turn.waited; free = turn.free }) (begun_fits sent s h asked.client principal (s.clock + s.sessions.lease) none) principal received work
 sweep_fits sent s (OfEnded front back asked call sequencer turn work gone) h own = call_left sent s front asked back turn h call sequencer work
+sweep_fits sent s (Departed front back asked call sequencer session turn work leave found live) h own =
+    let puts = lapses_puts s (lapses_of partings.Leave s asked.client) in
+    let replies = lapses_replies s (lapses_of partings.Leave s asked.client) in
+    let t : MasterState = recorded (with_locks (parted partings.Leave (rest s front back) asked.client) puts) asked.client (answered_by (reply_of s asked.client asked.number results.Done)) in
+    told_fits sent t replies
+    (parted_left sent s front asked back turn h call sequencer work results.Done tt partings.Leave (lapses_for (λ q. waiting q (front ++ back) ≡ []) partings.Leave s asked.client s.locks (none_awaited sent s front asked back turn h)))
+    (all_late sent s t replies h refl refl (fewer sent s front (tasks.Asked asked) back turn h) (lapses_late s partings.Leave asked.client s.locks (λ q waits. waits)))
 sweep_fits sent s (Ended front back asked call sequencer note answer turn work live made) h own =
     fits_note sent (recorded (rest s front back) asked.client (answered_by (reply_of s asked.client asked.number answer))) note
     (replied_left sent s front asked back turn h call sequencer work answer (applied_opens s asked.client asked.number call sequencer _ answer made refl) [] tt)

@@ -49,12 +49,12 @@ use Rattle.cell_core.specs.Step.{recorded, queued, with_call, asking, asking_for
 use Rattle.cell_core.specs.Cases.{IsBehind, TakeCase, taken_by}
 use Rattle.cell_state.specs.Replies.{replies_to, turn_replies, locked_lines, puts_of}
 use Rattle.cell_core.specs.Outcomes.{leave_lines, left_put}
-use Rattle.cell_state.specs.Lapses.{lapses_lines, lapses_of, lapses_puts, lapses_replies}
+use Rattle.cell_state.specs.Lapses.{lapses_lines, lapses_of, lapses_puts, lapses_replies, parting_lines}
 use Rattle.cell_core.specs.declared.effects.Leave.{Leave}
-use Rattle.over_core.specs.SweepCase.{IsNextApplied, SweepCase, swept_by, rest, ended, mapped, told, expired, gone_change, gone_replies}
-use Rattle.over_core.proofs.SweepCases.{first_tellings}
-use Rattle.cell_core.specs.Cases.TakeCase.{StartRefused, OldBeat, BeatRefused, BeatParked, OldEpoch, NoSession, Repeated, OlderCall, Outstanding, Recovering, Answered, Granted, Waits}
-use Rattle.over_core.specs.SweepCase.SweepCase.{Quiet, Recovers, Expires, Reopens, Tidies, Spared, Tidied, AnswersBeat, TurnedAway, StartedAgain, Started as StartedFirst, OfEnded, Ended, Applied, Deleted, Locked, Awaited, Left}
+use Rattle.over_core.specs.SweepCase.{IsNextApplied, SweepCase, swept_by, rest, ended, mapped, told, parted, gone_change, gone_replies}
+use Rattle.over_core.proofs.SweepCases.{action_tellings}
+use Rattle.cell_core.specs.Cases.TakeCase.{StartRefused, OldBeat, BeatRefused, BeatParked, OldEpoch, NoSession, LeftBefore, Repeated, OlderCall, Outstanding, Recovering, Answered, Granted, Waits}
+use Rattle.over_core.specs.SweepCase.SweepCase.{Quiet, Recovers, Expires, Reopens, Tidies, Spared, Tidied, AnswersBeat, TurnedAway, StartedAgain, Started as StartedFirst, OfEnded, Ended, Applied, Deleted, Locked, Awaited, Left, Departed}
 use Rattle.world_core.specs.declared.steps.Step.{Step}
 use Rattle.client_core.specs.State.{ClientState}
 use Rattle.world_core.specs.declared.members.WorldClient.{WorldClient}
@@ -79,6 +79,9 @@ use Rattle.world_laws.proofs.OwnSteps.{IsNextCall, Sends, sending, IsOwn, own_si
 use Rattle.world_laws.proofs.OwnSteps.Sends.{Nothing, NoCall, NextCall}
 use Rattle.world_laws.proofs.MembersFound.{some_same}
 use Rattle.world_laws.proofs.ConsistentSteps.{Later, own_goes, case_later, noted_fits, no_call_found, all_first}
+use Rattle.lock_core.specs.declared.partings.Parting.{Parting}
+use Rattle.lock_core.specs.declared.partings.Parting.TheVariants as partings
+use Rattle.cell_state.specs.Partings.{right_line, ending_by}
 
 abbrev last_after : Option ℕ → List ℕ → Option ℕ
 last_after last [] = last
@@ -236,6 +239,7 @@ taken_silent s request (BeatParked beat is of taken) =
     silent_numbers lines.Acked (λ number. tt) (numbers_ending beat.client (acknowledgement beat) s.rights)
 taken_silent s request (OldEpoch message is apart) = (tt, tt)
 taken_silent s request (NoSession message is of dead) = (tt, tt)
+taken_silent s request (LeftBefore message kept request_is same_epoch ended is number) = repeated_silent kept.reply
 taken_silent s request (Repeated message kept heard is number) = repeated_silent kept.reply
 taken_silent s request (OlderCall message kept heard is less) = (tt, tt)
 taken_silent s request (Outstanding message kept heard is more none) = (tt, tt)
@@ -266,15 +270,16 @@ none_applied : (client : ℕ) (printed : List Line) → IsSilent printed → app
 none_applied client [] h = refl
 none_applied client (line ∷ rest) h = line_silent client line (applied client rest) h.0 ∙ none_applied client rest h.1
 
--- an expiry applies nothing
-expiry_applied : (client : ℕ) (numbers : List ℕ) (others : List Line) (whose : ℕ) → IsSilent others → applied client (map lines.Expired numbers ++ others ++ lines.Ended whose ∷ []) ≡ []
-expiry_applied client [] others whose silent = applied_more client others (lines.Ended whose ∷ []) ∙ append-nil (applied client others) ∙ none_applied client others silent
-expiry_applied client (number ∷ numbers) others whose silent = expiry_applied client numbers others whose silent
+-- the end of a session applies nothing
+parting_applied : (parting : Parting) (client : ℕ) (numbers : List ℕ) (others : List Line) (whose : ℕ) → IsSilent others → applied client (map (right_line parting) numbers ++ others ++ lines.Ended whose ∷ []) ≡ []
+parting_applied parting client [] others whose silent = applied_more client others (lines.Ended whose ∷ []) ∙ append-nil (applied client others) ∙ none_applied client others silent
+parting_applied partings.Expiry client (number ∷ numbers) others whose silent = parting_applied partings.Expiry client numbers others whose silent
+parting_applied partings.Leave client (number ∷ numbers) others whose silent = parting_applied partings.Leave client numbers others whose silent
 
-lapses_applied : (client : ℕ) (s : MasterState) (whose : ℕ) → applied client (map lines.Expired (numbers_ending whose endings.Expiry s.rights) ++ lapses_lines whose (lapses_of s whose) ++ lines.Ended whose ∷ []) ≡ []
-lapses_applied client s whose =
-    let others = lapses_lines whose (lapses_of s whose) in
-    expiry_applied client (numbers_ending whose endings.Expiry s.rights) others whose (quiet_silent others (lapses_of_locks whose (lapses_of s whose)).quiet)
+lapses_applied : (parting : Parting) (client : ℕ) (s : MasterState) (whose : ℕ) → applied client (parting_lines parting s whose (lapses_of parting s whose)) ≡ []
+lapses_applied parting client s whose =
+    let others = lapses_lines parting whose (lapses_of parting s whose) in
+    parting_applied parting client (numbers_ending whose (ending_by parting) s.rights) others whose (quiet_silent others (lapses_of_locks parting whose (lapses_of parting s whose)).quiet)
 
 reopened_applied : (client instance : ℕ) (turn : Turn) → applied client (lines.Reopened instance ∷ locked_lines instance turn) ≡ []
 reopened_applied client instance turn = none_applied client (lines.Reopened instance ∷ locked_lines instance turn) (quiet_silent (lines.Reopened instance ∷ locked_lines instance turn) (reopened_of_locks instance turn).quiet)
@@ -416,11 +421,19 @@ module _ (sent : List Message) (s : MasterState) (client : ℕ) (last : Option �
   sweep_past (Recovers recovering heard) = record { rises = tt; past = h }
   sweep_past (Expires whose session due) =
       let c : SweepCase s = Expires whose session due in
-      let t = with_locks (expired s whose) (lapses_puts s (lapses_of s whose)) in
+      let t = with_locks (parted partings.Expiry s whose) (lapses_puts s (lapses_of partings.Expiry s whose)) in
       let past : PastMaster sent client t last =
       same_past sent s.epoch client (kept_of s client) _ last (kept_stays s.sessions whose of_session.ended (λ session. refl) client) h in
-      none_on (swept_by s c).1.lines (swept_by s c).0 (lapses_applied client s whose)
-      (told_past sent t client last (lapses_replies s (lapses_of s whose)) (lapses_from s client last still_from (lapses_of s whose)) past)
+      none_on (swept_by s c).1.lines (swept_by s c).0 (lapses_applied partings.Expiry client s whose)
+      (told_past sent t client last (lapses_replies s (lapses_of partings.Expiry s whose)) (lapses_from s client last still_from (lapses_of partings.Expiry s whose)) past)
+  sweep_past (Departed front back asked call sequencer session turn work leave found live) =
+      let c : SweepCase s = Departed front back asked call sequencer session turn work leave found live in
+      let t = with_locks (parted partings.Leave (rest s front back) asked.client) (lapses_puts s (lapses_of partings.Leave s asked.client)) in
+      let past : PastMaster sent client t last =
+      same_past sent s.epoch client (kept_of s client) _ last (kept_stays s.sessions asked.client of_session.ended (λ session. refl) client) h in
+      none_on (swept_by s c).1.lines (swept_by s c).0 (lapses_applied partings.Leave client s asked.client)
+      (told_past sent t client last (reply_of s asked.client asked.number results.Done ∷ lapses_replies s (lapses_of partings.Leave s asked.client))
+      ((λ own. above_from last asked.number (application_above front back asked call sequencer turn work own)), lapses_from s client last still_from (lapses_of partings.Leave s asked.client)) past)
   sweep_past (Reopens instance due) =
       let c : SweepCase s = Reopens instance due in
       let turn = reopened (lock_at s.locks instance) in
@@ -489,7 +502,9 @@ applied_counted w h s (Applied front back asked call sequencer _ change answer t
     counted_put w h s front back asked call sequencer client last turn work fits counted
 applied_counted w h s (Deleted front back asked call sequencer change instance waiters answer turn work live made) client last some fits counted =
     counted_put w h s front back asked call sequencer client last turn work fits counted
-applied_counted w h s (Expires whose session due) client last some fits counted = subst (λ numbers. IsCounted w client (last_after last numbers)) (sym (lapses_applied client s whose)) counted
+applied_counted w h s (Expires whose session due) client last some fits counted = subst (λ numbers. IsCounted w client (last_after last numbers)) (sym (lapses_applied partings.Expiry client s whose)) counted
+applied_counted w h s (Departed front back asked call sequencer session turn work leave found live) client last some fits counted =
+    subst (λ numbers. IsCounted w client (last_after last numbers)) (sym (lapses_applied partings.Leave client s asked.client)) counted
 applied_counted w h s (Reopens instance due) client last some fits counted =
     subst (λ numbers. IsCounted w client (last_after last numbers)) (sym (reopened_applied client instance (reopened (lock_at s.locks instance)))) counted
 applied_counted w h s (Left front back asked call sequencer _ leave answer turn work live made) client last some fits counted = subst (λ numbers. IsCounted w client (last_after last numbers)) (sym (left_applied client asked.client leave)) counted
@@ -566,7 +581,7 @@ module _ (client : ℕ) (last : Option ℕ) (old : WorldState) (step : Step) (ne
       let fits = noted_fits old h t.master t.is_up in
       let on = sweep_past old.messages s client last fits (past_master old.messages client last old.master t.master t.is_up p.master) some t.case in
       let next : Option ℕ = last_after last (applied client (swept_by s t.case).1.lines) in
-      let later = outs_later old.messages (swept_by s t.case).1.outs client (swept_master s t.case) next (telling_past old.messages (swept_by s t.case).0 client next (first_tellings s) on.past) in
+      let later = outs_later old.messages (swept_by s t.case).1.outs client (swept_master s t.case t.action) next (telling_past old.messages (swept_by s t.case).0 client next (action_tellings s t.action) on.past) in
       rw t.tells (record {
         rises = on.rises;
         past = record {

@@ -134,6 +134,7 @@ on_node_opens s handle (calls.Release bytes) view = needing_opens (calls.Release
 on_node_opens s handle (calls.GetSequencer bytes) view = sequencer_opens (calls.GetSequencer bytes) (sequencer_of (lock_under (name_space s) handle) handle.instance handle.name (owner_of handle))
 on_node_opens s handle (calls.SetSequencer bytes) view = tt
 on_node_opens s handle (calls.CheckSequencer bytes) view = tt
+on_node_opens s handle calls.Leave view = tt
 
 on_node_under_opens : (s : MasterState) (handle : Handle) (call : Call) (view : Node) (o : Option Fault) → OpensIf call (answer_under (name_space s) handle call view o)
 on_node_under_opens s handle call view (Some fault) = tt
@@ -157,6 +158,7 @@ on_opens s handle (calls.Release bytes) sequencer = at_node_opens s handle (call
 on_opens s handle (calls.GetSequencer bytes) sequencer = at_node_opens s handle (calls.GetSequencer bytes) sequencer
 on_opens s handle (calls.SetSequencer bytes) sequencer = at_node_opens s handle (calls.SetSequencer bytes) sequencer
 on_opens s handle (calls.CheckSequencer bytes) sequencer = at_node_opens s handle (calls.CheckSequencer bytes) sequencer
+on_opens s handle calls.Leave sequencer = at_node_opens s handle calls.Leave sequencer
 
 handle_opens : (s : MasterState) (call : Call) (sequencer : Option (List ℕ)) (o : Option Handle) → OpensIf call (handle_admission s call sequencer o).answer
 handle_opens s call sequencer None = tt
@@ -182,6 +184,7 @@ admission_opens s client number (calls.Open opening) sequencer =
       | false ↦ tt
     ]
 admission_opens s client number (calls.CheckSequencer bytes) sequencer = check_opens s (calls.CheckSequencer bytes) bytes (sequencer_fault (name_space s) sequencer)
+admission_opens s client number calls.Leave sequencer = tt
 admission_opens s client number (calls.Close bytes) sequencer = handle_opens s (calls.Close bytes) sequencer (shown_handle s client bytes)
 admission_opens s client number (calls.Read bytes) sequencer = handle_opens s (calls.Read bytes) sequencer (shown_handle s client bytes)
 admission_opens s client number (calls.Stat bytes) sequencer = handle_opens s (calls.Stat bytes) sequencer (shown_handle s client bytes)
@@ -276,6 +279,7 @@ change_opens s handle (calls.Release bytes) view = released_opens (calls.Release
 change_opens s handle (calls.GetSequencer bytes) view = tt
 change_opens s handle (calls.SetSequencer bytes) view = tt
 change_opens s handle (calls.CheckSequencer bytes) view = tt
+change_opens s handle calls.Leave view = tt
 
 change_on_opens : (s : MasterState) (handle : Handle) (call : Call) → EffectOpens call (change_on (name_space s) s.clock handle call)
 change_on_opens s handle call = found_or (EffectOpens call) (λ view. change_at (name_space s) s.clock handle call view) (node_of_handle (name_space s) handle) (refused faults.StaleInstance) (λ view. change_opens s handle call view) tt
@@ -299,6 +303,7 @@ on_effect_opens s handle (calls.Release bytes) sequencer = first_opens s handle 
 on_effect_opens s handle (calls.GetSequencer bytes) sequencer = first_opens s handle (calls.GetSequencer bytes) (answer_on (name_space s) handle (calls.GetSequencer bytes) sequencer) (on_opens s handle (calls.GetSequencer bytes) sequencer)
 on_effect_opens s handle (calls.SetSequencer bytes) sequencer = first_opens s handle (calls.SetSequencer bytes) (answer_on (name_space s) handle (calls.SetSequencer bytes) sequencer) (on_opens s handle (calls.SetSequencer bytes) sequencer)
 on_effect_opens s handle (calls.CheckSequencer bytes) sequencer = first_opens s handle (calls.CheckSequencer bytes) (answer_on (name_space s) handle (calls.CheckSequencer bytes) sequencer) (on_opens s handle (calls.CheckSequencer bytes) sequencer)
+on_effect_opens s handle calls.Leave sequencer = first_opens s handle calls.Leave (answer_on (name_space s) handle calls.Leave sequencer) (on_opens s handle calls.Leave sequencer)
 
 shown_opens : (s : MasterState) (call : Call) (sequencer : Option (List ℕ)) (o : Option Handle) → EffectOpens call (handle_effect (name_space s) s.clock call sequencer o)
 shown_opens s call sequencer None = tt
@@ -320,6 +325,7 @@ effect_opens_if s client number (calls.Release bytes) sequencer = shown_opens s 
 effect_opens_if s client number (calls.GetSequencer bytes) sequencer = shown_opens s (calls.GetSequencer bytes) sequencer (read_handle s.secret bytes)
 effect_opens_if s client number (calls.SetSequencer bytes) sequencer = shown_opens s (calls.SetSequencer bytes) sequencer (read_handle s.secret bytes)
 effect_opens_if s client number (calls.CheckSequencer bytes) sequencer = shown_opens s (calls.CheckSequencer bytes) sequencer (read_handle s.secret [])
+effect_opens_if s client number calls.Leave sequencer = shown_opens s calls.Leave sequencer (read_handle s.secret [])
 
 pub effect_opens : (s : MasterState) (client number : ℕ) (call : Call) (sequencer : Option (List ℕ)) (answer : CallResult) → (effect (name_space s) (caller s client) s.clock number call sequencer).answer ≡ Some answer → OpensAs call answer
 effect_opens s client number call sequencer answer is = subst (OpensIf call) is (effect_opens_if s client number call sequencer)

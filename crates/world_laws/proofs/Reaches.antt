@@ -23,11 +23,11 @@ reaches_on old step new printed h (Beats b) client name = reached_behind_beat ol
 reaches_on old step new printed h (Gives g) client name = reached_behind_give old h client name new g.member g.at g.out printed g.case g.was_sent g.found g.is
 reaches_on old step new printed h (Ticks t) client name = subst (λ z. Reached (slice client name z)) (sym t.is) (reached_behind_ticks old h client name t.ticks t.fair)
 reaches_on old step new printed h (Takes t) client name = subst (λ z. Reached (slice client name z)) (sym t.is) (reached_behind_take old h client name t.master t.at t.request t.case t.is_up t.was_sent t.unspent)
-reaches_on old step new printed h (Sweeps t) client name = subst (λ z. Reached (slice client name z)) (sym t.is) (reached_behind_sweep old h client name t.master t.case t.is_up)
+reaches_on old step new printed h (Sweeps t) client name = subst (λ z. Reached (slice client name z)) (sym t.is) (reached_behind_sweep old h client name t.master t.case t.action t.is_up)
 reaches_on old step new printed h (GoesDown d) client name = subst (λ z. Reached (slice client name z)) (sym d.is) (reached_behind_down old h client name d.master d.is_up)
 reaches_on old step new printed h (CutsSweep k) client name =
     let t = k.sweeps in
-    subst (λ z. Reached (slice client name z)) (sym (k.is ∙ ap (λ (mid : WorldState). behind_cut old mid.rows) t.is)) (reached_stays_at_cut_sweep client name old t.master t.case (reached_behind_sweep old h client name t.master t.case t.is_up))
+    subst (λ z. Reached (slice client name z)) (sym (k.is ∙ ap (λ (mid : WorldState). behind_cut old mid.rows) t.is)) (reached_stays_at_cut_sweep client name old t.master t.case t.action (reached_behind_sweep old h client name t.master t.case t.action t.is_up))
 reaches_on old step new printed h (CutsUp k) client name =
     let u = k.comes in
     subst (λ z. Reached (slice client name z)) (sym (k.is ∙ rows_only old k.mid.rows u.none ∙ ap (λ (mid : WorldState). behind_cut old mid.rows) u.is)) (reached_stays_at_cut_up client name old u.now (reached_behind_up old h client name u.now u.none))

@@ -25,7 +25,7 @@ use Rattle.cell_state.specs.State.{MasterState}
 use Rattle.cell_state.specs.Updates.{edit_of, lock_changes, with_note}
 use Rattle.cell_state.specs.Lookups.{kept_of, reply_of, stamped_reply, repeated_reply, noted}
 use Rattle.cell_core.specs.Cases.{TakeCase, taken_by}
-use Rattle.cell_core.specs.Cases.TakeCase.{StartQueued, BeatParked, Repeated, Recovering, Answered, Granted, Waits}
+use Rattle.cell_core.specs.Cases.TakeCase.{StartQueued, BeatParked, LeftBefore, Repeated, Recovering, Answered, Granted, Waits}
 use Rattle.cell_parts.specs.declared.pending.Asked.{Asked}
 use Rattle.cell_parts.specs.declared.pending.Task.{Task}
 use Rattle.cell_parts.specs.declared.pending.Task.TheVariants as tasks
@@ -35,7 +35,7 @@ use Rattle.over_core.specs.SweepCase.{IsNextApplied, SweepCase, swept_by, swept_
 use Rattle.cell_core.specs.Outcomes.{left_put}
 use Rattle.cell_state.specs.Replies.{turn_replies, puts_of, replies_to}
 use Rattle.cell_state.specs.Lapses.{lapses_of, lapses_puts, lapses_replies}
-use Rattle.over_core.specs.SweepCase.SweepCase.{Quiet, Recovers, Expires, Reopens, Tidies, Spared, Tidied, OfEnded, Ended, Applied, Deleted, Locked, Awaited, Left}
+use Rattle.over_core.specs.SweepCase.SweepCase.{Quiet, Recovers, Expires, Reopens, Tidies, Spared, Tidied, OfEnded, Ended, Applied, Deleted, Locked, Awaited, Left, Departed}
 use Rattle.world_core.specs.declared.mail.Message.{Message}
 use Rattle.world_core.specs.declared.mail.Message.TheVariants.{ToMaster, ToClient}
 use Rattle.world_core.specs.declared.steps.Step.{Step}
@@ -54,6 +54,7 @@ use Rattle.world_laws.proofs.ConsistentSteps.{noted_fits, agrees_at}
 use Rattle.world_laws.proofs.OwnSteps.{IsOwn, sending, asks_own, beats_own, gives_own}
 use Rattle.world_laws.proofs.WorldCases.{WorldCase}
 use Rattle.world_laws.proofs.WorldCases.WorldCase.{ComesUp, Joins, Asks, Beats, Gives, Ticks, Takes, Sweeps, GoesDown, CutsSweep, CutsUp, LosesUp}
+use Rattle.lock_core.specs.declared.partings.Parting.TheVariants as partings
 
 -- ---- what a master sends
 
@@ -73,6 +74,7 @@ sends_again sent s client kept (Some reply) h is replied = (answer_stays sent (T
 pub taken_answers : (sent : List Message) (s : MasterState) (request : Request) (c : TakeCase s request) → FitsMessages sent s → WasAsked sent request → Sends sent s.secret (taken_by s request c).1.outs
 taken_answers sent s request (StartQueued start is may serving room) h asked = tt
 taken_answers sent s request (BeatParked beat is epoch taken) h asked = tt
+taken_answers sent s request (LeftBefore message kept request_is same_epoch ended is same) h asked = sends_again sent s message.client kept kept.reply h is refl
 taken_answers sent s request (Repeated message kept heard is same) h asked = sends_again sent s message.client kept kept.reply h is refl
 taken_answers sent s request (Recovering message new recovering) h asked = sends_plain sent s message.client message.number (results.Refused faults.Recovering) message (asked message new.heard.is_call) tt
 taken_answers sent s request (Answered message note answer new serving answered) h asked =
@@ -112,7 +114,10 @@ module _ (sent : List Message) (s : MasterState) (front : List (Waiting Task)) (
 pub swept_answers : (sent : List Message) (s : MasterState) (c : SweepCase s) → FitsMessages sent s → ShowsOwn s → Sends sent s.secret (swept_by s c).1.outs
 swept_answers sent s (Quiet none) h own = tt
 swept_answers sent s (Recovers recovering heard) h own = tt
-swept_answers sent s (Expires client session due) h own = sends_late sent s (lapses_replies s (lapses_of s client)) h (lapses_late s client s.locks (λ q waits. waits))
+swept_answers sent s (Expires client session due) h own = sends_late sent s (lapses_replies s (lapses_of partings.Expiry s client)) h (lapses_late s partings.Expiry client s.locks (λ q waits. waits))
+swept_answers sent s (Departed front back asked call sequencer session turn work leave found live) h own =
+    application_answers sent s front asked back turn h call sequencer work results.Done (lapses_replies s (lapses_of partings.Leave s asked.client)) tt
+    (lapses_late s partings.Leave asked.client s.locks (λ q waits. waits))
 swept_answers sent s (Reopens instance due) h own =
     let lock = lock_at s.locks instance in
     sends_late sent s (turn_replies s (reopened lock)) h (application_late s lock.waiters (reopened lock) (reopened_comes lock) (λ q waits. waits_at q instance s.locks waits))
@@ -147,7 +152,9 @@ mod_secret rows (Gone name) next = refl
 
 swept_secret : (rows : Rows) (s : MasterState) (c : SweepCase s) → (changed_rows rows (swept_edits s c)).secret ≡ rows.secret
 swept_secret rows s (Expires client session due) =
-    (let_go rows (lock_changes s (lapses_puts s (lapses_of s client))) client (record { principal = session.principal; live = false })).beside.secret
+    (let_go rows (lock_changes s (lapses_puts s (lapses_of partings.Expiry s client))) client (record { principal = session.principal; live = false })).beside.secret
+swept_secret rows s (Departed front back asked call sequencer session turn work leave found live) =
+    (let_go rows (lock_changes s (lapses_puts s (lapses_of partings.Leave s asked.client))) asked.client (record { principal = session.principal; live = false })).beside.secret
 swept_secret rows s (Reopens instance due) = (relocked_rows rows (lock_changes s (puts_of s instance (reopened (lock_at s.locks instance)).lock))).beside.secret
 swept_secret rows s (Applied front back asked call sequencer _ change answer turn work live made) = mod_secret rows change.change change.next_instance
 swept_secret rows s (Deleted front back asked call sequencer change instance waiters answer turn work live made) = mod_secret rows change.change change.next_instance

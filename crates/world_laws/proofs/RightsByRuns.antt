@@ -52,17 +52,17 @@ case_told old step new printed h (Takes t) =
     (take_told s t.request t.case (agrees_at old old.master t.master t.is_up h.master).recorded)
 case_told old step new printed h (Sweeps t) =
     let s = noted t.master old.clock in
-    master_told old.master new.master printed t.master (swept_master s t.case) (swept_by s t.case).1.lines t.is_up (ap (λ (w : WorldState). w.master) t.is) t.tells
+    master_told old.master new.master printed t.master (swept_master s t.case t.action) (swept_by s t.case).1.lines t.is_up (ap (λ (w : WorldState). w.master) t.is) t.tells
     (sweep_told s t.case (agrees_at old old.master t.master t.is_up h.master).recorded)
 case_told old step new printed h (GoesDown d) = rw (d.tells, ap (λ (w : WorldState). w.master) d.is) refl
 case_told old step new printed h (CutsSweep k) =
     let t = k.sweeps in
     let s = noted t.master old.clock in
-    let told : rights_at (rights_in old.master) k.told ≡ Some (rights_in (Some (swept_master s t.case))) =
-    master_told old.master (Some (swept_master s t.case)) k.told t.master (swept_master s t.case) (swept_by s t.case).1.lines t.is_up refl t.tells
+    let told : rights_at (rights_in old.master) k.told ≡ Some (rights_in (Some (swept_master s t.case t.action))) =
+    master_told old.master (Some (swept_master s t.case t.action)) k.told t.master (swept_master s t.case t.action) (swept_by s t.case).1.lines t.is_up refl t.tells
     (sweep_told s t.case (agrees_at old old.master t.master t.is_up h.master).recorded) in
     rw (k.tells, ap (λ (w : WorldState). w.master) k.is)
-    (told_both (rights_in old.master) (rights_in (Some (swept_master s t.case))) [] (filter is_of_commit k.told) (lines.Down ∷ []) (kept_rights (rights_in old.master) k.told ∙ told) refl)
+    (told_both (rights_in old.master) (rights_in (Some (swept_master s t.case t.action))) [] (filter is_of_commit k.told) (lines.Down ∷ []) (kept_rights (rights_in old.master) k.told ∙ told) refl)
 case_told old step new printed h (CutsUp k) = let u = k.comes in rw (k.tells, ap (λ (w : WorldState). w.master) k.is ∙ u.none, u.tells) refl
 case_told old step new printed h (LosesUp k) = rw (k.tells, ap (λ (w : WorldState). w.master) k.is ∙ k.none) refl
 

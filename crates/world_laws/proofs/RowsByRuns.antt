@@ -20,9 +20,9 @@ use Rattle.cell_state.specs.Lookups.{noted}
 use Rattle.cell_state.specs.Updates.{edit_of, lock_changes}
 use Rattle.cell_state.specs.Replies.{locked_line, locked_lines, puts_of}
 use Rattle.cell_core.specs.Outcomes.{put_listing, leave_lines, left_put}
-use Rattle.cell_state.specs.Lapses.{lapses_lines, lapses_of, lapses_puts}
-use Rattle.over_core.specs.SweepCase.{SweepCase, swept_by, swept_edits}
-use Rattle.over_core.specs.SweepCase.SweepCase.{Expires, Reopens, Tidied, Applied, Deleted, Locked, Awaited, Left}
+use Rattle.cell_state.specs.Lapses.{lapses_lines, lapses_of, lapses_puts, parting_lines}
+use Rattle.over_core.specs.SweepCase.{SweepCase, swept_by, swept_edits, parting_edits}
+use Rattle.over_core.specs.SweepCase.SweepCase.{Expires, Reopens, Tidied, Applied, Deleted, Locked, Awaited, Left, Departed}
 use Rattle.world_core.specs.declared.steps.Step.{Step}
 use Rattle.world_core.specs.World.{WorldState, WorldView}
 use Rattle.world_laws.specs.Consistent.{IsConsistent}
@@ -37,6 +37,9 @@ use Rattle.world_laws.proofs.StepsHold.{does_holds}
 use Rattle.world_laws.proofs.WorldCases.{WorldCase, world_case}
 use Rattle.world_laws.proofs.WorldCases.WorldCase.{ComesUp, Joins, Asks, Beats, Gives, Ticks, Takes, Sweeps, GoesDown, CutsSweep, CutsUp, LosesUp}
 use Rattle.world_laws.proofs.OwnSteps.{IsOwn, own_silent, asks_own, beats_own, gives_own}
+use Rattle.lock_core.specs.declared.partings.Parting.{Parting}
+use Rattle.lock_core.specs.declared.partings.Parting.TheVariants as partings
+use Rattle.cell_state.specs.Partings.{right_line, ending_by}
 
 -- the new rows are those that the lines make of the former ones
 pub record Tells (old new : Rows) (printed : List Line) : Type 0 where
@@ -71,14 +74,16 @@ silent_epoch : (epoch : ℕ) (printed : List Line) → IsSilent printed → epoc
 silent_epoch epoch [] h = refl
 silent_epoch epoch (line ∷ rest) h = ap (λ e. epoch_at e rest) (line_epoch epoch line h.0) ∙ silent_epoch epoch rest h.1
 
--- an expiry tells of no change and of no master
-expiry_map : (nodes : Nodes) (numbers : List ℕ) (others : List Line) (whose : ℕ) → IsSilent others → map_at nodes (map lines.Expired numbers ++ others ++ lines.Ended whose ∷ []) ≡ nodes
-expiry_map nodes [] others whose silent = map_more nodes others (lines.Ended whose ∷ []) ∙ silent_map nodes others silent
-expiry_map nodes (number ∷ numbers) others whose silent = expiry_map nodes numbers others whose silent
+-- the end of a session tells of no change and of no master
+parting_map : (parting : Parting) (nodes : Nodes) (numbers : List ℕ) (others : List Line) (whose : ℕ) → IsSilent others → map_at nodes (map (right_line parting) numbers ++ others ++ lines.Ended whose ∷ []) ≡ nodes
+parting_map parting nodes [] others whose silent = map_more nodes others (lines.Ended whose ∷ []) ∙ silent_map nodes others silent
+parting_map partings.Expiry nodes (number ∷ numbers) others whose silent = parting_map partings.Expiry nodes numbers others whose silent
+parting_map partings.Leave nodes (number ∷ numbers) others whose silent = parting_map partings.Leave nodes numbers others whose silent
 
-expiry_epoch : (epoch : ℕ) (numbers : List ℕ) (others : List Line) (whose : ℕ) → IsSilent others → epoch_at epoch (map lines.Expired numbers ++ others ++ lines.Ended whose ∷ []) ≡ epoch
-expiry_epoch epoch [] others whose silent = epoch_more epoch others (lines.Ended whose ∷ []) ∙ silent_epoch epoch others silent
-expiry_epoch epoch (number ∷ numbers) others whose silent = expiry_epoch epoch numbers others whose silent
+parting_epoch : (parting : Parting) (epoch : ℕ) (numbers : List ℕ) (others : List Line) (whose : ℕ) → IsSilent others → epoch_at epoch (map (right_line parting) numbers ++ others ++ lines.Ended whose ∷ []) ≡ epoch
+parting_epoch parting epoch [] others whose silent = epoch_more epoch others (lines.Ended whose ∷ []) ∙ silent_epoch epoch others silent
+parting_epoch partings.Expiry epoch (number ∷ numbers) others whose silent = parting_epoch partings.Expiry epoch numbers others whose silent
+parting_epoch partings.Leave epoch (number ∷ numbers) others whose silent = parting_epoch partings.Leave epoch numbers others whose silent
 
 silent_tells : (old new : Rows) (printed : List Line) → IsSilent printed → new ≡ old → Tells old new printed
 silent_tells old new printed silent same = record {
@@ -99,17 +104,22 @@ relocked_tells rows changes printed of_locks =
     let silent = quiet_silent printed of_locks.quiet in
     record { is_map = r.beside.map ∙ sym (silent_map (map_of rows) printed silent); is_epoch = r.beside.epoch ∙ sym (silent_epoch rows.epoch printed silent) }
 
-expiry_tells : (rows : Rows) (changes : List LockChange) (client : ℕ) (row : Session) (numbers : List ℕ) (others : List Line) → AreOfLocks others
-    → Tells rows (changed_rows rows (locks_edits changes ++ PutSession client row ∷ [])) (map lines.Expired numbers ++ others ++ lines.Ended client ∷ [])
-expiry_tells rows changes client row numbers others of_locks =
+parting_tells : (parting : Parting) (rows : Rows) (changes : List LockChange) (client : ℕ) (row : Session) (numbers : List ℕ) (others : List Line) → AreOfLocks others
+    → Tells rows (changed_rows rows (locks_edits changes ++ PutSession client row ∷ [])) (map (right_line parting) numbers ++ others ++ lines.Ended client ∷ [])
+parting_tells parting rows changes client row numbers others of_locks =
     let r = let_go rows changes client row in
     let silent = quiet_silent others of_locks.quiet in
-    record { is_map = r.beside.map ∙ sym (expiry_map (map_of rows) numbers others client silent); is_epoch = r.beside.epoch ∙ sym (expiry_epoch rows.epoch numbers others client silent) }
+    record { is_map = r.beside.map ∙ sym (parting_map parting (map_of rows) numbers others client silent); is_epoch = r.beside.epoch ∙ sym (parting_epoch parting rows.epoch numbers others client silent) }
+
+-- the end of a session, by its time or by its client
+ended_tells : (parting : Parting) (rows : Rows) (s : MasterState) (client : ℕ) (principal : List ℕ) → Tells rows (changed_rows rows (parting_edits parting s client principal)) (parting_lines parting s client (lapses_of parting s client))
+ended_tells parting rows s client principal =
+    parting_tells parting rows (lock_changes s (lapses_puts s (lapses_of parting s client))) client (record { principal = principal; live = false }) (numbers_ending client (ending_by parting) s.rights) (lapses_lines parting client (lapses_of parting s client)) (lapses_of_locks parting client (lapses_of parting s client))
 
 -- what a sweep commits is what it prints
 swept_tells : (rows : Rows) (s : MasterState) (c : SweepCase s) → Tells rows (changed_rows rows (swept_edits s c)) (swept_by s c).1.lines
-swept_tells rows s (Expires client session due) =
-    expiry_tells rows (lock_changes s (lapses_puts s (lapses_of s client))) client (record { principal = session.principal; live = false }) (numbers_ending client endings.Expiry s.rights) (lapses_lines client (lapses_of s client)) (lapses_of_locks client (lapses_of s client))
+swept_tells rows s (Expires client session due) = ended_tells partings.Expiry rows s client session.principal
+swept_tells rows s (Departed front back asked call sequencer session turn work leave found live) = ended_tells partings.Leave rows s asked.client session.principal
 swept_tells rows s (Reopens instance due) =
     let turn = reopened (lock_at s.locks instance) in
     relocked_tells rows (lock_changes s (puts_of s instance turn.lock)) (lines.Reopened instance ∷ locked_lines instance turn) (reopened_of_locks instance turn)

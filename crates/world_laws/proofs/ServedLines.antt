@@ -33,10 +33,10 @@ use Rattle.cell_state.specs.State.{MasterState}
 use Rattle.cell_state.specs.Lookups.{acknowledgement, granted_lines, repeated_reply, noted}
 use Rattle.cell_state.specs.Updates.{with_note}
 use Rattle.cell_core.specs.Cases.{TakeCase, taken_by}
-use Rattle.cell_core.specs.Cases.TakeCase.{StartRefused, OldBeat, BeatRefused, BeatParked, OldEpoch, NoSession, Repeated, OlderCall, Outstanding as StillOutstanding, Granted}
-use Rattle.cell_state.specs.Lapses.{lapses_lines, lapses_of}
+use Rattle.cell_core.specs.Cases.TakeCase.{StartRefused, OldBeat, BeatRefused, BeatParked, OldEpoch, NoSession, LeftBefore, Repeated, OlderCall, Outstanding as StillOutstanding, Granted}
+use Rattle.cell_state.specs.Lapses.{lapses_lines, lapses_of, parting_lines}
 use Rattle.over_core.specs.SweepCase.{SweepCase, swept_by}
-use Rattle.over_core.specs.SweepCase.SweepCase.{Recovers, Expires, Reopens, Tidied, Started as StartedFirst, Applied, Deleted, Locked, Left}
+use Rattle.over_core.specs.SweepCase.SweepCase.{Recovers, Expires, Reopens, Tidied, Started as StartedFirst, Applied, Deleted, Locked, Left, Departed as Leaves}
 use Rattle.client_core.specs.declared.parts.asks.Ask.{Ask}
 use Rattle.client_core.specs.declared.parts.sessions.Session.{Session}
 use Rattle.client_core.specs.declared.parts.sessions.Session.TheVariants as sessions
@@ -51,12 +51,12 @@ use Rattle.client_core.specs.Gives.{with_processed, takes_offer, is_jeopardy, sa
 use Rattle.client_core.specs.Cases.{noted_moment, AskCase, asked_in, BeatCase, beaten_in, GiveCase, given_in}
 use Rattle.client_core.specs.Cases.AskCase.{AskedTooLate, Unsafe, Refused, ReadServed, AbsenceServed, Shared, OutOfHandles, Released, OutOfCalls, Sent, Poisoned}
 use Rattle.client_core.specs.Cases.BeatCase.{BeatTooLate, OutOfBeats, Starts, Beats as BeatSent, Quiet}
-use Rattle.client_core.specs.Cases.GiveCase.{GivenTooLate, OfAnother, Started, StartedUnfit, StartedDropped, LeaseTaken, LeaseStays, AliveUnfit, AliveDropped, OutOfNumbers, Replied, Installed, ReplyDropped, NotAwaited, Learns, Lost, TurnedAway, RefusalDropped}
+use Rattle.client_core.specs.Cases.GiveCase.{GivenTooLate, OfAnother, Started, StartedUnfit, StartedDropped, LeaseTaken, LeaseStays, AliveUnfit, AliveDropped, OutOfNumbers, Replied, Installed, Departed, ReplyDropped, NotAwaited, Learns, Lost, TurnedAway, RefusalDropped}
 use Rattle.world_core.specs.declared.steps.Step.{Step}
 use Rattle.world_core.specs.declared.members.WorldClient.{WorldClient}
 use Rattle.world_core.specs.World.{WorldState, WorldView, IsUndoubted, is_of_commit, member_of, with_client, with_refusal, asked, beaten, gave, world_step}
 use Rattle.world_laws.proofs.StepsHold.{does_holds}
-use Rattle.world_laws.specs.Slices.{slice, client_of}
+use Rattle.world_laws.specs.Slices.{slice, client_of, lease_shown}
 use Rattle.world_laws.specs.Consistent.{IsConsistent}
 use Rattle.world_laws.specs.Runs.{map_by, map_at, Run}
 use Rattle.world_core.specs.Made.{Does, WasMade}
@@ -71,6 +71,9 @@ use Rattle.world_laws.proofs.OwnSteps.{Comes, it_comes}
 use Rattle.world_laws.proofs.RowsByRuns.{step_tells}
 use Rattle.world_laws.proofs.WorldCases.{WorldCase, world_case}
 use Rattle.world_laws.proofs.WorldCases.WorldCase.{ComesUp, Joins, Asks, Beats, Gives, Ticks, Takes, Sweeps, GoesDown, CutsSweep, CutsUp, LosesUp}
+use Rattle.lock_core.specs.declared.partings.Parting.{Parting}
+use Rattle.lock_core.specs.declared.partings.Parting.TheVariants as partings
+use Rattle.cell_state.specs.Partings.{right_line, lock_line, ending_by}
 
 -- ---- lines, one by one
 
@@ -197,26 +200,28 @@ module _ (w : WorldState) (h : IsConsistent w) (number : ℕ) (member : WorldCli
   then = noted_moment s member.clock
 
   -- it is the present view of the name
-  answer_is_present : (name : List ℕ) (entry : Option View) → answer s.cache then name ≡ Some entry → entry ≡ view_at (map_of w.rows) name
-  answer_is_present name entry is =
+  answer_is_present : (name : List ℕ) (entry : Option View) → s.leaving ≡ false → answer s.cache then name ≡ Some entry → entry ≡ view_at (map_of w.rows) name
+  answer_is_present name entry on is =
       let a = answered_by s.cache.enabled (is_leased s.cache.lease then) (entry_of s.cache.entries name) entry is in
       let leased : is_leased s.cache.lease member.clock ≡ true = subst (λ (n : ℕ). is_leased s.cache.lease n ≡ true) (latest s.clock member.clock (h.clients number member found).noted) a.0 in
+      let shown : IsUnexpired (lease_shown s.leaving s.cache.lease).sent (lease_shown s.leaving s.cache.lease).span member.clock =
+      subst (λ (b : Bool). IsUnexpired (lease_shown b s.cache.lease).sent (lease_shown b s.cache.lease).span member.clock) (sym on) (is_leased_so s.cache.lease member.clock leased) in
       reached_serves_present (slice number name w) (h.reached number name) entry
       (subst (λ (o : Option WorldClient). (client_of name o).entry ≡ Some entry) (sym found) a.1)
-      (subst (λ (o : Option WorldClient). IsUnexpired (client_of name o).lease_sent (client_of name o).lease_span (client_of name o).now) (sym found) (is_leased_so s.cache.lease member.clock leased))
+      (subst (λ (o : Option WorldClient). IsUnexpired (client_of name o).lease_sent (client_of name o).lease_span (client_of name o).now) (sym found) shown)
 
-  served_step : (client : ClientState) (whose : ℕ) (name : List ℕ) (entry : Option View) (more : List Line) → answer s.cache then name ≡ Some entry → AreOthers more → StepServes w (with_client w number member client) (lines.Served whose name entry ∷ more)
-  served_step client whose name entry more is others =
-      let e = answer_is_present name entry is in
+  served_step : (client : ClientState) (whose : ℕ) (name : List ℕ) (entry : Option View) (more : List Line) → s.leaving ≡ false → answer s.cache then name ≡ Some entry → AreOthers more → StepServes w (with_client w number member client) (lines.Served whose name entry ∷ more)
+  served_step client whose name entry more on is others =
+      let e = answer_is_present name entry on is in
       record { before = (e, others_serve (map_of w.rows) more others); behind = (e, others_at (map_of w.rows) more others) }
 
   ask_serves : (ask : Ask) (c : AskCase s member.clock ask) → Comes (StepServes w) (asked w number member (asked_in s member.clock ask c))
   ask_serves ask (AskedTooLate late) = tt
   ask_serves ask (Unsafe fault early is) = others_step w _ (with_refusal (note_lines s then) fault) (refusal_other (note_lines s then) fault (noted_other s s.session then))
   ask_serves ask (Refused fault safe is) = others_step w _ (lines.Refused fault ∷ []) (tt, tt)
-  ask_serves ask (ReadServed handle mine call entry given safe is readable) = served_step _ s.number mine.name entry [] readable.cached tt
-  ask_serves ask (AbsenceServed opening safe is plain cached) = served_step _ s.number opening.name None [] cached tt
-  ask_serves ask (Shared opening view handle safe is shared room) = served_step _ s.number opening.name (Some view) (lines.Done s.number 0 (answers.Opened (s.opened + 1)) ∷ []) shared.cached (tt, tt)
+  ask_serves ask (ReadServed handle mine call entry given safe is readable) = served_step _ s.number mine.name entry [] readable.stays readable.cached tt
+  ask_serves ask (AbsenceServed opening safe on is plain cached) = served_step _ s.number opening.name None [] on cached tt
+  ask_serves ask (Shared opening view handle safe is shared room) = served_step _ s.number opening.name (Some view) (lines.Done s.number 0 (answers.Opened (s.opened + 1)) ∷ []) shared.stays shared.cached (tt, tt)
   ask_serves ask (OutOfHandles opening view handle safe is shared last) = tt
   ask_serves ask (Released handle mine safe is there shared) = others_step w _ (lines.Done s.number 0 answers.Closed ∷ []) (tt, tt)
   ask_serves ask (OutOfCalls call sequencer target sendable last) = tt
@@ -252,6 +257,7 @@ module _ (w : WorldState) (h : IsConsistent w) (number : ℕ) (member : WorldCli
   give_serves out (OutOfNumbers message call heard is for last) = tt
   give_serves out (Replied message call heard is for room kept plain) = tells_only _ (lines.Done s.number message.number _ ∷ []) (tt, tt)
   give_serves out (Installed message call taught_it stamp heard is for learned) = tells_only _ (lines.Done s.number message.number _ ∷ []) (tt, tt)
+  give_serves out (Departed message call heard is for leaving done) = tells_only _ (lines.Done s.number message.number _ ∷ []) (tt, tt)
   give_serves out (ReplyDropped message call heard is for dropped) = tells_only _ [] tt
   give_serves out (NotAwaited message heard is none) = tells_only _ [] tt
   give_serves out (Learns message present heard is later) = tells_only _ (unknown_lines s.number s.outstanding) (unknown_other s.number s.outstanding)
@@ -278,18 +284,27 @@ taken_other s request (BeatRefused beat fault is of refused) = (tt, tt)
 taken_other s request (BeatParked beat is of taken) = each_other lines.Acked (λ number. tt) (numbers_ending beat.client (acknowledgement beat) s.rights)
 taken_other s request (OldEpoch message is apart) = (tt, tt)
 taken_other s request (NoSession message is of dead) = (tt, tt)
+taken_other s request (LeftBefore message kept request_is same_epoch ended is number) = repeated_other kept.reply
 taken_other s request (Repeated message kept heard is number) = repeated_other kept.reply
 taken_other s request (OlderCall message kept heard is less) = (tt, tt)
 taken_other s request (StillOutstanding message kept heard is more none) = (tt, tt)
 taken_other s request (Granted message note answer name new serving may) = granted_other message.client name (grant_answer message.client name (with_note s note).rights)
 taken_other s request _ = tt
 
+own_right : (parting : Parting) (number : ℕ) → IsOther (right_line parting number)
+own_right partings.Expiry number = tt
+own_right partings.Leave number = tt
+
+ended_other : (parting : Parting) (s : MasterState) (client : ℕ) → AreOthers (parting_lines parting s client (lapses_of parting s client))
+ended_other parting s client =
+    let ends = map (right_line parting) (numbers_ending client (ending_by parting) s.rights) in
+    both_others (ends ++ lapses_lines parting client (lapses_of parting s client)) (lines.Ended client ∷ [])
+    (both_others ends (lapses_lines parting client (lapses_of parting s client)) (each_other (right_line parting) (own_right parting) (numbers_ending client (ending_by parting) s.rights)) (lapses_of_locks parting client (lapses_of parting s client)).others) (tt, tt)
+
 swept_other : (s : MasterState) (c : SweepCase s) → AreOthers (swept_by s c).1.lines
 swept_other s (Recovers recovering heard) = (tt, tt)
-swept_other s (Expires client session due) =
-    let ends = map lines.Expired (numbers_ending client endings.Expiry s.rights) in
-    both_others (ends ++ lapses_lines client (lapses_of s client)) (lines.Ended client ∷ [])
-    (both_others ends (lapses_lines client (lapses_of s client)) (each_other lines.Expired (λ number. tt) (numbers_ending client endings.Expiry s.rights)) (lapses_of_locks client (lapses_of s client)).others) (tt, tt)
+swept_other s (Expires client session due) = ended_other partings.Expiry s client
+swept_other s (Leaves front back asked call sequencer session turn work leave found live) = ended_other partings.Leave s asked.client
 swept_other s (Reopens instance due) = (reopened_of_locks instance (reopened (lock_at s.locks instance))).others
 swept_other s (StartedFirst front back asked principal received turn work none) = (tt, tt)
 swept_other s (Applied front back asked call sequencer _ change answer turn work live made) = (tt, tt)

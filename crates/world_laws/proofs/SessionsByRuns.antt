@@ -26,9 +26,9 @@ use Rattle.cell_state.specs.Lookups.{noted}
 use Rattle.cell_state.specs.Updates.{edit_of, lock_changes}
 use Rattle.cell_state.specs.Replies.{locked_line, locked_lines, puts_of}
 use Rattle.cell_core.specs.Outcomes.{leave_lines, left_put}
-use Rattle.cell_state.specs.Lapses.{lapses_lines, lapses_of, lapses_puts}
-use Rattle.over_core.specs.SweepCase.{SweepCase, swept_by, swept_edits}
-use Rattle.over_core.specs.SweepCase.SweepCase.{Expires, Reopens, Tidied, Started as StartedFirst, Applied, Deleted, Locked, Awaited, Left}
+use Rattle.cell_state.specs.Lapses.{lapses_lines, lapses_of, lapses_puts, parting_lines}
+use Rattle.over_core.specs.SweepCase.{SweepCase, swept_by, swept_edits, parting_edits}
+use Rattle.over_core.specs.SweepCase.SweepCase.{Expires, Reopens, Tidied, Started as StartedFirst, Applied, Deleted, Locked, Awaited, Left, Departed}
 use Rattle.world_core.specs.declared.steps.Step.{Step}
 use Rattle.world_core.specs.World.{WorldState, WorldView}
 use Rattle.world_laws.proofs.StepsHold.{does_holds}
@@ -43,6 +43,9 @@ use Rattle.world_laws.proofs.OnceByRuns.{taken_silent}
 use Rattle.world_laws.proofs.WorldCases.{WorldCase, world_case}
 use Rattle.world_laws.proofs.WorldCases.WorldCase.{ComesUp, Joins, Asks, Beats, Gives, Ticks, Takes, Sweeps, GoesDown, CutsSweep, CutsUp, LosesUp}
 use Rattle.world_laws.proofs.OwnSteps.{IsOwn, own_silent, asks_own, beats_own, gives_own}
+use Rattle.lock_core.specs.declared.partings.Parting.{Parting}
+use Rattle.lock_core.specs.declared.partings.Parting.TheVariants as partings
+use Rattle.cell_state.specs.Partings.{right_line, ending_by}
 
 -- a client's session is live in the new rows where the lines make it so
 abbrev Tells : ℕ → Rows → Rows → List Line → Type 0
@@ -65,11 +68,12 @@ silent_lives : (client : ℕ) (live : Bool) (printed : List Line) → IsSilent p
 silent_lives client live [] h = refl
 silent_lives client live (line ∷ rest) h = ap (λ b. live_at client b rest) (line_lives client live line h.0) ∙ silent_lives client live rest h.1
 
--- an expiry tells of one session's end
-expiry_lives : (client : ℕ) (live : Bool) (numbers : List ℕ) (others : List Line) (whose : ℕ) → IsSilent others → live_at client live (map lines.Expired numbers ++ others ++ lines.Ended whose ∷ []) ≡ cond (whose == client) false live
-expiry_lives client live [] others whose silent =
+-- the end of a session tells of just that
+parting_lives : (parting : Parting) (client : ℕ) (live : Bool) (numbers : List ℕ) (others : List Line) (whose : ℕ) → IsSilent others → live_at client live (map (right_line parting) numbers ++ others ++ lines.Ended whose ∷ []) ≡ cond (whose == client) false live
+parting_lives parting client live [] others whose silent =
     lives_more client live others (lines.Ended whose ∷ []) ∙ ap (λ b. live_at client b (lines.Ended whose ∷ [])) (silent_lives client live others silent)
-expiry_lives client live (number ∷ numbers) others whose silent = expiry_lives client live numbers others whose silent
+parting_lives partings.Expiry client live (number ∷ numbers) others whose silent = parting_lives partings.Expiry client live numbers others whose silent
+parting_lives partings.Leave client live (number ∷ numbers) others whose silent = parting_lives partings.Leave client live numbers others whose silent
 
 silent_tells : (client : ℕ) (old new : Rows) (printed : List Line) → IsSilent printed → new ≡ old → Tells client old new printed
 silent_tells client old new printed silent same = ap (λ r. is_live_in r client) same ∙ sym (silent_lives client (is_live_in old client) printed silent)
@@ -104,16 +108,21 @@ relocked_tells : (client : ℕ) (rows : Rows) (changes : List LockChange) (print
 relocked_tells client rows changes printed of_locks =
     by_row client rows (changed_rows rows (locks_edits changes)) (relocked_rows rows changes).sessions ∙ sym (silent_lives client (is_live_in rows client) printed (quiet_silent printed of_locks.quiet))
 
-expiry_tells : (client : ℕ) (rows : Rows) (changes : List LockChange) (whose : ℕ) (principal : List ℕ) (numbers : List ℕ) (others : List Line) → AreOfLocks others
-    → Tells client rows (changed_rows rows (locks_edits changes ++ PutSession whose (record { principal = principal; live = false }) ∷ [])) (map lines.Expired numbers ++ others ++ lines.Ended whose ∷ [])
-expiry_tells client rows changes whose principal numbers others of_locks =
+parting_tells : (parting : Parting) (client : ℕ) (rows : Rows) (changes : List LockChange) (whose : ℕ) (principal : List ℕ) (numbers : List ℕ) (others : List Line) → AreOfLocks others
+    → Tells client rows (changed_rows rows (locks_edits changes ++ PutSession whose (record { principal = principal; live = false }) ∷ [])) (map (right_line parting) numbers ++ others ++ lines.Ended whose ∷ [])
+parting_tells parting client rows changes whose principal numbers others of_locks =
     let stored : Session = record { principal = principal; live = false } in
     by_row client (edited rows (PutSession whose stored)) (changed_rows rows (locks_edits changes ++ PutSession whose stored ∷ [])) (let_go rows changes whose stored).sessions ∙ put_lives client whose stored rows
-    ∙ sym (expiry_lives client (is_live_in rows client) numbers others whose (quiet_silent others of_locks.quiet))
+    ∙ sym (parting_lives parting client (is_live_in rows client) numbers others whose (quiet_silent others of_locks.quiet))
+
+-- by its time or by its client
+ended_tells : (parting : Parting) (client : ℕ) (rows : Rows) (s : MasterState) (whose : ℕ) (principal : List ℕ) → Tells client rows (changed_rows rows (parting_edits parting s whose principal)) (parting_lines parting s whose (lapses_of parting s whose))
+ended_tells parting client rows s whose principal =
+    parting_tells parting client rows (lock_changes s (lapses_puts s (lapses_of parting s whose))) whose principal (numbers_ending whose (ending_by parting) s.rights) (lapses_lines parting whose (lapses_of parting s whose)) (lapses_of_locks parting whose (lapses_of parting s whose))
 
 swept_tells : (client : ℕ) (rows : Rows) (s : MasterState) (c : SweepCase s) → Tells client rows (changed_rows rows (swept_edits s c)) (swept_by s c).1.lines
-swept_tells client rows s (Expires whose session due) =
-    expiry_tells client rows (lock_changes s (lapses_puts s (lapses_of s whose))) whose session.principal (numbers_ending whose endings.Expiry s.rights) (lapses_lines whose (lapses_of s whose)) (lapses_of_locks whose (lapses_of s whose))
+swept_tells client rows s (Expires whose session due) = ended_tells partings.Expiry client rows s whose session.principal
+swept_tells client rows s (Departed front back asked call sequencer session turn work leave found live) = ended_tells partings.Leave client rows s asked.client session.principal
 swept_tells client rows s (Reopens instance due) =
     let turn = reopened (lock_at s.locks instance) in
     relocked_tells client rows (lock_changes s (puts_of s instance turn.lock)) (lines.Reopened instance ∷ locked_lines instance turn) (reopened_of_locks instance turn)

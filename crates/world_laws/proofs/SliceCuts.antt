@@ -20,6 +20,7 @@ use Rattle.world_laws.proofs.GrantsSent.{grants_stay}
 use Rattle.world_laws.proofs.Slices.{LeadsTo, reached_stays, beats_stay, offers_more, lookup_each}
 use Rattle.world_laws.proofs.SliceTicks.{behind_up}
 use Rattle.world_laws.proofs.SliceSweeps.{behind_sweep}
+use Rattle.over_core.specs.declared.actions.Action.{Action}
 
 -- the world behind it: the commit stands
 abbrev pub behind_cut : WorldState → Rows → WorldState
@@ -43,7 +44,7 @@ offers_stay c x (out ∷ sent) o offers i = offers_stay c x sent o (offer_of c x
 
 -- ---- a sweep
 
-module _ (c : ℕ) (x : List ℕ) (w : WorldState) (s : MasterState) (case : SweepCase (noted s w.clock)) where
+module _ (c : ℕ) (x : List ℕ) (w : WorldState) (s : MasterState) (case : SweepCase (noted s w.clock)) (action : Action) where
   abbrev swept_rows : Rows
   swept_rows = changed_rows w.rows (swept_edits (noted s w.clock) case)
 
@@ -51,7 +52,7 @@ module _ (c : ℕ) (x : List ℕ) (w : WorldState) (s : MasterState) (case : Swe
   abbrev sent_before : Event Shown
   sent_before = Reorder (beats_of c w.messages) (offers_of c x w.messages) (grants_of c x swept_rows.secret w.messages)
 
-  cut_sweep_leads : LeadsTo c x (behind_sweep w s case) (behind_cut w swept_rows)
+  cut_sweep_leads : LeadsTo c x (behind_sweep w s case action) (behind_cut w swept_rows)
   cut_sweep_leads =
       let sent : List Out = (swept_by (noted s w.clock) case).1.outs in (
         GoDown ∷ sent_before ∷ [],
@@ -71,8 +72,8 @@ module _ (c : ℕ) (x : List ℕ) (w : WorldState) (s : MasterState) (case : Swe
         },
       )
 
-  pub reached_stays_at_cut_sweep : Reached (slice c x (behind_sweep w s case)) → Reached (slice c x (behind_cut w (behind_sweep w s case).rows))
-  reached_stays_at_cut_sweep reached = reached_stays c x (behind_sweep w s case) (behind_cut w swept_rows) cut_sweep_leads reached
+  pub reached_stays_at_cut_sweep : Reached (slice c x (behind_sweep w s case action)) → Reached (slice c x (behind_cut w (behind_sweep w s case action).rows))
+  reached_stays_at_cut_sweep reached = reached_stays c x (behind_sweep w s case action) (behind_cut w swept_rows) cut_sweep_leads reached
 
 -- ---- a master that comes up
 

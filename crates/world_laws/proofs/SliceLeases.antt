@@ -14,7 +14,7 @@ use Rattle.cell_state.specs.State.{MasterState}
 use Rattle.cell_state.specs.Lookups.{session_of}
 use Rattle.world_core.specs.declared.members.WorldClient.{WorldClient}
 use Rattle.world_core.specs.World.{WorldState, member_of}
-use Rattle.world_laws.specs.Slices.{slice, standing_so, standing_of, seen_of, client_of, master_of}
+use Rattle.world_laws.specs.Slices.{slice, standing_so, standing_of, seen_of, client_of, master_of, lease_shown}
 use Rattle.world_laws.specs.Consistent.{IsConsistent}
 use Rattle.world_laws.specs.Runs.{LeasesKeepSessions, AreJoint}
 
@@ -33,9 +33,11 @@ in_time w number name master session before up found =
     subst (λ (o : Option (Session Reply)). w.clock < (seen_of o).timeout) found (here refl)
 
 pub leases_keep_sessions : (w : WorldState) → IsConsistent w → LeasesKeepSessions w
-leases_keep_sessions w fits number member found unexpired =
+leases_keep_sessions w fits number member found on unexpired =
     let joint = reached_is_joint (slice number [] w) (fits.reached number []) in
-    let lives = joint.session_outlives_lease (subst (λ (o : Option WorldClient). IsUnexpired (client_of [] o).lease_sent (client_of [] o).lease_span (client_of [] o).now) (sym found) unexpired) in
+    let shown : IsUnexpired (lease_shown member.client.leaving member.client.cache.lease).sent (lease_shown member.client.leaving member.client.cache.lease).span member.clock =
+    subst (λ (b : Bool). IsUnexpired (lease_shown b member.client.cache.lease).sent (lease_shown b member.client.cache.lease).span member.clock) (sym on) unexpired in
+    let lives = joint.session_outlives_lease (subst (λ (o : Option WorldClient). IsUnexpired (client_of [] o).lease_sent (client_of [] o).lease_span (client_of [] o).now) (sym found) shown) in
     record {
       live = live_row (lookup (is_at (nat_cmp number)) w.rows.sessions) lives.live;
       in_time = λ master session up there. in_time w number [] master session lives.before_timeout up there;

@@ -14,7 +14,7 @@ use Rattle.rights_core.specs.declared.grants.Grant.TheVariants as grants
 use Rattle.rights_core.specs.Rights.{is_ended_by, holds, grant_answer, with_granted, granted, invalidations_of, next_invalidation, asked_back, ended, IsRecorded}
 use Rattle.rights_core.specs.Laws.{asked_for, given_back_of, number_or_0}
 use Rattle.rights_core.proofs.OneName.{new_right_is_held, known_right_is_held, asking_numbers_rights, asking_counts, ending_frees}
-use Rattle.rights_core.proofs.GivenBack.{asking_gives_nothing_back, expiry_gives_nothing_back, acknowledgement_gives_back, granting_gives_nothing_back}
+use Rattle.rights_core.proofs.GivenBack.{asking_gives_nothing_back, leave_gives_back, expiry_gives_nothing_back, acknowledgement_gives_back, granting_gives_nothing_back}
 use Rattle.rights_core.proofs.Unacked.{asked_is_issued}
 use Rattle.over_core.specs.Kept.{is_of}
 use Rattle.over_core.proofs.OwnedRights.{none_issued, none_held, none_asked, none_given_back}
@@ -78,6 +78,8 @@ module _ (client c : ℕ) (x : List ℕ) (rights : List CacheRight) (recorded : 
   given_at : (ending : Ending) → ends_here client c x ending rights ≡ false → given_back_of c x (ended client ending rights) ≡ given_back_of c x rights
   given_at (endings.Acknowledgement upto) e = acknowledgement_gives_back client upto c x rights recorded.once ∙ ap (λ b. cond b (max (given_back_of c x rights) (number_or_0 (asked_for c x rights))) (given_back_of c x rights)) e
   given_at endings.Expiry e = expiry_gives_nothing_back client c x rights
+  given_at endings.Leave e =
+      leave_gives_back client c x rights recorded.once ∙ ap (λ b. cond b (max (given_back_of c x rights) (number_or_0 (asked_for c x rights))) (given_back_of c x rights)) (without_true (client == c) e)
 
   -- where it isn't this client's, or not covered, it stays as it is
   right_stays : (ending : Ending) → ends_here client c x ending rights ≡ false → right_of c x (ended client ending rights) ≡ right_of c x rights
@@ -119,6 +121,11 @@ module _ (c : ℕ) (x : List ℕ) (rights : List CacheRight) (recorded : IsRecor
 
   pub expiry_frees : right_of c x (ended c endings.Expiry rights) ≡ freed_right (right_of c x rights)
   expiry_frees = right_is_freed endings.Expiry (given_back_of c x rights) refl (expiry_gives_nothing_back c c x rights)
+
+  pub leave_frees : right_of c x (ended c endings.Leave rights) ≡ given_back_right (right_of c x rights)
+  leave_frees =
+      right_is_freed endings.Leave (max (given_back_of c x rights) (number_or_0 (asked_for c x rights))) refl
+      (leave_gives_back c c x rights recorded.once ∙ ap (λ b. cond b (max (given_back_of c x rights) (number_or_0 (asked_for c x rights))) (given_back_of c x rights)) (same_number c))
 
   module _ (upto : ℕ) where
     pub beat_gives_back : acknowledges c x upto rights ≡ true → right_of c x (ended c (endings.Acknowledgement upto) rights) ≡ given_back_right (right_of c x rights)

@@ -1,5 +1,5 @@
 -- From a consistent world each step leads to where the slice of each client and name is reached.
-use Rattle.std.proofs.Common.{◌≡◌, ℕ, true, false, List, Ok, Some, None, subst}
+use Rattle.std.proofs.Common.{◌≡◌, ℕ, true, false, List, Ok, Some, None, subst, ap, ◌∙◌}
 use Rattle.coherence.specs.Slice.{Reached}
 use Rattle.node_core.specs.declared.lines.Line.{Line}
 use Rattle.tags_cell.specs.declared.messages.requests.Request.{Request}
@@ -15,12 +15,14 @@ use Rattle.world_core.specs.declared.members.WorldClient.{WorldClient}
 use Rattle.world_core.specs.declared.steps.Ticks.{Ticks}
 use Rattle.world_core.specs.Messages.{request_at, out_at}
 use Rattle.world_core.specs.World.{WorldState, member_of, asked, beaten, gave, ticked, are_fair, without_master, Agrees}
-use Rattle.world_laws.specs.Slices.{slice}
-use Rattle.world_laws.specs.Consistent.{IsConsistent, Fits, IsNoted}
+use Rattle.world_laws.specs.Slices.{slice, client_of}
+use Rattle.world_laws.specs.Consistent.{IsConsistent, Fits, IsNoted, FitsMessages}
 use Rattle.world_laws.proofs.SliceTicks.{behind_up, behind_join, reached_stays_at_ticks, reached_stays_at_up, reached_stays_at_down, reached_stays_at_join}
 use Rattle.world_laws.proofs.SliceClients.{reached_stays_at_ask, reached_stays_at_beat, reached_stays_at_give}
 use Rattle.world_laws.proofs.SliceTakes.{behind_take, reached_stays_at_take}
-use Rattle.world_laws.proofs.SliceSweeps.{behind_sweep, reached_stays_at_sweep}
+use Rattle.world_laws.proofs.SliceSweeps.{behind_sweep, reached_stays_at_sweep, LeavesOff}
+use Rattle.world_laws.proofs.MasterFits.{application_sent}
+use Rattle.over_core.specs.declared.actions.Action.{Action}
 
 module _ (w : WorldState) (fits : IsConsistent w) (c : ℕ) (x : List ℕ) where
   pub reached_behind_ticks : (ticks : Ticks) → are_fair w.master w ticks ≡ true → Reached (slice c x (ticked w ticks))
@@ -47,8 +49,17 @@ module _ (w : WorldState) (fits : IsConsistent w) (c : ℕ) (x : List ℕ) where
       (record { fits = subst (Fits w) up fits.fits; named = fits.named; room = room })
       sent (fits.reached c x)
 
-  pub reached_behind_sweep : (s : MasterState) (case : SweepCase (noted s w.clock)) → w.master ≡ Some s → Reached (slice c x (behind_sweep w s case))
-  reached_behind_sweep s case up = reached_stays_at_sweep c x w s case up (subst (IsNoted w.clock) up fits.noted) (subst (Agrees w) up fits.master) (fits.reached c x)
+  -- who asked for the end of its session serves nothing any more
+  leaves_off : (s : MasterState) → w.master ≡ Some s → LeavesOff x w (noted s w.clock)
+  leaves_off s up front back asked call sequencer turn work leave =
+      let there = noted s w.clock in
+      let f : FitsMessages w.messages s = subst (Fits w) up fits.fits in
+      let queue : FitsMessages w.messages there = record { queue = f.queue; kept = f.kept; replies = f.replies; answers = f.answers; turns = f.turns; awaited = f.awaited } in
+      let sent = fits.sent asked.client asked.number (record { client = asked.client; epoch = s.epoch; number = asked.number; call = call; sequencer = sequencer }) (application_sent w.messages there front asked back turn queue call sequencer work) in
+      ap (λ o. (client_of x o).off) sent.joined ∙ sent.leaves leave
+
+  pub reached_behind_sweep : (s : MasterState) (case : SweepCase (noted s w.clock)) (action : Action) → w.master ≡ Some s → Reached (slice c x (behind_sweep w s case action))
+  reached_behind_sweep s case action up = reached_stays_at_sweep c x w s case action up (subst (IsNoted w.clock) up fits.noted) (subst (Agrees w) up fits.master) (leaves_off s up) (fits.reached c x)
 
   pub reached_behind_down : (s : MasterState) → w.master ≡ Some s → Reached (slice c x (without_master w))
   reached_behind_down s up = reached_stays_at_down c x w s up (fits.reached c x)

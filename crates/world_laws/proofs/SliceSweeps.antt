@@ -1,7 +1,7 @@
 -- To each client, and of each name, what a sweep of the master is.
 use Rattle.std.proofs.Common.{◌≡◌, ℕ, ◌+◌, ◌-◌, ◌<◌, ◌≤◌, Bool, true, false, cond, max, List, [], ◌∷◌, ◌++◌, map, Option, Some, None, inl, inr, arith, refl, sym, ap, ◌∙◌, subst}
 use Rattle.std.specs.Prelude.{◌⊎◌, ◌==◌, ◌&&◌, ◌||◌, not, nat_le, fold, All}
-use Rattle.std.specs.Option.{option_map}
+use Rattle.std.specs.Option.{option_map, option_and_then}
 use Rattle.std.specs.List.{list_any}
 use Rattle.std.specs.Map.{lookup}
 use Rattle.std.specs.BTreeMap.{is_at, insert_entry}
@@ -53,7 +53,7 @@ use Rattle.cell_state.specs.State.{MasterState}
 use Rattle.cell_parts.specs.StoredSessions.{row_of}
 use Rattle.cell_state.specs.Lookups.{session_of, noted, reply_of, turned_away}
 use Rattle.cell_parts.specs.Answered.{answered_by}
-use Rattle.cell_core.specs.Step.{names_of}
+use Rattle.cell_core.specs.Step.{names_of, touched_by}
 use Rattle.cell_core.specs.Names.{call_touched, names_touched}
 use Rattle.cell_core.specs.Ephemerals.{is_ok, spared_for}
 use Rattle.cell_state.specs.Updates.{edit_of, with_kept_put, with_locks, without_lock, lock_changes}
@@ -63,24 +63,31 @@ use Rattle.over_core.specs.Plans.{started_out, alive_out, invalidations_for}
 use Rattle.cell_state.specs.Replies.{sent, kept_puts, replies_to, turn_replies, puts_of}
 use Rattle.cell_core.specs.Outcomes.{left_put}
 use Rattle.cell_state.specs.Lapses.{lapses_of, lapses_puts, lapses_replies}
-use Rattle.over_core.specs.SweepCase.{IsNextApplied, IsDueToEnd, IsDue, SweepCase, rest, ended, mapped, told, expired, relocking, gone_change, gone_replies, swept_by, swept_edits}
-use Rattle.over_core.specs.SweepCase.SweepCase.{Quiet, Recovers, Expires, Reopens, Tidies, Spared, Tidied, AnswersBeat, TurnedAway, StartedAgain, Started, OfEnded, Ended, Applied, Deleted, Locked, Awaited, Left}
+use Rattle.over_core.specs.SweepCase.{IsNextApplied, IsDueToEnd, IsDue, SweepCase, rest, ended, mapped, told, parted, relocking, gone_change, gone_replies, swept_by, swept_edits, left_reply}
+use Rattle.over_core.specs.SweepCase.SweepCase.{Quiet, Recovers, Expires, Reopens, Tidies, Spared, Tidied, AnswersBeat, TurnedAway, StartedAgain, Started, OfEnded, Ended, Applied, Deleted, Locked, Awaited, Left, Departed}
 use Rattle.over_core.specs.Kept.{IsKept}
-use Rattle.over_core.proofs.SweepCases.{first_tellings}
+use Rattle.over_core.proofs.SweepCases.{action_tellings}
 use Rattle.over_core.proofs.Touching.{change_is_touched}
 use Rattle.over_core.proofs.Unacknowledged.{IsAskedFor, each_is_asked, asked_is_named}
 use Rattle.world_core.specs.declared.mail.Message.TheVariants.{ToClient}
-use Rattle.world_core.specs.World.{WorldState}
-use Rattle.world_laws.specs.Slices.{Shown, slice, standing_so, standing_of, standing_in, parked_list, seen_of, heard_from, right_of, put_start, start_of, starts_of, beats_of, name_number, put_offer, offers_of, grants_of}
+use Rattle.world_core.specs.World.{WorldState, member_of}
+use Rattle.world_laws.specs.Slices.{Shown, slice, standing_so, standing_of, standing_in, parked_list, seen_of, heard_from, right_of, put_start, start_of, starts_of, beats_of, name_number, put_offer, offers_of, grants_of, client_of}
 use Rattle.world_laws.proofs.RelockedRows.{IsBeside, HasRow, let_go, relocked_rows}
 use Rattle.world_laws.proofs.LockReplies.{AreUnstamped, waiters_unstamped, application_unstamped, lapses_unstamped, replies_offer_none, replies_grant_none, told_lease, told_seen}
 use Rattle.world_laws.proofs.SliceCalls.{tidy_asks}
-use Rattle.world_laws.proofs.SliceRights.{no_right, unowned_right, right_of_another, freed_right, expiry_frees}
+use Rattle.world_laws.proofs.SliceRights.{no_right, unowned_right, right_of_another, freed_right, expiry_frees, leave_frees, given_back_right}
 use Rattle.world_laws.proofs.WorldCases.{swept_master}
 use Rattle.world_laws.proofs.ToldSweeps.{told_goes}
 use Rattle.world_laws.proofs.ViewsStay.{view_stays}
 use Rattle.world_laws.proofs.SweptNames.{touching_less, free_of_holders, all_at, last_is_issued, named_number}
 use Rattle.world_laws.proofs.Slices.{LeadsTo, reached_stays, by_test, is_same, is_other, same_test, in_front, in_back, in_either, all_found, beats_stay, grants_then, grants_more, offers_more, UpParts, AreSame, here, there, Goes, goes, goes_unseen, standing_kept, with_found, is_found, with_master, lease_stays, seen_stays, own_found, IsKnown, known, first_of, none_more}
+use Rattle.tags_cell.specs.Messages.{is_leave}
+use Rattle.tags_cell.specs.declared.messages.calls.Call.TheVariants as calls
+use Rattle.lock_core.specs.declared.partings.Parting.TheVariants as partings
+use Rattle.lock_core.specs.declared.turns.Lapse.{Lapse}
+use Rattle.tags_cell.specs.Handles.{read_handle}
+use Rattle.tags_cell.specs.declared.handles.Handle.{Handle}
+use Rattle.over_core.specs.declared.actions.Action.{Action}
 
 -- ---- what leaves the gate
 
@@ -161,6 +168,32 @@ no_more n = omega arith
 not_touched : (touched : List (List ℕ)) (x : List ℕ) → touched ≡ [] → list_any (bytes_eq x) touched ≡ false
 not_touched touched x none = ap (list_any (bytes_eq x)) none
 
+-- a call that ends a session touches no name
+no_name_in : (secret : List ℕ) (o : Option Handle) → names_of (option_and_then (λ handle. touched_by handle calls.Leave) o) ≡ []
+no_name_in secret None = refl
+no_name_in secret (Some handle) = refl
+
+leave_names : (secret : List ℕ) (call : Call) → is_leave call ≡ true → names_of (call_touched secret call) ≡ []
+leave_names secret calls.Leave h = no_name_in secret (read_handle secret [])
+leave_names secret (calls.Open opening) h = cc
+leave_names secret (calls.Close handle) h = cc
+leave_names secret (calls.Read handle) h = cc
+leave_names secret (calls.Stat handle) h = cc
+leave_names secret (calls.List handle) h = cc
+leave_names secret (calls.Set handle content generation) h = cc
+leave_names secret (calls.SetAcl handle acl generation) h = cc
+leave_names secret (calls.Delete handle) h = cc
+leave_names secret (calls.Acquire handle mode) h = cc
+leave_names secret (calls.TryAcquire handle mode) h = cc
+leave_names secret (calls.Release handle) h = cc
+leave_names secret (calls.GetSequencer handle) h = cc
+leave_names secret (calls.SetSequencer handle) h = cc
+leave_names secret (calls.CheckSequencer bytes) h = cc
+
+-- the client whose call to end its session has its turn serves nothing any more
+abbrev pub LeavesOff : List ℕ → WorldState → MasterState → Type 0
+LeavesOff x w s = (front back : List (Waiting Task)) (asked : Asked) (call : Call) (sequencer : Option (List ℕ)) → IsNextApplied s front (tasks.Asked asked) back → asked.work ≡ works.Calls call sequencer → is_leave call ≡ true → (client_of x (member_of w asked.client)).off ≡ true
+
 module _ (x : List ℕ) (w : WorldState) (s : MasterState) (knows : IsKnown w s) where
   -- of the messages that are sent, none offers a lease, and none grants the name
   record IsSilent (c : ℕ) (sent : List Out) : Type 0 where
@@ -232,23 +265,23 @@ module _ (x : List ℕ) (w : WorldState) (s : MasterState) (knows : IsKnown w s)
     ended_row = record { principal = session.principal; live = false }
 
     abbrev changes : List LockChange
-    changes = lock_changes s (lapses_puts s (lapses_of s client))
+    changes = lock_changes s (lapses_puts s (lapses_of partings.Expiry s client))
 
     abbrev ended_rows : Rows
     ended_rows = changed_rows w.rows (locks_edits changes ++ PutSession client ended_row ∷ [])
 
     -- to those that waited for its locks
     abbrev answers : List Reply
-    answers = lapses_replies s (lapses_of s client)
+    answers = lapses_replies s (lapses_of partings.Expiry s client)
 
     abbrev without_session : MasterState
-    without_session = told (with_locks (expired s client) (lapses_puts s (lapses_of s client))) answers
+    without_session = told (with_locks (parted partings.Expiry s client) (lapses_puts s (lapses_of partings.Expiry s client))) answers
 
     has_row : HasRow w.rows ended_rows client ended_row
     has_row = let_go w.rows changes client ended_row
 
     silent_expiry : (c : ℕ) → IsSilent c (sent answers)
-    silent_expiry c = replies_silent c answers (lapses_unstamped s (lapses_of s client))
+    silent_expiry c = replies_silent c answers (lapses_unstamped s (lapses_of partings.Expiry s client))
 
     own_expiry : Goes client x w s ended_rows without_session (sent answers)
     own_expiry =
@@ -490,6 +523,85 @@ module _ (x : List ℕ) (w : WorldState) (s : MasterState) (knows : IsKnown w s)
         let r = relocked_rows_of c puts in
         leaves c (changed_rows w.rows (relocking s puts)) (with_locks (rest s front back) puts) []
         (record { present = r.present; session = r.session; secret = r.secret; epoch = r.epoch; lease = refl; recovering = refl; seen = refl; right = refl; waiting = refl; silent = nothing_sent c })
+
+  -- ---- a client ends its session
+
+  module _ (front back : List (Waiting Task)) (asked : Asked) (turn : IsNextApplied s front (tasks.Asked asked) back) (call : Call) (sequencer : Option (List ℕ)) (session : Session Reply) (work : asked.work ≡ works.Calls call sequencer) (leave : is_leave call ≡ true) (found : session_of s asked.client ≡ Some session) (live : session.live ≡ true) where
+    abbrev left_row : of_rows.Session
+    left_row = record { principal = session.principal; live = false }
+
+    abbrev left_lapses : List Lapse
+    left_lapses = lapses_of partings.Leave s asked.client
+
+    abbrev left_changes : List LockChange
+    left_changes = lock_changes s (lapses_puts s left_lapses)
+
+    abbrev left_rows : Rows
+    left_rows = changed_rows w.rows (locks_edits left_changes ++ PutSession asked.client left_row ∷ [])
+
+    -- to itself, and to those that waited for its locks
+    abbrev left_answers : List Reply
+    left_answers = left_reply s asked ∷ lapses_replies s left_lapses
+
+    abbrev left_master : MasterState
+    left_master = told (with_locks (parted partings.Leave (rest s front back) asked.client) (lapses_puts s left_lapses)) left_answers
+
+    left_is : HasRow w.rows left_rows asked.client left_row
+    left_is = let_go w.rows left_changes asked.client left_row
+
+    silent_leave : (c : ℕ) → IsSilent c (sent left_answers)
+    silent_leave c = replies_silent c left_answers (refl, lapses_unstamped s left_lapses)
+
+    -- it touches no name
+    leave_touches : touches x (at_application front back (tasks.Asked asked) turn) ≡ false
+    leave_touches = not_touched turn.touched x (touched_is front back (tasks.Asked asked) turn ∙ ap (λ z. names_touched s.secret (tasks.Asked (record asked { work = z }))) work ∙ leave_names s.secret call leave)
+
+    left_lease : left_master.sessions.lease ≡ s.sessions.lease
+    left_lease = told_lease (with_session s.sessions asked.client of_session.ended) (kept_puts left_answers) ∙ lease_stays s.sessions asked.client of_session.ended
+
+    own_leave : (client_of x (member_of w asked.client)).off ≡ true → Goes asked.client x w s left_rows left_master (sent left_answers)
+    own_leave off =
+        let c = asked.client in
+        let f : UpParts = with_found c x w s (Some session) in
+        let p : UpParts = record f { pending = touching x (front ++ back) } in
+        let q : UpParts = record p { session = one.Ended; seen = seen_of (Some (of_session.ended session)); starts = starts_of c (front ++ back); heard = false; right = given_back_right (right_of c x s.rights) } in
+        let h = is_found c x w s (Some session) knows.sessions knows.epoch found in
+        goes c x w s left_rows left_master (sent left_answers) (KeepReceipts (parked_list session.parked ++ starts_of c (front ++ back)) ∷ one.Leave ∷ []) p q
+        (record { present = h.present; session = h.session; epoch = h.epoch; lease = h.lease; recovering = h.recovering; seen = h.seen; starts = h.starts; heard = h.heard; right = h.right; pending = pending_stays front back (tasks.Asked asked) turn leave_touches; beats = h.beats; offers = h.offers; grants = h.grants })
+        (behind c left_rows left_master (sent left_answers) q
+        (ap (λ m. view_at m x) left_is.beside.map)
+        (standing_by c left_rows (insert_entry nat_cmp w.rows.sessions c left_row) left_is.sessions ∙ ap standing_of (lookup_put c w.rows.sessions left_row))
+        (left_is.beside.epoch ∙ sym knows.epoch)
+        left_is.beside.secret
+        left_lease
+        refl
+        (told_seen (with_session s.sessions c of_session.ended) (kept_puts left_answers) c ∙ ap seen_of (own_found of_session.ended s.sessions c session found))
+        refl refl
+        (leave_frees c x s.rights knows.recorded)
+        refl refl (silent_leave c).offers (silent_leave c).grants)
+        (record {
+          allowed = record { first = rest_kept front back (tasks.Asked asked) turn c (parked_list session.parked); rest = record { first = record { up = refl; live = ap standing_so live; off = off }; rest = tt } };
+          leads_there = refl;
+        })
+
+    other_leave : (c : ℕ) → (c == asked.client) ≡ false → Goes c x w s left_rows left_master (sent left_answers)
+    other_leave c other =
+        let p : UpParts = record (here c x w s) { pending = touching x (front ++ back) } in
+        let q : UpParts = record p { starts = starts_of c (front ++ back) } in
+        goes c x w s left_rows left_master (sent left_answers) (KeepReceipts (own_parked front back (tasks.Asked asked) turn c ++ starts_of c (front ++ back)) ∷ []) p q
+        (record { present = refl; session = refl; epoch = refl; lease = refl; recovering = refl; seen = refl; starts = refl; heard = refl; right = refl; pending = pending_stays front back (tasks.Asked asked) turn leave_touches; beats = refl; offers = refl; grants = refl })
+        (behind c left_rows left_master (sent left_answers) q
+        (ap (λ m. view_at m x) left_is.beside.map)
+        (standing_by c left_rows (insert_entry nat_cmp w.rows.sessions asked.client left_row) left_is.sessions ∙ ap standing_of (lookup_put_apart asked.client c (is_other c asked.client other) w.rows.sessions left_row))
+        left_is.beside.epoch
+        left_is.beside.secret
+        left_lease
+        refl
+        (told_seen (with_session s.sessions asked.client of_session.ended) (kept_puts left_answers) c ∙ ap seen_of (other_session s.sessions asked.client of_session.ended c (is_other c asked.client other)))
+        refl refl
+        (right_of_another asked.client c x s.rights knows.recorded endings.Leave (turned c asked.client other))
+        refl refl (silent_leave c).offers (silent_leave c).grants)
+        (record { allowed = record { first = rest_kept front back (tasks.Asked asked) turn c (own_parked front back (tasks.Asked asked) turn c); rest = tt }; leads_there = refl })
 
   -- ---- a node goes by itself
 
@@ -742,55 +854,59 @@ module _ (x : List ℕ) (w : WorldState) (s : MasterState) (knows : IsKnown w s)
         touched_is front back (tasks.Asked asked) turn ∙ ap (λ z. names_touched s.secret (tasks.Asked (record asked { work = z }))) work ∙ named ∙ ap (λ nodes. touched nodes change.change) knows.nodes in
         mapped_rows_of front back (tasks.Asked asked) turn c change (untouched front back (tasks.Asked asked) turn change.change touches_it)
 
-  sweep_by : (c : ℕ) (case : SweepCase s) → Goes c x w s (changed_rows w.rows (swept_edits s case)) (swept_by s case).0 (swept_by s case).1.outs
-  sweep_by c (Quiet none) = unseen_behind c w.rows s [] same_rows refl refl refl refl refl refl refl refl
-  sweep_by c (Recovers recovering heard) = recovers c (session_of s c) refl heard
-  sweep_by c (Expires client session due) = by_test (c == client)
+  sweep_by : LeavesOff x w s → (c : ℕ) (case : SweepCase s) → Goes c x w s (changed_rows w.rows (swept_edits s case)) (swept_by s case).0 (swept_by s case).1.outs
+  sweep_by off c (Quiet none) = unseen_behind c w.rows s [] same_rows refl refl refl refl refl refl refl refl
+  sweep_by off c (Recovers recovering heard) = recovers c (session_of s c) refl heard
+  sweep_by off c (Expires client session due) = by_test (c == client)
       (λ own. subst (λ (z : ℕ). Goes z x w s (ended_rows client session due) (without_session client session due) (sent (answers client session due))) (sym (is_same c client own)) (own_expiry client session due))
       (λ other. other_expiry client session due c other)
-  sweep_by c (Reopens instance due) = reopens c instance
-  sweep_by c (Tidies idle due) = tidy_asks c x w s knows idle (is_serving s.recovering (nat_le (s.serving_from + spared_for) s.clock) (is_ok (push_answer s.gate)) _ idle due.first_idle)
-  sweep_by c (Spared front back idle turn held) = spared front back idle turn c
-  sweep_by c (Tidied front back idle turn still) = tidied_so front back idle turn c
-  sweep_by c (AnswersBeat client session beat due) = by_test (c == client)
+  sweep_by off c (Reopens instance due) = reopens c instance
+  sweep_by off c (Tidies idle due) = tidy_asks c x w s knows idle (is_serving s.recovering (nat_le (s.serving_from + spared_for) s.clock) (is_ok (push_answer s.gate)) _ idle due.first_idle)
+  sweep_by off c (Spared front back idle turn held) = spared front back idle turn c
+  sweep_by off c (Tidied front back idle turn still) = tidied_so front back idle turn c
+  sweep_by off c (AnswersBeat client session beat due) = by_test (c == client)
       (λ own. subst (λ (z : ℕ). Goes z x w s w.rows (answers_beat client session beat due) (alive client session beat due)) (sym (is_same c client own)) (own_answer client session beat due))
       (λ other. other_answer client session beat due c other)
-  sweep_by c (TurnedAway front back asked principal received turn work may) =
+  sweep_by off c (TurnedAway front back asked principal received turn work may) =
       leaves front back (tasks.Asked asked) turn c w.rows (rest s front back) (turned_away s asked.client asked.number faults.NoSession).outs (plain_rest front back (tasks.Asked asked) turn c (turned_away s asked.client asked.number faults.NoSession).outs (record { offers = refl; grants = refl }))
-  sweep_by c (StartedAgain front back asked principal received session turn work found live) = by_test (c == asked.client)
+  sweep_by off c (StartedAgain front back asked principal received session turn work found live) = by_test (c == asked.client)
       (λ own. subst (λ (z : ℕ). Goes z x w s w.rows (again front back asked turn principal received work) (granted front back asked turn principal received work)) (sym (is_same c asked.client own)) (own_again front back asked turn principal received work session found live))
       (λ other. other_again front back asked turn principal received work c other)
-  sweep_by c (Started front back asked principal received turn work none) = by_test (c == asked.client)
+  sweep_by off c (Started front back asked principal received turn work none) = by_test (c == asked.client)
       (λ own. subst (λ (z : ℕ). Goes z x w s (begun_rows front back asked turn principal received work) (begun front back asked turn principal received work) (granted front back asked turn principal received work)) (sym (is_same c asked.client own)) (own_begin front back asked turn principal received work none))
       (λ other. other_begin front back asked turn principal received work c other)
-  sweep_by c (OfEnded front back asked call sequencer turn work gone) = leaves front back (tasks.Asked asked) turn c w.rows (rest s front back) [] (plain_rest front back (tasks.Asked asked) turn c [] (nothing_sent c))
-  sweep_by c (Ended front back asked call sequencer note answer turn work live made) = replies front back asked turn c w.rows (rest s front back) note answer [] (plain_rows front back (tasks.Asked asked) turn c) tt refl refl refl refl s.epoch
-  sweep_by c (Applied front back asked call sequencer note change answer turn work live made) =
+  sweep_by off c (OfEnded front back asked call sequencer turn work gone) = leaves front back (tasks.Asked asked) turn c w.rows (rest s front back) [] (plain_rest front back (tasks.Asked asked) turn c [] (nothing_sent c))
+  sweep_by off c (Departed front back asked call sequencer session turn work leave found live) = by_test (c == asked.client)
+      (λ own. subst (λ (z : ℕ). Goes z x w s (left_rows front back asked turn call sequencer session work leave found live) (left_master front back asked turn call sequencer session work leave found live) (sent (left_answers front back asked turn call sequencer session work leave found live))) (sym (is_same c asked.client own))
+      (own_leave front back asked turn call sequencer session work leave found live (off front back asked call sequencer turn work leave)))
+      (λ other. other_leave front back asked turn call sequencer session work leave found live c other)
+  sweep_by off c (Ended front back asked call sequencer note answer turn work live made) = replies front back asked turn c w.rows (rest s front back) note answer [] (plain_rows front back (tasks.Asked asked) turn c) tt refl refl refl refl s.epoch
+  sweep_by off c (Applied front back asked call sequencer note change answer turn work live made) =
       replies front back asked turn c (changed_rows w.rows (edit_of change.change ∷ NextInstance change.next_instance ∷ [])) (mapped (rest s front back) change) note answer []
       (changed_rows_of front back asked turn c call sequencer change work (ap (λ e. e.change) made)) tt refl refl refl refl s.epoch
-  sweep_by c (Deleted front back asked call sequencer change instance waiters answer turn work live made) =
+  sweep_by off c (Deleted front back asked call sequencer change instance waiters answer turn work live made) =
       replies front back asked turn c (changed_rows w.rows (edit_of change.change ∷ NextInstance change.next_instance ∷ [])) (mapped (rest s front back) change) None answer (replies_to s (results.Refused faults.StaleInstance) waiters)
       (changed_rows_of front back asked turn c call sequencer change work (ap (λ e. e.change) made)) (waiters_unstamped s (results.Refused faults.StaleInstance) waiters) refl refl refl refl s.epoch
-  sweep_by c (Locked front back asked call sequencer put claim answer turn work live made) =
+  sweep_by off c (Locked front back asked call sequencer put claim answer turn work live made) =
       replies front back asked turn c (changed_rows w.rows (relocking s (put ∷ []))) (with_locks (rest s front back) (put ∷ [])) None answer [] (relocked_rows_of front back (tasks.Asked asked) turn c (put ∷ [])) tt refl refl refl refl s.epoch
-  sweep_by c (Awaited front back asked call sequencer put turn work live made) = awaits front back (tasks.Asked asked) turn c (put ∷ [])
-  sweep_by c (Left front back asked call sequencer note leave answer turn work live made) =
+  sweep_by off c (Awaited front back asked call sequencer put turn work live made) = awaits front back (tasks.Asked asked) turn c (put ∷ [])
+  sweep_by off c (Left front back asked call sequencer note leave answer turn work live made) =
       replies front back asked turn c (changed_rows w.rows (relocking s (left_put leave ∷ []))) (with_locks (rest s front back) (left_put leave ∷ [])) note answer (turn_replies s leave.turn)
       (relocked_rows_of front back (tasks.Asked asked) turn c (left_put leave ∷ [])) (application_unstamped s leave.turn) refl refl refl refl s.epoch
 
 -- the world behind the sweep
-abbrev pub behind_sweep : (w : WorldState) (s : MasterState) → SweepCase (noted s w.clock) → WorldState
-behind_sweep w s case = record w {
+abbrev pub behind_sweep : (w : WorldState) (s : MasterState) → SweepCase (noted s w.clock) → Action → WorldState
+behind_sweep w s case action = record w {
   rows = changed_rows w.rows (swept_edits (noted s w.clock) case);
-  master = Some (swept_master (noted s w.clock) case);
+  master = Some (swept_master (noted s w.clock) case action);
   messages = w.messages ++ map ToClient (swept_by (noted s w.clock) case).1.outs;
 }
 
-module _ (c : ℕ) (x : List ℕ) (w : WorldState) (s : MasterState) (case : SweepCase (noted s w.clock)) where
-  pub sweep_leads : w.master ≡ Some s → s.clock ≤ w.clock → IsKept w.cell w.rows s → LeadsTo c x w (behind_sweep w s case)
-  sweep_leads up early kept =
-      let led = told_goes c x w (noted s w.clock) (changed_rows w.rows (swept_edits (noted s w.clock) case)) (swept_by (noted s w.clock) case).0 (swept_by (noted s w.clock) case).1.outs (first_tellings (noted s w.clock)) (sweep_by x w (noted s w.clock) (known w s kept early) c case) in
-      (led.0, with_master c x w s led.0 (slice c x (behind_sweep w s case)) up led.1)
+module _ (c : ℕ) (x : List ℕ) (w : WorldState) (s : MasterState) (case : SweepCase (noted s w.clock)) (action : Action) where
+  pub sweep_leads : w.master ≡ Some s → s.clock ≤ w.clock → IsKept w.cell w.rows s → LeavesOff x w (noted s w.clock) → LeadsTo c x w (behind_sweep w s case action)
+  sweep_leads up early kept off =
+      let led = told_goes c x w (noted s w.clock) (changed_rows w.rows (swept_edits (noted s w.clock) case)) (swept_by (noted s w.clock) case).0 (swept_by (noted s w.clock) case).1.outs (action_tellings (noted s w.clock) action) (sweep_by x w (noted s w.clock) (known w s kept early) off c case) in
+      (led.0, with_master c x w s led.0 (slice c x (behind_sweep w s case action)) up led.1)
 
-  pub reached_stays_at_sweep : w.master ≡ Some s → s.clock ≤ w.clock → IsKept w.cell w.rows s → Reached (slice c x w) → Reached (slice c x (behind_sweep w s case))
-  reached_stays_at_sweep up early kept reached = reached_stays c x w (behind_sweep w s case) (sweep_leads up early kept) reached
+  pub reached_stays_at_sweep : w.master ≡ Some s → s.clock ≤ w.clock → IsKept w.cell w.rows s → LeavesOff x w (noted s w.clock) → Reached (slice c x w) → Reached (slice c x (behind_sweep w s case action))
+  reached_stays_at_sweep up early kept off reached = reached_stays c x w (behind_sweep w s case action) (sweep_leads up early kept off) reached

@@ -35,7 +35,7 @@ use Rattle.cell_core.specs.declared.asking.Touched.{Touched}
 use Rattle.cell_core.specs.Step.{replied, granting, queued, waits, parked, is_cachable}
 use Rattle.cell_core.specs.Names.{name_asked, shown_by}
 use Rattle.cell_core.specs.Cases.{IsHeard, IsGranted, TakeCase, taken_by}
-use Rattle.cell_core.specs.Cases.TakeCase.{StartQueued, BeatParked, Repeated, Recovering, Answered, Granted, Waits}
+use Rattle.cell_core.specs.Cases.TakeCase.{StartQueued, BeatParked, LeftBefore, Repeated, Recovering, Answered, Granted, Waits}
 use Rattle.cell_core.proofs.Told.{told_is_shown}
 use Rattle.over_core.specs.Kept.{IsKept}
 use Rattle.world_core.specs.Messages.{request_at, call_of}
@@ -303,6 +303,7 @@ module _ (c : ℕ) (x : List ℕ) (w : WorldState) (s : MasterState) (knows : Is
       start_comes x w s knows start c (beat_sent start.client w.messages at (requests.Start start) (start_beat x w s knows start) (sent ∙ ap (λ r. Some r) is) (λ beats. first_in (start.client == start.client) (start_beat x w s knows start) beats (same_test start.client start.client refl)))
   take_by at request (BeatParked beat is same taken) sent =
       beat_comes x w s knows beat c (beat_sent beat.client w.messages at (requests.Beat beat) (as_beat x w s knows beat) (sent ∙ ap (λ r. Some r) is) (λ beats. first_in (beat.client == beat.client) (as_beat x w s knows beat) beats (same_test beat.client beat.client refl))) same taken
+  take_by at request (LeftBefore message kept request_is same_epoch ended is same) sent = repeats message.client kept kept.reply is refl
   take_by at request (Repeated message kept heard is same) sent = repeats message.client kept kept.reply is refl
   take_by at request (Recovering message new recovering) sent = replies None message.client message.number (results.Refused faults.Recovering)
   take_by at request (Answered message note answer new serving answered) sent = replies note message.client message.number answer

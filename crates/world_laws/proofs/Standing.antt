@@ -56,7 +56,7 @@ use Rattle.over_core.specs.Kept.{IsKept}
 use Rattle.cell_core.specs.ChangeNotices.{above, put_notices, gone_notices, mod_notices, change_notices, lock_notices, locks_notices, contest_notices}
 use Rattle.over_core.specs.Plans.{notices_of, tellings_of}
 use Rattle.over_core.specs.SweepCase.{SweepCase, swept_by, swept_edits, gone_change}
-use Rattle.over_core.specs.SweepCase.SweepCase.{Quiet, Recovers, Expires, Reopens, Tidies, Spared, Tidied, AnswersBeat, TurnedAway, StartedAgain, Started, OfEnded, Ended, Applied, Deleted, Locked, Awaited, Left}
+use Rattle.over_core.specs.SweepCase.SweepCase.{Quiet, Recovers, Expires, Reopens, Tidies, Spared, Tidied, AnswersBeat, TurnedAway, StartedAgain, Started, OfEnded, Ended, Applied, Deleted, Locked, Awaited, Left, Departed}
 use Rattle.world_laws.specs.Contents.{IsNoOlder, Stands, IsTrue}
 use Rattle.world_laws.proofs.EffectContents.{IsRenewed, Renews, IsFaithful, effect_faithful}
 use Rattle.world_laws.proofs.EffectInstances.{GivesBy, effect_gives}
@@ -205,6 +205,7 @@ module _ (cell : List ℕ) (rows : Rows) (s : MasterState) (k : IsKept cell rows
   case_stands (Quiet none) = same_stands (Quiet none) refl refl
   case_stands (Recovers recovering heard) = same_stands (Recovers recovering heard) refl refl
   case_stands (Expires client session due) = same_stands (Expires client session due) refl refl
+  case_stands (Departed front back asked call sequencer session turn work leave found live) = same_stands (Departed front back asked call sequencer session turn work leave found live) refl refl
   case_stands (Reopens at due) = same_stands (Reopens at due) refl refl
   case_stands (Tidies idle due) =
       let only = asks_only (with_parent idle.name) (queued s (with_parent idle.name) (tasks.Tidies idle)) in

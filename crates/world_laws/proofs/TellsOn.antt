@@ -29,10 +29,10 @@ use Rattle.over_core.specs.Kept.{IsKept}
 use Rattle.over_core.specs.declared.actions.Action.{Action}
 use Rattle.over_core.specs.declared.actions.Action.TheVariants.{Tidy}
 use Rattle.over_core.specs.Sweep.{acted}
-use Rattle.over_core.specs.Plans.{first_action, plan_of}
+use Rattle.over_core.specs.Plans.{plan_of}
 use Rattle.over_core.specs.SweepCase.{swept_by, swept_edits}
 use Rattle.over_core.proofs.KeptBySweeps.{case_kept}
-use Rattle.over_core.proofs.SweepCases.{first_tellings}
+use Rattle.over_core.proofs.SweepCases.{action_tellings}
 use Rattle.world_core.specs.declared.mail.Message.{Message}
 use Rattle.world_core.specs.declared.mail.Message.TheVariants.{ToMaster, ToClient}
 use Rattle.world_core.specs.declared.steps.Step.{Step}
@@ -92,7 +92,7 @@ module _ (R : Reply → Type 0) (E : Event → Type 0) where
   -- what shows a node of the master's map, and what clients are told by a sweep
   pub record IsFed (old : WorldState) (step : Step) (new : WorldState) (printed : List Line) : Type 0 where
     pub shows : (s : MasterState) → old.master ≡ Some s → Shows R E s
-    pub tells : (t : IsSweep old step new printed) → AllByRecursion (λ (telling : Telling). E telling.event) (first_tellings (noted t.master old.clock))
+    pub tells : (t : IsSweep old step new printed) → AllByRecursion (λ (telling : Telling). E telling.event) (action_tellings (noted t.master old.clock) t.action)
     pub lost : E events.Lost
     pub up : E events.FailOver
 
@@ -115,7 +115,7 @@ module _ (R : Reply → Type 0) (E : Event → Type 0) where
       let more = swept_outs_hold R E s t.case (fed.shows t.master t.is_up) kept in
       subst IsCarried (sym t.is) (record {
         sent = more_sent old.messages (swept_by s t.case).1.outs h.sent more;
-        master = tellings_hold R E (swept_by s t.case).0.sessions (first_tellings s) (swept_hold R E s t.case kept more) (fed.tells t);
+        master = tellings_hold R E (swept_by s t.case).0.sessions (action_tellings s t.action) (swept_hold R E s t.case kept more) (fed.tells t);
       })
   case_carries old step new printed fed h (GoesDown d) = subst IsCarried (sym d.is) (record { sent = h.sent; master = tt })
   case_carries old step new printed fed h (CutsSweep k) = subst IsCarried (sym k.is) (record { sent = h.sent; master = tt })
@@ -160,15 +160,15 @@ acted_nodes : (s : MasterState) (action : Action) → (acted s action).0.nodes �
 acted_nodes s (Tidy idle) = ap (λ (t : MasterState). t.nodes) (asks_only (with_parent idle.name) (queued s (with_parent idle.name) (tasks.Tidies idle)))
 acted_nodes s _ = refl
 
-swept_true : (old : WorldState) (step : Step) (new : WorldState) (printed : List Line) → Agrees old old.master → (t : IsSweep old step new printed) → AllByRecursion (λ (telling : Telling). IsTrue new.rows telling.event) (first_tellings (noted t.master old.clock))
+swept_true : (old : WorldState) (step : Step) (new : WorldState) (printed : List Line) → Agrees old old.master → (t : IsSweep old step new printed) → AllByRecursion (λ (telling : Telling). IsTrue new.rows telling.event) (action_tellings (noted t.master old.clock) t.action)
 swept_true old step new printed agrees t =
     let s : MasterState = noted t.master old.clock in
     let k : IsKept old.cell old.rows s = noted_kept old.cell old.rows t.master old.clock (agrees_at old old.master t.master t.is_up agrees) in
     let l = case_kept old.cell old.rows s t.case k in
     let rows : Rows = changed_rows old.rows (swept_edits s t.case) in
-    let P : Rows → Type 0 = λ r. AllByRecursion (λ (telling : Telling). IsTrue r telling.event) (first_tellings s) in
-    subst P (sym (ap (λ (w : WorldState). w.rows) t.is)) (tellings_true rows s (plan_of s (first_action s)) (λ name view found.
-    present_stands old.cell rows name view l.sound_rows (ap (λ (ns : Nodes). get_node ns name) (sym l.nodes ∙ t.acts ∙ acted_nodes s (first_action s)) ∙ found)))
+    let P : Rows → Type 0 = λ r. AllByRecursion (λ (telling : Telling). IsTrue r telling.event) (action_tellings s t.action) in
+    subst P (sym (ap (λ (w : WorldState). w.rows) t.is)) (tellings_true rows s (plan_of s t.action) (λ name view found.
+    present_stands old.cell rows name view l.sound_rows (ap (λ (ns : Nodes). get_node ns name) (sym l.nodes ∙ t.acts ∙ acted_nodes s t.action) ∙ found)))
 
 -- ---- both
 

@@ -26,7 +26,7 @@ use Rattle.session_core.specs.declared.records.Session.{Session}
 use Rattle.cell_parts.specs.declared.notices.Telling.{Telling}
 use Rattle.cell_state.specs.State.{MasterState}
 use Rattle.cell_state.specs.Lookups.{session_of, kept_of, noted}
-use Rattle.over_core.proofs.SweepCases.{first_tellings}
+use Rattle.over_core.proofs.SweepCases.{action_tellings}
 use Rattle.world_core.specs.declared.members.WorldClient.{WorldClient}
 use Rattle.world_core.specs.declared.steps.Step.{Step}
 use Rattle.world_core.specs.Messages.{out_at, call_of}
@@ -179,7 +179,7 @@ module _ (client calls instance generation : ℕ) where
   case_follows old step new printed agrees stands case h =
       case_carries Follows NoEvent old step new printed (record {
         shows = λ s up reply shown own above. result_stands old.rows s.nodes instance generation reply.result stands (agrees_at old old.master s up agrees).nodes shown;
-        tells = λ t. tellings_silent (first_tellings (noted t.master old.clock));
+        tells = λ t. tellings_silent (action_tellings (noted t.master old.clock) t.action);
         lost = tt;
         up = tt;
       }) h case

@@ -26,11 +26,11 @@ use Rattle.cell_core.specs.Step.{take_step, is_past_end}
 use Rattle.cell_state.specs.Lookups.{is_spent, noted}
 use Rattle.cell_core.specs.Effect.{is_last}
 use Rattle.over_core.specs.Plans.{first_action}
-use Rattle.over_core.specs.Sweep.{acted, telling, is_over, sweep_step, sweep_edits}
+use Rattle.over_core.specs.Sweep.{acted, telling, is_over, sweep_step, sweep_edits, beats_action, beats_step}
 use Rattle.cell_core.specs.Cases.{TakeCase, taken_by}
 use Rattle.over_core.specs.SweepCase.{SweepCase, swept_by, swept_edits}
 use Rattle.cell_core.proofs.TakeCases.{taken_case, taken_unspent}
-use Rattle.over_core.proofs.SweepCases.{first_tellings, swept_case, does_first}
+use Rattle.over_core.proofs.SweepCases.{first_tellings, swept_case, does_first, action_tellings, answered_case}
 use Rattle.over_core.specs.Kept.{IsKept}
 use Rattle.over_core.specs.Up.{up_step, up_edits, master_by}
 use Rattle.client_core.specs.declared.parts.asks.Ask.{Ask}
@@ -49,7 +49,8 @@ use Rattle.world_core.specs.declared.mail.Message.TheVariants.{ToClient}
 use Rattle.world_core.specs.declared.members.WorldClient.{WorldClient}
 use Rattle.world_core.specs.Members.{new_member, each_member, at_up}
 use Rattle.world_core.specs.Messages.{request_at, out_at}
-use Rattle.world_core.specs.World.{Agrees, WorldState, Outcome, world_step, world_up, came_up, member_of, asked, beaten, took, world_take, world_give, gave, given_to, swept, world_sweep, without_quiet, without_master, world_down, is_of_commit, cut_sweep, world_cut_sweep, cut_up, world_cut_up, moves_nobody, are_joined, are_fair, goes_past_end, ticked}
+use Rattle.world_core.specs.World.{Agrees, WorldState, Outcome, world_step, world_up, came_up, member_of, asked, beaten, took, world_take, world_give, gave, given_to, swept, world_sweep, without_quiet, without_master, world_down, is_of_commit, cut_sweep, world_cut_sweep, cut_up, world_cut_up, moves_nobody, are_joined, are_fair, goes_past_end, ticked, world_beats, answered}
+use Rattle.over_core.specs.declared.actions.Action.{Action}
 
 -- ---- the rows
 
@@ -130,19 +131,23 @@ pub record IsTake (old : WorldState) (step : Step) (new : WorldState) (printed :
   pub tells : printed ≡ (taken_by (noted master old.clock) request case).1.lines
 
 -- the master behind the sweep: the clients of handles are told of it last
-abbrev pub swept_master : (s : MasterState) → SweepCase s → MasterState
-swept_master s case = with_tellings (swept_by s case).0 (first_tellings s)
+abbrev pub swept_master : (s : MasterState) → SweepCase s → Action → MasterState
+swept_master s case action = with_tellings (swept_by s case).0 (action_tellings s action)
 
+-- a sweep, or a Beat that is answered and nothing else
 pub record IsSweep (old : WorldState) (step : Step) (new : WorldState) (printed : List Line) : Type 0 where
-  pub is_step : step ≡ steps.Sweep
+  pub is_step : (step ≡ steps.Sweep) ⊎ (step ≡ steps.Beats)
   pub master : MasterState
   pub is_up : old.master ≡ Some master
   pub case : SweepCase (noted master old.clock)
+  pub action : Action
+  -- that of a Beat alone prints nothing
+  pub silent : step ≡ steps.Beats → (swept_by (noted master old.clock) case).1.lines ≡ []
   -- the map behind it is that of what was planned
-  pub acts : (swept_by (noted master old.clock) case).0.nodes ≡ (acted (noted master old.clock) (first_action (noted master old.clock))).0.nodes
+  pub acts : (swept_by (noted master old.clock) case).0.nodes ≡ (acted (noted master old.clock) action).0.nodes
   pub is : new ≡ record old {
     rows = changed_rows old.rows (swept_edits (noted master old.clock) case);
-    master = Some (swept_master (noted master old.clock) case);
+    master = Some (swept_master (noted master old.clock) case action);
     messages = old.messages ++ map ToClient (swept_by (noted master old.clock) case).1.outs;
   }
   pub tells : printed ≡ (swept_by (noted master old.clock) case).1.lines
@@ -326,19 +331,47 @@ module _ (w : WorldState) (step : Step) (new : WorldState) (printed : List Line)
       let made : p ≡ telling (first_tellings (noted master w.clock)) (swept_by (noted master w.clock) t.0) = t.1 in
       let q = ok_pair (record w { rows = changed_rows w.rows (sweep_edits master w.clock); master = Some p.0; messages = w.messages ++ map ToClient p.1.outs }, p.1.lines) new printed h in
       record {
-        is_step = is;
+        is_step = inl is;
         master = master;
         is_up = up;
         case = t.0;
+        action = first_action (noted master w.clock);
+        silent = λ beats. let two : steps.Sweep ≡ steps.Beats = sym is ∙ beats in cc;
         acts = ap (λ (x : MasterState × Swept). x.0.nodes) (sym made ∙ swept_is master w.clock p step_is);
         is = sym q.0 ∙ ap (λ (x : MasterState × Swept). record w { rows = changed_rows w.rows (sweep_edits master w.clock); master = Some x.0; messages = w.messages ++ map ToClient x.1.outs }) made
-            ∙ ap (λ (e : List Edit). record w { rows = changed_rows w.rows e; master = Some (swept_master (noted master w.clock) t.0); messages = w.messages ++ map ToClient (swept_by (noted master w.clock) t.0).1.outs }) t.2;
+            ∙ ap (λ (e : List Edit). record w { rows = changed_rows w.rows e; master = Some (swept_master (noted master w.clock) t.0 (first_action (noted master w.clock))); messages = w.messages ++ map ToClient (swept_by (noted master w.clock) t.0).1.outs }) t.2;
         tells = sym q.1 ∙ ap (λ (x : MasterState × Swept). x.1.lines) made;
       }
 
   sweep_row : (m : Option MasterState) → Agrees w w.master → step ≡ steps.Sweep → w.master ≡ m → without_quiet (world_sweep w m) ≡ Ok (new, printed) → WorldCase w step new printed
   sweep_row None agrees is up h = cc
   sweep_row (Some master) agrees is up h = Sweeps (swept_row master (sweep_step master w.clock) agrees is up refl h)
+
+  -- ---- it answers a Beat
+
+  answered_row : (master : MasterState) (r : Result (MasterState × Swept) Fault) → Agrees w w.master → step ≡ steps.Beats → w.master ≡ Some master → beats_step master w.clock ≡ r → answered w r ≡ Ok (new, printed) → WorldCase w step new printed
+  answered_row master (Err fault) agrees is up step_is h = cc
+  answered_row master (Ok p) agrees is up step_is h =
+      let there = noted master w.clock in
+      let t = answered_case master p.0 w.clock p.1 (in_order w w.master master up agrees) (kept_at w w.master master up agrees).orderly step_is in
+      let made : p ≡ telling (action_tellings there (beats_action there)) (swept_by there t.0) = t.1 in
+      let q = ok_pair (record w { master = Some p.0; messages = w.messages ++ map ToClient p.1.outs }, p.1.lines) new printed h in
+      Sweeps (record {
+        is_step = inr is;
+        master = master;
+        is_up = up;
+        case = t.0;
+        action = beats_action there;
+        silent = λ beats. t.4;
+        acts = t.3;
+        is = sym q.0 ∙ ap (λ (x : MasterState × Swept). record w { master = Some x.0; messages = w.messages ++ map ToClient x.1.outs }) made
+            ∙ ap (λ (e : List Edit). record w { rows = changed_rows w.rows e; master = Some (swept_master there t.0 (beats_action there)); messages = w.messages ++ map ToClient (swept_by there t.0).1.outs }) t.2;
+        tells = sym q.1 ∙ ap (λ (x : MasterState × Swept). x.1.lines) made;
+      })
+
+  beats_row : (m : Option MasterState) → Agrees w w.master → step ≡ steps.Beats → w.master ≡ m → world_beats w m ≡ Ok (new, printed) → WorldCase w step new printed
+  beats_row None agrees is up h = cc
+  beats_row (Some master) agrees is up h = answered_row master (beats_step master w.clock) agrees is up refl h
 
   -- ---- the master goes down
 
@@ -395,6 +428,7 @@ world_case w (steps.Tick ticks) new printed agrees h =
 world_case w (steps.Take at) new printed agrees h = take_row w (steps.Take at) new printed at w.master refl refl h
 world_case w (steps.Give at) new printed agrees h = give_row w (steps.Give at) new printed at (out_at w.messages at) refl refl h
 world_case w steps.Sweep new printed agrees h = sweep_row w steps.Sweep new printed w.master agrees refl refl h
+world_case w steps.Beats new printed agrees h = beats_row w steps.Beats new printed w.master agrees refl refl h
 world_case w steps.Down new printed agrees h = down_row w steps.Down new printed w.master (inl refl) refl h
 world_case w (steps.CutSweep commit) new printed agrees h = cut_commit_row w (steps.CutSweep commit) new printed commit agrees refl h
 world_case w (steps.CutUp now commit) new printed agrees h = cut_up_row w (steps.CutUp now commit) new printed now commit w.master refl refl h

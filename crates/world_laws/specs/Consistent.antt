@@ -32,7 +32,7 @@ use Rattle.client_core.specs.declared.parts.targets.Outstanding.{Outstanding}
 use Rattle.client_core.specs.declared.parts.targets.Target.TheVariants as targets
 use Rattle.client_core.specs.Calls.{call_on}
 use Rattle.client_core.specs.Handles.{handle_of}
-use Rattle.client_core.specs.State.{ClientState}
+use Rattle.client_core.specs.State.{ClientState, IsOff}
 use Rattle.gate_core.specs.declared.pending.Waiting.{Waiting}
 use Rattle.lock_core.specs.Turns.{is_of_client, any_waits}
 use Rattle.lock_core.specs.Locks.{LockTable}
@@ -50,6 +50,7 @@ use Rattle.world_core.specs.Members.{is_fair}
 use Rattle.world_core.specs.World.{WorldState, member_of, Agrees}
 use Rattle.world_laws.specs.Slices.{Shown, grant_of, grants_of, slice}
 use Rattle.world_laws.specs.Contents.{TellsTrue}
+use Rattle.tags_cell.specs.Messages.{is_leave}
 
 -- ---- clients
 
@@ -89,6 +90,7 @@ pub record Holds (sent : List Message) (s : ClientState) : Type 0 where
   pub handles : AreHandles s.opened s.handles
   pub kept : AllByRecursion IsSharedByName s.kept
   pub asked : (call : Outstanding) → s.outstanding ≡ Some call → HasAsked sent s call
+  pub off : IsOff s
 
 -- ---- messages
 
@@ -98,6 +100,8 @@ pub record HasSent (w : WorldState) (client number : ℕ) (call : CallMessage) :
   pub joined : member_of w client ≡ Some member
   pub within : number ≤ member.client.calls
   pub past : call.epoch ≤ w.rows.epoch
+  -- one that asked for the end of its session serves nothing any more
+  pub leaves : is_leave call.call ≡ true → member.client.leaving ≡ true
 
 -- ---- the master
 

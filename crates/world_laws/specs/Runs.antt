@@ -99,9 +99,9 @@ pub record HasSession (w : WorldState) (number : ℕ) : Type 0 where
   pub live : is_live_in w.rows number ≡ true
   pub in_time : (master : MasterState) (session : Session Reply) → w.master ≡ Some master → session_of master number ≡ Some session → w.clock < session.timeout
 
--- a client whose lease runs by its own clock has its session
+-- a client whose lease runs by its own clock, and which doesn't end its session, has that
 abbrev pub LeasesKeepSessions : WorldState → Type 0
-LeasesKeepSessions w = (number : ℕ) (member : WorldClient) → member_of w number ≡ Some member → IsUnexpired (lease_of member.client.cache.lease).sent (lease_of member.client.cache.lease).span member.clock → HasSession w number
+LeasesKeepSessions w = (number : ℕ) (member : WorldClient) → member_of w number ≡ Some member → member.client.leaving ≡ false → IsUnexpired (lease_of member.client.cache.lease).sent (lease_of member.client.cache.lease).span member.clock → HasSession w number
 
 -- ---- each client and each name
 

@@ -33,6 +33,7 @@ use Rattle.cell_parts.specs.declared.pending.Work.TheVariants as works
 use Rattle.cell_state.specs.State.{MasterState}
 use Rattle.cell_state.specs.Lookups.{session_of}
 use Rattle.cell_core.specs.Names.{name_asked, shown_by}
+use Rattle.lease_core.specs.Lease.{LeaseTerms}
 use Rattle.client_core.specs.Invalidations.{last_number}
 use Rattle.cache_core.specs.Caches.{entry_of}
 use Rattle.client_core.specs.State.{lease_of}
@@ -244,18 +245,23 @@ abbrev pub master_of : ℕ → List ℕ → ℕ → Option WorldClient → Optio
 master_of client name now member None = nobody
 master_of client name now member (Some s) = master_part client name now s (seen_of (session_of s client)) (right_of client name s.rights) (clocks_of now member)
 
+-- a client that ends its session has no lease to serve under
+abbrev pub lease_shown : Bool → Option LeaseTerms → LeaseTerms
+lease_shown leaving lease = lease_of (if leaving then None else lease)
+
 -- with its cache's entry of the name
 abbrev pub client_of : List ℕ → Option WorldClient → one.Client Shown
-client_of name None = record { now = 0; newest = 0; newest_sent = 0; epoch = 0; processed = 0; lease_sent = 0; lease_span = 0; entry = None }
+client_of name None = record { now = 0; newest = 0; newest_sent = 0; epoch = 0; processed = 0; lease_sent = 0; lease_span = 0; entry = None; off = false }
 client_of name (Some member) = record {
   now = member.clock;
   newest = member.client.beats;
   newest_sent = member.client.sent;
   epoch = member.client.epoch;
   processed = member.client.processed;
-  lease_sent = (lease_of member.client.cache.lease).sent;
-  lease_span = (lease_of member.client.cache.lease).span;
+  lease_sent = (lease_shown member.client.leaving member.client.cache.lease).sent;
+  lease_span = (lease_shown member.client.leaving member.client.cache.lease).span;
   entry = entry_of member.client.cache.entries name;
+  off = member.client.leaving;
 }
 
 abbrev pub slice : ℕ → List ℕ → WorldState → Slice Shown

@@ -1,6 +1,7 @@
 //! What a client is asked for, and what comes of it.
 ghost use Rattle.std.specs.Prelude.{◌≡◌, IfOk};
 ghost use Rattle.client_core.specs.Calls.{call_on};
+ghost use Rattle.client_core.specs.Asks.{asks_to_leave};
 
 use node_core::{Answer, Fault, Line, LockMode};
 use plain::{Bytes, Items};
@@ -23,6 +24,20 @@ pub enum Ask {
     SetSequencer(u64, Bytes),
     /// CheckSequencer: whether the sequencer of these bytes is valid.
     CheckSequencer(Bytes),
+    /// The end of the session (Burrows 2006, section 2.8).
+    Leave,
+}
+
+impl Ask {
+    /// Whether the end of the session is asked for.
+    pub fn asks_to_leave(&self) -> bool
+        ensures { result ≡ asks_to_leave self.now }
+    {
+        match self {
+            Ask::Leave => true,
+            _ => false,
+        }
+    }
 }
 
 /// A call on the node of a handle (Burrows 2006, section 2.6).

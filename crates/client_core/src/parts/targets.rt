@@ -1,7 +1,7 @@
 //! The call that has no reply yet.
 ghost use Rattle.std.specs.Prelude.{◌≡◌};
 ghost use Rattle.std.specs.Option.{option_copied};
-ghost use Rattle.client_core.specs.Targets.{is_on};
+ghost use Rattle.client_core.specs.Targets.{is_on, is_leaving};
 ghost use Rattle.client_core.specs.Targets.{opening_by, sequencer_by};
 
 use plain::Bytes;
@@ -20,6 +20,8 @@ pub enum Target {
     Sequencing(u64),
     /// A CheckSequencer, which is on no handle.
     Checking,
+    /// The end of the session.
+    Leaving,
     /// A call on a handle that was poisoned since: its reply is dropped.
     Dropped,
 }
@@ -31,7 +33,21 @@ impl Target {
     {
         match self {
             Target::Handle(other) | Target::Sequencing(other) => other == number,
-            Target::NewHandle | Target::Closing(_) | Target::Checking | Target::Dropped => false,
+            Target::NewHandle
+            | Target::Closing(_)
+            | Target::Checking
+            | Target::Leaving
+            | Target::Dropped => false,
+        }
+    }
+
+    /// Whether the call ends the session.
+    pub fn is_leaving(self) -> bool
+        ensures { result ≡ is_leaving self }
+    {
+        match self {
+            Target::Leaving => true,
+            _ => false,
         }
     }
 }

@@ -176,6 +176,8 @@ pub enum Call {
     SetSequencer(HandleBytes),
     /// Whether a sequencer, by its bytes, is still valid.
     CheckSequencer(Bytes),
+    /// The client ends its session (Burrows 2006, section 2.8). It is on no handle.
+    Leave,
 }
 
 impl Clone for Call {
@@ -219,6 +221,7 @@ impl Clone for Call {
             Call::GetSequencer(handle) => Call::GetSequencer(handle.clone()?),
             Call::SetSequencer(handle) => Call::SetSequencer(handle.clone()?),
             Call::CheckSequencer(bytes) => Call::CheckSequencer(bytes.clone()?),
+            Call::Leave => Call::Leave,
         })
     }
 }

@@ -7,4 +7,4 @@ returns-in_err-open-in-open c =
     passed c.from_residual.result c.in_err-open-in-open.field-0.0 c.from_residual.ensures (open_call_part _ _ c.in-open.is) c.in_err-open-in-open.ensures
 
 pub returns-in_default : goal.returns-in_default
-returns-in_default c = other_call _ _ c.in_default.not-open c.in_default.not-close c.in_default.not-poison c.in_default.not-setseq c.in_default.not-checkseq c.handle_call.result c.handle_call.ensures
+returns-in_default c = other_call _ _ c.in_default.not-open c.in_default.not-close c.in_default.not-poison c.in_default.not-setseq c.in_default.not-checkseq c.in_default.not-leave c.handle_call.result c.handle_call.ensures
