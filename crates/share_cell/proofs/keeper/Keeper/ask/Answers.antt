@@ -30,7 +30,7 @@ invariant_of-self-2 g c =
     let below = c.if-self-ge-NUMBER_LIMIT.false in
     let free : k.published + 1 < number_end = search rules in
     let shown = k.writer.desk.shown.value.cache in let pending = drop k.writer.behind k.writer.log.items in
-    let leads = led k.client.cache c.in-Ok.ops.items c.ask.new.self c.in-Ok-ask.answer (ask_step k.client c.args.now c.args.asked.now) (c.in-Ok.ensures.ask c.args.asked.now) c.in-Ok-ask.ensures in
+    let leads = led k.client.cache c.in-Ok.ops.items c.ask.new.self c.in-Ok-ask.answer (ask_step k.client c.args.now c.args.asked.now) c.in-Ok.ensures c.in-Ok-ask.ensures in
     let bare = k.on_time c.requires.on_time in
     let rest : c.replace.new.dest ≡ c.in-Ok.ops = c.replace.ensures.after in
     let late : c.replace-2.new.dest ≡ Some (kepts.Asked c.in-Ok-ask.answer) = c.replace-2.ensures.after in
