@@ -1,5 +1,5 @@
 -- What the tests of a call tell of names.
-use Rattle.std.proofs.Common.{◌≡◌, ℕ, List, Bool, true, false, cond, Option, Some, None, Result, Ok, Err, refl, sym, ap, ◌∙◌}
+use Rattle.std.proofs.Common.{[], ◌≡◌, ℕ, List, Bool, true, false, cond, Option, Some, None, Result, Ok, Err, refl, sym, ap, ◌∙◌}
 use Rattle.std.specs.Prelude.{◌==◌, ◌&&◌, is_none, nat_lt, length}
 use Rattle.std.specs.Option.{option_map, option_map_or, option_and_then}
 use Rattle.node_core.specs.declared.refusals.Fault.{Fault}
