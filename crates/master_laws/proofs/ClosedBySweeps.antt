@@ -34,6 +34,7 @@ use Rattle.cell_state.specs.Updates.{with_note}
 use Rattle.cell_core.specs.Effect.{effect, gone_by_itself}
 use Rattle.over_core.specs.Plans.{first_action, no_plan, session_plan, started_out, alive_out, plan_session, plan_start, plan_of, plan_task, plan_work, plan_call, plan_asked, plan_effect, leaving, parting_plan, plan_parting, plan_live, plan_leave}
 use Rattle.cell_state.specs.Lapses.{lapses_of}
+use Rattle.over_core.specs.declared.swept.Swept.{Swept}
 use Rattle.over_core.specs.Sweep.{acted, swept, is_over, beats_action, beats_answered, beats_step}
 use Rattle.over_core.specs.declared.plans.Plan.{Plan}
 use Rattle.over_core.specs.declared.actions.Action.{Action}

@@ -22,6 +22,7 @@ begins w = record {
     next = member;
     there = is;
     calls = omega arith;
+    leaves = λ was. was;
     clock = omega arith;
     lead = λ same. no_more member.least_now member.least_clock;
   };
@@ -44,6 +45,7 @@ goes_on here mid later client member first past x =
       next = y.next;
       there = y.there;
       calls = omega arith;
+      leaves = λ was. y.leaves (x.leaves was);
       clock = omega arith;
       lead = λ same.
           let e = between here.rows.epoch mid.rows.epoch later.rows.epoch first.epoch past.epoch same in

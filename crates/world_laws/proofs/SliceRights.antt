@@ -74,6 +74,10 @@ yes_and false b h = cc
 abbrev ends_here : ℕ → ℕ → List ℕ → Ending → List CacheRight → Bool
 ends_here client c x ending rights = client == c && is_ended_by ending (asked_for c x rights)
 
+without_true : (b : Bool) → (b && true) ≡ false → b ≡ false
+without_true true e = e
+without_true false e = refl
+
 module _ (client c : ℕ) (x : List ℕ) (rights : List CacheRight) (recorded : IsRecorded rights) where
   given_at : (ending : Ending) → ends_here client c x ending rights ≡ false → given_back_of c x (ended client ending rights) ≡ given_back_of c x rights
   given_at (endings.Acknowledgement upto) e = acknowledgement_gives_back client upto c x rights recorded.once ∙ ap (λ b. cond b (max (given_back_of c x rights) (number_or_0 (asked_for c x rights))) (given_back_of c x rights)) e

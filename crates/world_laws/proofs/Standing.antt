@@ -260,7 +260,7 @@ rest_nodes : (s : MasterState) (o : Option SessionUpdate) → (with_session_rest
 rest_nodes s None = refl
 rest_nodes s (Some (Begins client principal)) = refl
 rest_nodes s (Some (Prolongs client)) = refl
-rest_nodes s (Some (Ends client principal)) = refl
+rest_nodes s (Some (Ends client principal parting)) = refl
 rest_nodes s (Some (Answers client)) = refl
 
 module _ (s : MasterState) (update : Update) where

@@ -1,7 +1,7 @@
 -- A step leads from a consistent world to a consistent one: by the table and the types of what it works on alone, whoever does it.
 use Rattle.std.proofs.Common.{◌≡◌, ℕ, ◌+◌, List, [], ◌∷◌, ◌++◌, Bool, true, false, Result, Ok, Err, Option, Some, None, refl, sym, ap, ◌∙◌, inl, inr, arith, subst, map}
 use Rattle.std.proofs.lemmas.Bool.Decides.{nat_tests}
-use Rattle.std.specs.Prelude.{◌-◌, ◌^◌, nat_lt}
+use Rattle.std.specs.Prelude.{◌⊎◌, ◌-◌, ◌^◌, nat_lt}
 use Rattle.std.specs.Option.{option_map_or}
 use Rattle.node_core.specs.declared.refusals.Fault.{Fault}
 use Rattle.node_core.specs.declared.refusals.Fault.TheVariants as faults
@@ -21,19 +21,19 @@ use Rattle.cell_core.specs.Step.{take_step}
 use Rattle.cell_core.specs.Effect.{is_last}
 use Rattle.over_core.specs.declared.swept.Swept.{Swept}
 use Rattle.over_core.specs.Kept.{IsKept}
-use Rattle.over_core.specs.Sweep.{sweep_step, sweep_edits}
+use Rattle.over_core.specs.Sweep.{sweep_step, sweep_edits, beats_step}
 use Rattle.over_core.specs.Up.{up_edits}
 use Rattle.over_core.proofs.KeptByUps.{up_kept}
 use Rattle.over_core.proofs.KeptByTakes.{taken_kept}
-use Rattle.over_core.proofs.KeptBySweeps.{swept_kept}
+use Rattle.over_core.proofs.KeptBySweeps.{swept_kept, beats_kept}
 use Rattle.world_core.specs.declared.steps.Step.{Step}
 use Rattle.world_core.specs.declared.steps.Step.TheVariants as steps
 use Rattle.world_core.specs.declared.mail.Message.TheVariants.{ToClient}
 use Rattle.world_core.specs.Messages.{request_at}
-use Rattle.world_core.specs.World.{WorldState, WorldView, world_step, world_take, world_sweep, took, swept, without_quiet, Agrees}
+use Rattle.world_core.specs.World.{WorldState, WorldView, world_step, world_take, world_sweep, world_beats, took, swept, answered, without_quiet, Agrees}
 use Rattle.world_core.specs.Made.{AreInOrder, IsTyped, Does}
 use Rattle.world_laws.specs.Consistent.{IsConsistent}
-use Rattle.world_laws.proofs.WorldCases.{ok_pair, step_takes, step_sweeps, IsUp, WorldCase, world_case}
+use Rattle.world_laws.proofs.WorldCases.{ok_pair, step_takes, step_sweeps, step_beats, IsUp, WorldCase, world_case}
 use Rattle.world_laws.proofs.WorldCases.WorldCase.{ComesUp, Joins, Asks, Beats, Gives, Ticks, Takes, Sweeps, GoesDown, CutsSweep, CutsUp, LosesUp}
 use Rattle.world_laws.proofs.OwnSteps.{IsOwn, asks_own, beats_own, gives_own}
 use Rattle.world_laws.proofs.ConsistentSteps.{agrees_at, step_keeps}
@@ -102,6 +102,22 @@ module _ (w new : WorldState) (printed : List Line) where
   sweep_agrees None agrees h = cc
   sweep_agrees (Some master) agrees h = swept_agrees master (sweep_step master w.clock) agrees refl h
 
+  -- ---- it answers a Beat
+
+  answered_agrees : (master : MasterState) (r : Result (MasterState × Swept) Fault) → IsKept w.cell w.rows master → beats_step master w.clock ≡ r → answered w r ≡ Ok (new, printed) → Agrees new new.master
+  answered_agrees master (Err fault) kept is h = cc
+  answered_agrees master (Ok p) kept is h =
+      let q = ok_pair (record w { master = Some p.0; messages = w.messages ++ map ToClient p.1.outs }, p.1.lines) new printed h in
+      subst (λ (v : WorldState). Agrees v v.master) q.0 (beats_kept w.cell w.rows master p.0 w.clock (Ok p.1) kept is tt)
+
+  beats_agrees : (m : Option MasterState) → Agrees w m → world_beats w m ≡ Ok (new, printed) → Agrees new new.master
+  beats_agrees None agrees h = cc
+  beats_agrees (Some master) agrees h = answered_agrees master (beats_step master w.clock) agrees refl h
+
+sweeps_agree : (old : WorldState) (step : Step) (new : WorldState) (printed : List Line) → Agrees old old.master → world_step old step ≡ Ok (new, printed) → (step ≡ steps.Sweep) ⊎ (step ≡ steps.Beats) → Agrees new new.master
+sweeps_agree old step new printed h made (inl is) = sweep_agrees old new printed old.master h (sym (step_sweeps old) ∙ subst (λ s. world_step old s ≡ Ok (new, printed)) is made)
+sweeps_agree old step new printed h made (inr is) = beats_agrees old new printed old.master h (sym (step_beats old) ∙ subst (λ s. world_step old s ≡ Ok (new, printed)) is made)
+
 -- ---- a step
 
 case_agrees : (old : WorldState) (step : Step) (new : WorldState) (printed : List Line) → Agrees old old.master → IsTyped old step → world_step old step ≡ Ok (new, printed) → WorldCase old step new printed → Agrees new new.master
@@ -117,8 +133,7 @@ case_agrees old step new printed h typed made (Ticks t) =
     agrees_like old new (ap (λ (w : WorldState). w.cell) t.is) (ap (λ (w : WorldState). w.rows) t.is) (ap (λ (w : WorldState). w.master) t.is) h
 case_agrees old step new printed h typed made (Takes t) =
     take_agrees old new printed t.at old.master h (subst (λ s. IsTyped old s) t.is_step typed) (sym (step_takes old t.at) ∙ subst (λ s. world_step old s ≡ Ok (new, printed)) t.is_step made)
-case_agrees old step new printed h typed made (Sweeps t) =
-    sweep_agrees old new printed old.master h (sym (step_sweeps old) ∙ subst (λ s. world_step old s ≡ Ok (new, printed)) t.is_step made)
+case_agrees old step new printed h typed made (Sweeps t) = sweeps_agree old step new printed h made t.is_step
 case_agrees old step new printed h typed made (GoesDown d) = none_agrees new (ap (λ (w : WorldState). w.master) d.is)
 case_agrees old step new printed h typed made (CutsSweep k) = none_agrees new (ap (λ (w : WorldState). w.master) k.is)
 case_agrees old step new printed h typed made (CutsUp k) = none_agrees new (ap (λ (w : WorldState). w.master) k.is ∙ k.comes.none)

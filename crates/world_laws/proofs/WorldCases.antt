@@ -234,6 +234,10 @@ pub step_sweeps : (w : WorldState) → world_step w steps.Sweep ≡ without_quie
 unfolding world_step
 step_sweeps w = refl
 
+pub step_beats : (w : WorldState) → world_step w steps.Beats ≡ world_beats w w.master
+unfolding world_step
+step_beats w = refl
+
 module _ (w : WorldState) (step : Step) (new : WorldState) (printed : List Line) where
   -- ---- a master comes up
 
