@@ -3,6 +3,7 @@
 #include <string.h>
 
 #include "../include/cell_client.h"
+#include "messages.h"
 
 static int wrong;
 
@@ -10,91 +11,6 @@ static void expect(const char *what, uint64_t found, uint64_t wanted) {
     if (found == wanted) return;
     fprintf(stderr, "%s: %llu, and not %llu\n", what, (unsigned long long)found, (unsigned long long)wanted);
     wrong++;
-}
-
-/* ---- bytes of messages, numbers big-endian */
-
-struct bytes {
-    uint8_t at[512];
-    size_t count;
-};
-
-static void put(struct bytes *to, uint64_t number, int count) {
-    for (int i = count; i > 0; i--) to->at[to->count++] = (uint8_t)(number >> (8 * (i - 1)));
-}
-
-static void put_text(struct bytes *to, const char *text) {
-    put(to, strlen(text), 4);
-    memcpy(to->at + to->count, text, strlen(text));
-    to->count += strlen(text);
-}
-
-/* The version, the kind, and client 1, epoch 1 and this number. */
-static struct bytes head(int kind, uint64_t number) {
-    struct bytes made = {{0}, 0};
-    put(&made, 2, 1);
-    put(&made, (uint64_t)kind, 1);
-    put(&made, 1, 8);
-    put(&made, 1, 8);
-    put(&made, number, 8);
-    return made;
-}
-
-/* A call on a handle, by its kind: the client puts what is its own. */
-static struct bytes call_on(int kind, uint64_t handle, int width) {
-    struct bytes made = head(2, 1);
-    put(&made, (uint64_t)kind, 1);
-    put(&made, (uint64_t)width, 4);
-    put(&made, handle, width);
-    return made;
-}
-
-static struct bytes open_call(const char *name) {
-    struct bytes made = head(2, 1);
-    put(&made, 0, 1);
-    put_text(&made, name);
-    put(&made, 1, 1); /* to read */
-    put(&made, 0, 1); /* makes nothing */
-    put(&made, 0, 8); /* no lock-delay */
-    put(&made, 0, 1); /* no events */
-    put(&made, 0, 1); /* no sequencer */
-    return made;
-}
-
-static struct bytes started(uint64_t number, uint64_t span) {
-    struct bytes made = head(0, number);
-    put(&made, span, 8);
-    return made;
-}
-
-/* A reply that may be kept: no invalidation was issued before. */
-static struct bytes reply(uint64_t number, int kind) {
-    struct bytes made = head(2, number);
-    put(&made, 1, 1);
-    put(&made, 0, 8);
-    put(&made, (uint64_t)kind, 1);
-    return made;
-}
-
-static struct bytes opened(uint64_t number) {
-    struct bytes made = reply(number, 0);
-    put_text(&made, "the master's handle");
-    put(&made, 4, 8); /* instance */
-    put(&made, 0, 1); /* permanent */
-    return made;
-}
-
-static struct bytes viewed(uint64_t number, const char *content) {
-    struct bytes made = reply(number, 2);
-    put(&made, 0, 1); /* a file */
-    put(&made, 4, 8);
-    put(&made, 1, 8);
-    put(&made, 1, 8);
-    for (int i = 0; i < 3; i++) put_text(&made, "base");
-    put(&made, 0, 1);
-    put_text(&made, content);
-    put(&made, 0, 4); /* no children */
-    return made;
 }
 
 /* ---- what is answered */
@@ -174,6 +90,51 @@ static void refuses(struct cell_client *client) {
     expect_message(cell_client_message, client, 25, 'n');
 }
 
+struct look {
+    const char *what;
+    uint64_t now, handle;
+    size_t room;
+    int is_served;
+};
+
+/* Hits of the content "hello" of handle 1; a small room stays as it is. */
+static void looks(struct cell_client *client, const struct look *row, size_t rows) {
+    for (; rows > 0; row++, rows--) {
+        uint8_t room[8] = "........";
+        size_t length = 9999;
+        const char *wanted = row->is_served && row->room >= 5 ? "hello..." : "........";
+        uint32_t code = cell_client_hit(client, row->now, row->handle, room, row->room, &length);
+        expect(row->what, code, row->is_served ? CELL_CLIENT_SERVED : CELL_CLIENT_DONE);
+        expect(row->what, length, row->is_served ? 5 : 9999);
+        expect(row->what, (uint64_t)memcmp(room, wanted, 8), 0);
+    }
+}
+
+#define LOOKS(client, rows) looks(client, rows, sizeof rows / sizeof *rows)
+
+static const struct look before_a_read[] = {
+    {"a hit of no handle", 1010, 1, 8, 0},
+};
+static const struct look while_cached[] = {
+    {"a hit", 1013, 1, 8, 1},
+    {"a hit of just its room", 1013, 1, 5, 1},
+    {"a hit of too little room", 1013, 1, 4, 1},
+    {"a hit of another handle", 1013, 2, 8, 0},
+    {"a hit of handle 0", 1013, 0, 8, 0},
+    {"a hit at the end of the lease", 12294, 1, 8, 0},
+    {"a hit at the last moment of all", ((uint64_t)1 << 53) - 1, 1, 8, 0},
+    {"a hit at no moment", (uint64_t)1 << 53, 1, 8, 0},
+    {"a hit at the last moment of the lease", 12293, 1, 8, 1},
+    {"a hit at a moment that is over", 0, 1, 8, 1},
+};
+static const struct look once_poisoned[] = {
+    {"a hit of a poisoned handle", 12293, 1, 8, 0},
+};
+static const struct look in_jeopardy[] = {
+    {"a hit in jeopardy", 12294, 1, 8, 0},
+    {"a hit in jeopardy, at an earlier moment", 12293, 1, 8, 0},
+};
+
 static void begins(struct cell_client *client) {
     expect("no lease", cell_client_leased_until(client), 0);
     expect_message(cell_client_message, client, 0, 0);
@@ -189,6 +150,7 @@ static void begins(struct cell_client *client) {
 static void reads(struct cell_client *client) {
     uint8_t room[8] = "........";
     size_t length = 9999;
+    LOOKS(client, before_a_read);
     expect("no such handle", cell_client_read(client, 1010, 1, room, sizeof room, &length), CELL_CLIENT_BAD_HANDLE);
     expect("an Open", ask(client, 1010, open_call("/ls/c/f")), CELL_CLIENT_SEND);
     expect_message(cell_client_message, client, 50, 0);
@@ -204,6 +166,8 @@ static void reads(struct cell_client *client) {
     expect_lines(client, "done 1 2 view file 4 1 1 base base base permanent 5 68656c6c6f\n");
     expect("its content", cell_client_content(client, room, sizeof room), 5);
     expect("its bytes", (uint64_t)memcmp(room, "hello...", 8), 0);
+    LOOKS(client, while_cached);
+    expect_lines(client, "done 1 2 view file 4 1 1 base base base permanent 5 68656c6c6f\n");
 }
 
 static void serves(struct cell_client *client) {
@@ -218,9 +182,11 @@ static void serves(struct cell_client *client) {
     expect("another read", cell_client_read(client, 12293, 1, room, 5, &length), CELL_CLIENT_SERVED);
     expect("a Poison", cell_client_poison(client, 12293, 1), CELL_CLIENT_DONE);
     expect_lines(client, "done 1 0 poisoned\n");
+    LOOKS(client, once_poisoned);
     expect("a poisoned handle", cell_client_read(client, 12293, 1, room, sizeof room, &length), CELL_CLIENT_POISONED);
     expect("behind the lease", cell_client_read(client, 12294, 1, room, sizeof room, &length), CELL_CLIENT_IN_JEOPARDY);
     expect_lines(client, "jeopardy 1\n");
+    LOOKS(client, in_jeopardy);
     expect("no content", cell_client_content(client, room, sizeof room), 0);
     expect("behind the jeopardy", cell_client_read(client, 57294, 1, room, sizeof room, &length), CELL_CLIENT_SESSION_EXPIRED);
     expect_lines(client, "lost 1\n");

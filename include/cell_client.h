@@ -110,6 +110,14 @@ uint32_t cell_client_ask(struct cell_client *client, uint64_t now, const uint8_t
  */
 uint32_t cell_client_read(struct cell_client *client, uint64_t now, uint64_t handle, uint8_t *room, size_t room_length, size_t *length);
 
+/*
+ * The content that cell_client_read would answer SERVED with now: SERVED, and `length` and the room as there. DONE where it would answer
+ * anything else: then length and room are as they were, and cell_client_read tells what to do. No step: nothing changes, no time is
+ * noted, and the message, the lines and the content of the last step stay. So where the room was too small the same call again, with
+ * `length` bytes of room, has it. It takes no memory; it costs a look-up of the handle, one of its name, and the copy.
+ */
+uint32_t cell_client_hit(struct cell_client *client, uint64_t now, uint64_t handle, uint8_t *room, size_t room_length, size_t *length);
+
 /* Poisons this handle: each later call on it but a Close is POISONED. DONE, or a refusal. */
 uint32_t cell_client_poison(struct cell_client *client, uint64_t now, uint64_t handle);
 

@@ -5,4 +5,6 @@ mod Reading
 mod Lasting
 mod Opening
 mod Showing
+mod Closing
+mod Looking
 pub mod AsBox

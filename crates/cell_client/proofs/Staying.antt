@@ -71,7 +71,7 @@ pub give_stays : (s : ClientState) (now : ℕ) (out : Out) (new : ClientState) (
 give_stays s now out new fault e = let c = give_case s now out in subst (StaysWhereRefused s) (sym c.1 ∙ e) (given_stays s now out c.0)
 
 -- want of memory, or another refusal
-by_fault : (fault : Fault) (A : Type 0) → (fault ≢ faults.NoMemory → A) → (fault ≡ faults.NoMemory → A) → A
+pub by_fault : (fault : Fault) (A : Type 0) → (fault ≢ faults.NoMemory → A) → (fault ≡ faults.NoMemory → A) → A
 by_fault faults.NoMemory A other memory = memory refl
 by_fault fault A other memory = other (λ e. cc)
 

@@ -14,3 +14,4 @@ pub mod Opens
 pub mod Shows
 pub mod Follows
 pub mod Answers
+pub mod Hits

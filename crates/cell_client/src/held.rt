@@ -2,18 +2,21 @@
 ghost use Rattle.std.specs.Prelude.{◌≡◌};
 ghost use Rattle.client_core.specs.declared.parts.asks.Ask.TheVariants as asks;
 ghost use Rattle.client_core.specs.declared.parts.asks.NodeCall.TheVariants as node_calls;
+ghost use Rattle.client_core.specs.State.{new_client};
 ghost use Rattle.cell_client.specs.States.{new_held};
 ghost use Rattle.cell_client.specs.Steps.{sent_by, served_status, ask_status, beat_status, give_status, ask_held, beat_held, give_held, ask_bytes, give_bytes, ask_wanted, Makes, Stays};
 
 use crate::asks::request_ask;
+use crate::orderly::Orderly;
 use crate::statuses::Status;
-use client_core::{Ask, Client, NodeCall, Outcome};
+use client_core::{Ask, NodeCall, Outcome};
+use names_cell::Principal;
 use node_core::{Answer, Fault, Line};
 use plain::Items;
 use std::alloc::Global;
 use std::marker::Model;
 use std::mem;
-use tags_cell::{Out, Request};
+use tags_cell::{ClientNumber, Out, Request};
 use wire_core::{read_out, read_request};
 
 /// A client, with what came of its last step: the message that is to be sent, and the lines. To a contract, the record of these.
@@ -23,7 +26,7 @@ use wire_core::{read_out, read_request};
 #[derive(Drop)]
 pub struct Held {
     pub(crate) alloc: Global,
-    pub(crate) client: Client,
+    pub(crate) client: Orderly,
     pub(crate) request: Option<Request>,
     pub(crate) lines: Items<Line>,
 }
@@ -37,13 +40,13 @@ impl Model for Held {
 }
 
 impl Held {
-    /// Holds a client that made no step yet. Takes no memory.
-    pub fn new(alloc: Global, client: Client) -> Held
-        ensures { result ≡ new_held client }
+    /// Holds a client of this number for this principal, which made no step yet. Takes no memory.
+    pub fn new(alloc: Global, number: ClientNumber, principal: Principal) -> Held
+        ensures { result ≡ new_held (new_client number principal) }
     {
         Held {
             alloc,
-            client,
+            client: Orderly::new(alloc, number, principal),
             request: None,
             lines: Items::new(alloc),
         }

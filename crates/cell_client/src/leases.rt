@@ -13,7 +13,7 @@ impl Held {
     pub fn leased_until(&self) -> u64
         ensures { EndsAt self.now.client.cache.lease result }
     {
-        lease_end(self.client.seen().cache)
+        lease_end(self.client.get().seen().cache)
     }
 }
 

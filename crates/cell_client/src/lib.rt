@@ -6,8 +6,11 @@ mod asks;
 mod changes;
 mod handles;
 mod held;
+mod hits;
+mod laws;
 mod leases;
 mod opens;
+mod orderly;
 mod parts;
 mod rooms;
 mod shows;
@@ -22,11 +25,13 @@ ghost use Rattle.client_core.specs.declared.parts.asks.Ask.TheVariants as asks;
 ghost use Rattle.client_core.specs.declared.parts.asks.NodeCall.TheVariants as node_calls;
 ghost use Rattle.cell_client.specs.Answers.{Opens, Answers, Fills, Shows};
 ghost use Rattle.cell_client.specs.Leases.{EndsAt};
+ghost use Rattle.cell_client.specs.Hits.{hit, Hits};
 
 use handles::Handle;
 pub use held::Held;
+pub use laws::hit_is_asked;
 use parts::Parts;
-use rooms::{fill, put};
+use rooms::{fill, put, put_hit};
 pub use statuses::Status;
 use std::alloc::Global;
 use wire_core::WireFault;
@@ -97,6 +102,22 @@ pub extern "C" fn cell_client_read(
         *length = fill(handle.as_mut().content(), room);
     }
     code
+}
+
+/// The content that a read of this handle would be served with now, by the client's own number: 65, and it goes into the room, if it
+/// fits, and `length` is how long it is; or 0, where the cache wouldn't serve it. Nothing changes, and no time is noted.
+#[unsafe(no_mangle)]
+pub extern "C" fn cell_client_hit(
+    handle: &mut Handle,
+    now: u64,
+    number: u64,
+    room: &mut [u8],
+    length: &mut usize,
+) -> u32
+    ensures shown { Hits (hit handle.old.value now number) room.old room.new length.old length.new result }
+    ensures kept { handle.new.value ≡ handle.old.value }
+{
+    put_hit(handle.as_mut().hit(now, number), room, length)
 }
 
 /// Poisons a handle, by the client's own number.

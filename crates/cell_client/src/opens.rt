@@ -5,7 +5,6 @@ ghost use Rattle.cell_client.specs.Opens.{opened};
 
 use crate::held::Held;
 use crate::statuses::Status;
-use client_core::Client;
 use names_cell::{NameFault, Principal};
 use node_core::Fault;
 use std::alloc::Global;
@@ -24,6 +23,6 @@ impl Held {
             return Err(WireFault::BadText);
         };
         let principal = Principal::parse(alloc, text)?;
-        Ok(Held::new(alloc, Client::new(alloc, number, principal)))
+        Ok(Held::new(alloc, number, principal))
     }
 }

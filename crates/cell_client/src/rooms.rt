@@ -1,6 +1,8 @@
 //! Rooms that a program gives for bytes.
 ghost use Rattle.std.specs.Prelude.{◌≡◌};
+ghost use Rattle.std.specs.Option.{option_copied};
 ghost use Rattle.cell_client.specs.Answers.{Fills, Writes};
+ghost use Rattle.cell_client.specs.Hits.{Hits};
 
 use crate::statuses::Status;
 use plain::Bytes;
@@ -28,5 +30,18 @@ pub(crate) fn put(bytes: Result<Bytes, WireFault>, room: &mut [u8], length: &mut
             Status::Done.code()
         }
         Err(fault) => Status::Bad(fault).code(),
+    }
+}
+
+// The same of a content that there may be; where there is none, both are as they were.
+pub(crate) fn put_hit(content: Option<&[u8]>, room: &mut [u8], length: &mut usize) -> u32
+    ensures { Hits (option_copied content.entry) room.old room.new length.old length.new result }
+{
+    match content {
+        Some(content) => {
+            *length = fill(content, room);
+            Status::Served.code()
+        }
+        None => Status::Done.code(),
     }
 }

@@ -24,7 +24,7 @@ impl Held {
     pub fn again(&self) -> Result<Bytes, WireFault>
         ensures { Gives WireFault.NoMemory result (message_bytes (option_map (λ call. call.request) self.now.client.outstanding)) }
     {
-        message_bytes(self.alloc, self.client.again())
+        message_bytes(self.alloc, self.client.get().again())
     }
 
     /// The lines that the last step printed, each with an LF behind it. Refused for want of memory alone.

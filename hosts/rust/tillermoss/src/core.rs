@@ -241,6 +241,9 @@ impl State {
         if let Some(fault) = self.fault() {
             return Err(fault);
         }
+        if self.library.hit(clock::now(), handle, room) {
+            return Ok(Tried::Served);
+        }
         let status = self.library.read(clock::now(), handle, room);
         if status == Status::Served {
             return Ok(Tried::Served);

@@ -19,6 +19,7 @@ unsafe extern "C" {
     fn cell_client_beat(handle: *mut Handle, now: u64) -> u32;
     fn cell_client_ask(handle: *mut Handle, now: u64, call: *const u8, length: usize) -> u32;
     fn cell_client_read(handle: *mut Handle, now: u64, number: u64, room: *mut u8, room_length: usize, length: *mut usize) -> u32;
+    fn cell_client_hit(handle: *mut Handle, now: u64, number: u64, room: *mut u8, room_length: usize, length: *mut usize) -> u32;
     fn cell_client_poison(handle: *mut Handle, now: u64, number: u64) -> u32;
     fn cell_client_give(handle: *mut Handle, now: u64, message: *const u8, length: usize) -> u32;
     fn cell_client_message(handle: *mut Handle, room: *mut u8, room_length: usize, length: *mut usize) -> u32;
@@ -114,6 +115,27 @@ impl Library {
             *room = self.content();
         }
         status
+    }
+
+    /// Whether the cache serves a read of this handle now: then its content stands in the room; else the room is empty. No step: what
+    /// the last one showed stays.
+    pub fn hit(&mut self, now: u64, number: u64, room: &mut Vec<u8>) -> bool {
+        let mut handle = self.handle();
+        room.clear();
+        loop {
+            let mut length = 0;
+            // SAFETY: as above; the room is there for the call, and nothing else has it. It is written and isn't read.
+            let code = unsafe { cell_client_hit(&raw mut handle, now, number, room.as_mut_ptr(), room.capacity(), &raw mut length) };
+            if Status::of(code) != Status::Served {
+                return false;
+            }
+            if length <= room.capacity() {
+                // SAFETY: so many bytes were written to the room's front.
+                unsafe { room.set_len(length) };
+                return true;
+            }
+            room.reserve(length);
+        }
     }
 
     /// Poisons a handle.
@@ -283,6 +305,25 @@ mod tests {
         let mut room = b"old".to_vec();
         assert_eq!(library.read(12_294, 1, &mut room), Status::Refused(Refusal::InJeopardy));
         assert_eq!((room.as_slice(), library.lines().unwrap().as_str()), (&b""[..], "jeopardy 7\n"));
+    }
+
+    #[test]
+    fn a_hit_is_what_a_read_is_served() {
+        let mut library = cached();
+        let (lines, end) = (library.lines(), 12_294);
+        for (now, number) in [(0, 1), (1100, 1), (end - 1, 1), (end, 1), (1 << 53, 1), (1100, 0), (1100, 2)] {
+            let is_served = number == 1 && now < end;
+            for capacity in [0, 4, 5, 100] {
+                let mut room = Vec::with_capacity(capacity);
+                assert_eq!(library.hit(now, number, &mut room), is_served, "{now} {number}");
+                assert_eq!(room, if is_served { &b"hello"[..] } else { b"" });
+            }
+        }
+        assert_eq!((library.lines(), library.content()), (lines, b"hello".to_vec()));
+        let mut room = b"old".to_vec();
+        assert_eq!(library.poison(1100, 1), Status::Done);
+        assert!(!library.hit(1100, 1, &mut room) && room.is_empty());
+        assert!(!started().hit(1100, 1, &mut room));
     }
 
     #[test]
