@@ -32,6 +32,7 @@ int main(int argc, char **argv) {
             "acl_change TEXT NOT NULL, content BLOB NOT NULL) STRICT");
     run(db, "CREATE TABLE children (parent TEXT NOT NULL, child TEXT NOT NULL REFERENCES nodes (name) ON DELETE CASCADE, "
             "PRIMARY KEY (parent, child)) STRICT");
+    run(db, "CREATE INDEX children_by_child ON children (child)");
     done(sqlite3_prepare_v2(db,
              "INSERT INTO nodes (name, instance, kind, life, content_gen, acl_gen, lock_gen, acl_read, acl_write, acl_change, content) "
              "VALUES (?1, ?2, ?3, ?4, ?5, ?6, 0, ?7, ?8, ?9, ?10) ON CONFLICT (name) DO UPDATE SET instance = excluded.instance, kind = excluded.kind, "

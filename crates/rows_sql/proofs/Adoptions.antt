@@ -18,10 +18,10 @@ use Rattle.rows_cell.specs.declared.tables.Edit.TheVariants.{PutNode}
 use Rattle.rows_cell.specs.Rows.{StoredNodes}
 use Rattle.rows_cell.specs.Opening.{opening}
 use Rattle.settings_core.specs.Settings.{Settled}
-use Rattle.rows_sql.specs.OurSchema.{first_schema, the_schema}
+use Rattle.rows_sql.specs.OurSchema.{first_schema, unindexed_schema, the_schema}
 use Rattle.rows_cell.specs.Sound.{sound}
 use Rattle.rows_sql.specs.declared.schema.ours.Version.{Version}
-use Rattle.rows_sql.specs.declared.schema.ours.Version.TheVariants.{First, Second}
+use Rattle.rows_sql.specs.declared.schema.ours.Version.TheVariants.{First, Unindexed, Second}
 use Rattle.rows_sql.specs.Versions.{schema_of}
 use Rattle.rows_sql.specs.Held.{Says, SaysAs}
 use Rattle.rows_sql.specs.Ready.{tables_of, tables_as, IsReady, IsStill, Quiet}
@@ -31,6 +31,7 @@ use Rattle.rows_sql.specs.Creation.{no_schema, puts_of, IsMade, MayOpen}
 use Rattle.rows_sql.specs.Keeping.{Keeps}
 use Rattle.rows_sql.specs.Adopting.{IsAnew, Takes, IsTakenAs, IsForeign, IsAtItsEnd, Adopts, IsOther, IsFull, IsTaken, IsLeftAlone, IsReopened, ComesBack}
 use Rattle.rows_sql.proofs.Opened.{opened}
+use Rattle.rows_sql.proofs.InspectLemmas.{one_version}
 
 -- ---- opened anew
 
@@ -47,7 +48,8 @@ anew {S = S} g store (Ok c) ordered listed fresh opens cleaner trees new =
       settled = λ clean. sym (opens clean).0.clean;
       listed = λ clean. let at = opens clean in (at.1 at.0.is_open).0;
       store = both.0;
-      first = both.1;
+      unindexed = both.1;
+      first = both.2;
     }
 
 -- ---- what an unbroken store is that was rolled back
@@ -156,34 +158,53 @@ module _ {S : Type 0} (g : Ghosts S) (settings : Settled) (old new : Held S) (at
 -- ---- what isn't taken over
 
 pub foreign_none : (cell : List ℕ) (db : Database) (schema : Schema) → ((version : Version) → schema ≢ schema_of version) → schema ≡ db.schema → db.schema ≢ no_schema → IsForeign cell db
-foreign_none cell db schema none same some = inl (λ e. none Second (same ∙ e), some, λ e. none First (same ∙ e))
+foreign_none cell db schema none same some = inl (λ version e. none version (same ∙ e), some)
 
 pub foreign_store : (cell : List ℕ) (db : Database) → db.schema ≡ the_schema → ((rows : Rows) → ¬ Says (tables_of db.trees) rows) → IsForeign cell db
 foreign_store cell db ours none = inr (inl (ours, none))
 
+pub foreign_unindexed : (cell : List ℕ) (db : Database) → db.schema ≡ unindexed_schema → ((rows : Rows) → SaysAs Unindexed (tables_as Unindexed db.trees) rows → sound cell rows ≡ false) → IsForeign cell db
+foreign_unindexed cell db unindexed none = inr (inr (inl (unindexed, none)))
+
 pub foreign_first : (cell : List ℕ) (db : Database) → db.schema ≡ first_schema → ((rows : Rows) → SaysAs First (tables_as First db.trees) rows → sound cell rows ≡ false) → IsForeign cell db
-foreign_first cell db first none = inr (inr (first, none))
+foreign_first cell db first none = inr (inr (inr (first, none)))
 
-no_tables : (a : Schema) → a ≡ no_schema → a ≡ the_schema → ⊥
-no_tables a n t = let e : 0 ≡ 5 = ap (λ (s : Schema). length s.tables) (sym n ∙ t) in omega (arith, e)
+-- a schema with tables is that of one version
+pub some_tables : (version : Version) (s : Schema) → s ≡ no_schema → s ≡ schema_of version → ⊥
+some_tables First s n t = let e : 0 ≡ 4 = ap (λ (x : Schema). length x.tables) (sym n ∙ t) in omega (arith, e)
+some_tables Unindexed s n t = let e : 0 ≡ 5 = ap (λ (x : Schema). length x.tables) (sym n ∙ t) in omega (arith, e)
+some_tables Second s n t = let e : 0 ≡ 5 = ap (λ (x : Schema). length x.tables) (sym n ∙ t) in omega (arith, e)
 
-pub no_first : (a : Schema) → a ≡ no_schema → a ≡ first_schema → ⊥
-no_first a n f = let e : 0 ≡ 4 = ap (λ (s : Schema). length s.tables) (sym n ∙ f) in omega (arith, e)
+pub not_both : (a b : Version) → (a ≡ b → ⊥) → (s : Schema) → s ≡ schema_of a → s ≡ schema_of b → ⊥
+not_both a b apart s p q = apart (one_version a b (sym p ∙ q))
 
-pub not_both : (a : Schema) → a ≡ the_schema → a ≡ first_schema → ⊥
-not_both a t f = let e : 5 ≡ 4 = ap (λ (s : Schema). length s.tables) (sym t ∙ f) in omega (arith, e)
+pub second_first : Second ≡ First → ⊥
+second_first e = cc
+
+pub second_unindexed : Second ≡ Unindexed → ⊥
+second_unindexed e = cc
+
+pub unindexed_first : Unindexed ≡ First → ⊥
+unindexed_first e = cc
 
 -- rows are taken of what isn't a cell's
 none_of_other : (settings : Settled) (db : Database) (rows : Rows) → Takes settings db rows → IsForeign settings.cell db → ⊥
-none_of_other settings db rows (inl t) (inl f) = f.0 t.0
+none_of_other settings db rows (inl t) (inl f) = f.0 Second t.0
 none_of_other settings db rows (inl t) (inr (inl f)) = f.1 rows t.1
-none_of_other settings db rows (inl t) (inr (inr f)) = not_both db.schema t.0 f.0
+none_of_other settings db rows (inl t) (inr (inr (inl f))) = not_both Second Unindexed second_unindexed db.schema t.0 f.0
+none_of_other settings db rows (inl t) (inr (inr (inr f))) = not_both Second First second_first db.schema t.0 f.0
 none_of_other settings db rows (inr (inl t)) (inl f) = f.1 t.0
-none_of_other settings db rows (inr (inl t)) (inr (inl f)) = no_tables db.schema t.0 f.0
-none_of_other settings db rows (inr (inl t)) (inr (inr f)) = no_first db.schema t.0 f.0
-none_of_other settings db rows (inr (inr t)) (inl f) = f.2 t.1.schema
-none_of_other settings db rows (inr (inr t)) (inr (inl f)) = not_both db.schema f.0 t.1.schema
-none_of_other settings db rows (inr (inr t)) (inr (inr f)) = true≢false (sym t.1.sound_rows ∙ f.1 t.0 t.1.said)
+none_of_other settings db rows (inr (inl t)) (inr (inl f)) = some_tables Second db.schema t.0 f.0
+none_of_other settings db rows (inr (inl t)) (inr (inr (inl f))) = some_tables Unindexed db.schema t.0 f.0
+none_of_other settings db rows (inr (inl t)) (inr (inr (inr f))) = some_tables First db.schema t.0 f.0
+none_of_other settings db rows (inr (inr (inl t))) (inl f) = f.0 Unindexed t.schema
+none_of_other settings db rows (inr (inr (inl t))) (inr (inl f)) = not_both Second Unindexed second_unindexed db.schema f.0 t.schema
+none_of_other settings db rows (inr (inr (inl t))) (inr (inr (inl f))) = true≢false (sym t.sound_rows ∙ f.1 rows t.said)
+none_of_other settings db rows (inr (inr (inl t))) (inr (inr (inr f))) = not_both Unindexed First unindexed_first db.schema t.schema f.0
+none_of_other settings db rows (inr (inr (inr t))) (inl f) = f.0 First t.1.schema
+none_of_other settings db rows (inr (inr (inr t))) (inr (inl f)) = not_both Second First second_first db.schema f.0 t.1.schema
+none_of_other settings db rows (inr (inr (inr t))) (inr (inr (inl f))) = not_both Unindexed First unindexed_first db.schema f.0 t.1.schema
+none_of_other settings db rows (inr (inr (inr t))) (inr (inr (inr f))) = true≢false (sym t.1.sound_rows ∙ f.1 t.0 t.1.said)
 
 pub not_other : (settings : Settled) (s : State) (rows : Rows) → Adopts settings s rows → ¬ IsOther settings.cell s
 not_other settings s rows adopts other = none_of_other settings s.committed rows adopts.takes other.foreign

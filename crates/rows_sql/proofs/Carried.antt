@@ -24,7 +24,8 @@ use Rattle.rows_sql.specs.Held.{Says, SaysAs, SaysWith, HoldsNodes, HoldsSession
 use Rattle.rows_sql.specs.Ready.{tables_of, tables_as, meta_shown, node_shown, session_shown, lock_shown, child_shown}
 use Rattle.rows_sql.proofs.Held.{holds_none}
 use Rattle.rows_sql.proofs.Parents.{put_behind}
-use Rattle.rows_sql.specs.Ongoing.{IsStore, PutsChild, HasNoOther}
+use Rattle.rows_sql.specs.OurSchema.{unindexed_schema}
+use Rattle.rows_sql.specs.Ongoing.{IsStoreBy, IsStore, PutsChild, HasNoOther}
 use Rattle.rows_sql.specs.Creation.{AddsChildren, IsStoreOf, StaysInside}
 use Rattle.rows_sql.specs.Carrying.{IsFirstStore, SetsVersion, PutsChildren, AddsAll, Carries, IsCarried, MayCarry}
 use Rattle.rows_sql.proofs.Creates.{stays_then, clean_before}
@@ -97,7 +98,7 @@ stays_on all left a b c along kept survives = stays_then a b c along.stays (reco
 
 -- ---- the fifth table is made
 
-made_store : (old new : State) → AddsChildren old new → IsFirstStore old.now → IsStore new.now
+pub made_store : (old new : State) → AddsChildren old new → IsFirstStore old.now → IsStoreBy unindexed_schema new.now
 made_store old new adds first =
     let m = adds first.schema in
     record {
@@ -110,7 +111,7 @@ made_store old new adds first =
       children = subst (IsShaped shape.Table) (sym m.empty) (tt, tt);
     }
 
-made_says : (old new : State) → AddsChildren old new → IsFirstStore old.now → (rows : Rows) → SaysAs First (tables_as First old.now.trees) rows → SaysWith First (tables_of new.now.trees) rows []
+pub made_says : (old new : State) → AddsChildren old new → IsFirstStore old.now → (rows : Rows) → SaysAs First (tables_as First old.now.trees) rows → SaysWith First (tables_of new.now.trees) rows []
 made_says old new adds first rows h =
     let m = adds first.schema in
     record {
@@ -121,10 +122,10 @@ made_says old new adds first rows h =
       children = subst (λ rs. HoldsChildren (map child_shown rs) []) (sym m.empty) (holds_none (slice_cmp nat_cmp) nat_list_cmp_total child_in);
     }
 
-pub adds_all : (children : Parents) (a b c : State) → AddsChildren a b → PutsChildren children b c → AddsAll children a c
+pub adds_all : (children : Parents) (a b c : State) → AddsAll [] a b → PutsChildren children b c → AddsAll children a c
 adds_all children a b c made put first =
-    let store = made_store a b made first in
-    (put.store store, λ rows h. put.says store rows (made_says a b made first rows h))
+    let at = made first in
+    (put.store at.0, λ rows h. put.says at.0 rows (at.1 rows h))
 
 pub carries : (children : Parents) (epoch : ℕ) (a b c : State) → AddsAll children a b → SetsVersion epoch b c → Carries children epoch a c
 carries children epoch a b c added set first rows h are =

@@ -12,7 +12,7 @@ use Rattle.rows_cell.specs.Sound.{sound}
 use Rattle.rows_cell.specs.declared.tables.Rows.{Rows}
 use Rattle.settings_core.specs.Settings.{Settled}
 use Rattle.rows_sql.specs.OurSchema.{first_schema}
-use Rattle.rows_sql.specs.declared.schema.ours.Version.TheVariants.{First}
+use Rattle.rows_sql.specs.declared.schema.ours.Version.TheVariants.{First, Unindexed, Second}
 use Rattle.rows_sql.specs.Held.{Says, SaysAs}
 use Rattle.rows_sql.specs.Ready.{tables_of, tables_as, IsReadyAs, IsStillAs, QuietAs}
 use Rattle.rows_sql.specs.Children.{Parents, children_of}
@@ -21,7 +21,7 @@ use Rattle.rows_sql.specs.Creation.{IsStoreOf}
 use Rattle.rows_cell.specs.Rows.{map_of}
 use Rattle.rows_sql.proofs.SaidTables.{one_said}
 use Rattle.rows_sql.specs.Adopting.{IsAnew, Takes, IsAtItsEnd, IsTaken, IsLeftAlone, carried, CarryingKeeps}
-use Rattle.rows_sql.proofs.Adoptions.{no_first, not_both}
+use Rattle.rows_sql.proofs.Adoptions.{some_tables, not_both, second_first, unindexed_first}
 use Rattle.rows_sql.specs.Carryings.{Becomes, Remains}
 
 -- a sound store's epoch that isn't at its end lies below it
@@ -92,7 +92,7 @@ module _ {S : Type 0} (g : Ghosts S) (settings : Settled) (old mid : Held S) (at
     said_mid clean = subst (λ (d : Database). SaysAs First (tables_as First d.trees) rows) (sym (same clean)) (said clean (ready clean))
 
     takes : HasCleanDisk (state g mid) → Takes settings (state g old).now (carried rows)
-    takes clean = inr (inr (rows, record { schema = first; said = said clean (ready clean); sound_rows = fits.0 }, fits.1, refl))
+    takes clean = inr (inr (inr (rows, record { schema = first; said = said clean (ready clean); sound_rows = fits.0 }, fits.1, refl)))
 
     pub taken_first : (next : Rows) → next ≡ carried rows → Becomes g rows mid new → IsTaken g settings old new next
     taken_first next is b =
@@ -130,9 +130,10 @@ err_as (Err e) P Q f h = f h
 -- ---- what is kept
 
 pub carrying_keeps : CarryingKeeps
-carrying_keeps settings db before after first (inl t) = absurd (not_both db.schema t.0 first.schema)
-carrying_keeps settings db before after first (inr (inl t)) = absurd (no_first db.schema t.0 first.schema)
-carrying_keeps settings db before after first (inr (inr t)) =
+carrying_keeps settings db before after first (inl t) = absurd (not_both Second First second_first db.schema t.0 first.schema)
+carrying_keeps settings db before after first (inr (inl t)) = absurd (some_tables First db.schema t.0 first.schema)
+carrying_keeps settings db before after first (inr (inr (inl t))) = absurd (not_both Unindexed First unindexed_first db.schema t.schema first.schema)
+carrying_keeps settings db before after first (inr (inr (inr t))) =
     let own : t.0 ≡ before = one_said First (tables_as First db.trees) t.0 before [] [] t.1.said first.said in
     let is : after ≡ carried before = t.3 ∙ ap carried own in
     (ap map_of is, ap (λ (r : Rows). r.sessions) is, ap (λ (r : Rows). r.locks) is, ap (λ (r : Rows). r.epoch) is)

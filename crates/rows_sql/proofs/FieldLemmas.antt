@@ -20,10 +20,10 @@ use Rattle.sqlite_schema.specs.declared.schema.Index.{Index}
 use Rattle.sqlite_schema.specs.declared.schema.Table.{Table}
 use Rattle.sqlite_schema.specs.declared.schema.Schema.{Schema}
 use Rattle.rows_sql.specs.declared.schema.ours.Version.{Version}
-use Rattle.rows_sql.specs.declared.schema.ours.Version.TheVariants.{First, Second}
+use Rattle.rows_sql.specs.declared.schema.ours.Version.TheVariants.{First, Unindexed, Second}
 use Rattle.rows_sql.specs.Versions.{schema_of}
-use Rattle.rows_sql.specs.OurSchema.{needed, meta, nodes, sessions, locks, children, of_node, first_schema, the_schema}
-use Rattle.rows_sql.specs.Fields.{same_kind, is_nothing, is_binary, is_needed, has_meta_columns, has_node_columns, has_session_columns, has_lock_columns, has_child_columns, is_key_of, has_orders, is_plain, has_key, is_only_name, is_cascade, is_no_action, is_to_node, is_bound, is_bare, is_meta, is_nodes, is_sessions, is_locks, is_children, is_index, has_key_indexes, has_indexes, has_four, has_fifth, is_first, is_ours}
+use Rattle.rows_sql.specs.OurSchema.{needed, meta, nodes, sessions, locks, children, of_node, by_child, first_schema, unindexed_schema, the_schema}
+use Rattle.rows_sql.specs.Fields.{same_kind, is_nothing, is_binary, is_needed, has_meta_columns, has_node_columns, has_session_columns, has_lock_columns, has_child_columns, is_key_of, has_orders, is_plain, has_key, is_only_name, is_cascade, is_no_action, is_to_node, is_bound, is_bare, is_meta, is_nodes, is_sessions, is_locks, is_children, is_over, is_index, is_by_child, has_key_indexes, has_four_indexes, has_indexes, has_four, has_fifth, is_first, is_unindexed, is_ours}
 
 both : (a b : Bool) → (a && b) ≡ true → (a ≡ true) × (b ≡ true)
 both true b h = (refl, h)
@@ -522,25 +522,29 @@ children_is t h =
       is_counted = bare.counted i;
     }
 
-index_is : (name : List ℕ) (tree table : ℕ) (places : List ℕ) (x : Index) → is_index name tree table places x ≡ true → x ≡ record { name = name; tree = tree; table = table; columns = places; order = plain; is_unique = true }
-index_is name tree table places x h =
+over_is : (name : List ℕ) (tree table : ℕ) (places : List ℕ) (unique : Bool) (x : Index) → is_over name tree table places x ≡ true → x.is_unique ≡ unique → x ≡ record { name = name; tree = tree; table = table; columns = places; order = plain; is_unique = unique }
+over_is name tree table places unique x h u =
     let a = both _ _ h in
     let b = both _ _ a.1 in
     let c = both _ _ b.1 in
     let d = both _ _ c.1 in
-    let e = both _ _ d.1 in
     let named = same_list x.name name a.0 in
     let at = number_is x.tree tree b.0 in
     let of = number_is x.table table c.0 in
     let columns = same_list x.columns places d.0 in
-    let order = order_is x.order e.0 in
-    λ i. record { name = named i; tree = at i; table = of i; columns = columns i; order = order i; is_unique = e.1 i }
+    let order = order_is x.order d.1 in
+    λ i. record { name = named i; tree = at i; table = of i; columns = columns i; order = order i; is_unique = u i }
 
-indexes_are : (xs : List Index) → has_indexes xs ≡ true → xs ≡ the_schema.indexes
-indexes_are xs h =
-    let a = both _ _ h in
-    let s = exactly_4 xs (number_is (length xs) 4 a.0) in
-    let at = subst (λ (x : List Index). has_indexes x ≡ true) s.4 h in
+index_is : (name : List ℕ) (tree table : ℕ) (places : List ℕ) (x : Index) → is_index name tree table places x ≡ true → x ≡ record { name = name; tree = tree; table = table; columns = places; order = plain; is_unique = true }
+index_is name tree table places x h = let a = both _ _ h in over_is name tree table places true x a.0 a.1
+
+by_child_is : (x : Index) → is_by_child x ≡ true → x ≡ by_child
+by_child_is x h = let a = both _ _ h in over_is (codes "children_by_child") 9 7 (2 ∷ []) false x a.0 (neither x.is_unique a.1)
+
+unindexed_are : (xs : List Index) → (length xs == 4) ≡ true → has_four_indexes xs ≡ true → xs ≡ unindexed_schema.indexes
+unindexed_are xs n h =
+    let s = exactly_4 xs (number_is (length xs) 4 n) in
+    let at = subst (λ (x : List Index). has_four_indexes x ≡ true) s.4 h in
     let k = both _ _ at in
     let b = both _ _ k.0 in
     let c = both _ _ b.1 in
@@ -549,6 +553,22 @@ indexes_are xs h =
     let three = index_is (codes "sqlite_autoindex_locks_1") 6 5 (1 ∷ 2 ∷ 3 ∷ []) s.2 c.1 in
     let four = index_is (codes "sqlite_autoindex_children_1") 8 7 (1 ∷ 2 ∷ []) s.3 k.1 in
     s.4 ∙ (λ i. one i ∷ two i ∷ three i ∷ four i ∷ [])
+
+indexes_are : (xs : List Index) → has_indexes xs ≡ true → xs ≡ the_schema.indexes
+indexes_are xs h =
+    let a = both _ _ h in
+    let s = exactly_5 xs (number_is (length xs) 5 a.0) in
+    let at = subst (λ (x : List Index). has_indexes x ≡ true) s.5 h in
+    let m = both _ _ at in
+    let k = both _ _ m.0 in
+    let b = both _ _ k.0 in
+    let c = both _ _ b.1 in
+    let one = index_is (codes "sqlite_autoindex_nodes_1") 2 1 (1 ∷ []) s.0 b.0 in
+    let two = index_is (codes "sqlite_autoindex_nodes_2") 3 1 (2 ∷ []) s.1 c.0 in
+    let three = index_is (codes "sqlite_autoindex_locks_1") 6 5 (1 ∷ 2 ∷ 3 ∷ []) s.2 c.1 in
+    let four = index_is (codes "sqlite_autoindex_children_1") 8 7 (1 ∷ 2 ∷ []) s.3 k.1 in
+    let last = by_child_is s.4 m.1 in
+    s.5 ∙ (λ i. one i ∷ two i ∷ three i ∷ four i ∷ last i ∷ [])
 
 first_indexes_are : (xs : List Index) → (length xs == 3) ≡ true → has_key_indexes xs ≡ true → xs ≡ first_schema.indexes
 first_indexes_are xs n h =
@@ -599,6 +619,18 @@ schema_is s h =
     let tables = tables_are s.tables c.0 d.0 d.1 in
     λ i. record { tables = tables i; indexes = indexes i; views = views i }
 
+pub unindexed_schema_is : (s : Schema) → is_unindexed s ≡ true → s ≡ unindexed_schema
+unindexed_schema_is s h =
+    let a = both _ _ h in
+    let b = both _ _ a.1 in
+    let c = both _ _ b.1 in
+    let d = both _ _ c.1 in
+    let e = both _ _ d.1 in
+    let views = empty_is s.views a.0 in
+    let indexes = unindexed_are s.indexes b.0 c.0 in
+    let tables = tables_are s.tables d.0 e.0 e.1 in
+    λ i. record { tables = tables i; indexes = indexes i; views = views i }
+
 pub first_schema_is : (s : Schema) → is_first s ≡ true → s ≡ first_schema
 first_schema_is s h =
     let a = both _ _ h in
@@ -614,12 +646,18 @@ first_schema_is s h =
 pub passes : is_ours the_schema ≡ true
 passes = refl
 
+pub unindexed_passes : is_unindexed unindexed_schema ≡ true
+unindexed_passes = refl
+
 pub first_passes : is_first first_schema ≡ true
 first_passes = refl
 
 -- so the tests say just that
 ours_is : (b : Bool) (s : Schema) → b ≡ is_ours s → IsTrue b ↔ (s ≡ the_schema)
 ours_is b s h = (λ t. schema_is s (sym h ∙ t), λ e. h ∙ ap is_ours e ∙ passes)
+
+unindexed_is : (b : Bool) (s : Schema) → b ≡ is_unindexed s → IsTrue b ↔ (s ≡ unindexed_schema)
+unindexed_is b s h = (λ t. unindexed_schema_is s (sym h ∙ t), λ e. h ∙ ap is_unindexed e ∙ unindexed_passes)
 
 first_is : (b : Bool) (s : Schema) → b ≡ is_first s → IsTrue b ↔ (s ≡ first_schema)
 first_is b s h = (λ t. first_schema_is s (sym h ∙ t), λ e. h ∙ ap is_first e ∙ first_passes)
@@ -628,11 +666,16 @@ pub ours_told : {E : Type 0} (r : Result Bool E) (s : Schema) → IfOk r (λ b. 
 ours_told (Ok b) s h = ours_is b s h
 ours_told (Err e) s h = tt
 
+pub unindexed_told : {E : Type 0} (r : Result Bool E) (s : Schema) → IfOk r (λ b. b ≡ is_unindexed s) → IfOk r (λ b. IsTrue b ↔ (s ≡ unindexed_schema))
+unindexed_told (Ok b) s h = unindexed_is b s h
+unindexed_told (Err e) s h = tt
+
 pub first_told : {E : Type 0} (r : Result Bool E) (s : Schema) → IfOk r (λ b. b ≡ is_first s) → IfOk r (λ b. IsTrue b ↔ (s ≡ first_schema))
 first_told (Ok b) s h = first_is b s h
 first_told (Err e) s h = tt
 
--- a schema of neither version
-pub of_neither : (s : Schema) (b c : Bool) → IsTrue b ↔ (s ≡ the_schema) → IsTrue c ↔ (s ≡ first_schema) → b ≡ false → c ≡ false → (version : Version) → s ≢ schema_of version
-of_neither s b c ours first not_ours not_first First is = true≢false (sym (first.1 is) ∙ not_first)
-of_neither s b c ours first not_ours not_first Second is = true≢false (sym (ours.1 is) ∙ not_ours)
+-- a schema of no version
+pub of_none : (s : Schema) (a b c : Bool) → IsTrue a ↔ (s ≡ the_schema) → IsTrue b ↔ (s ≡ unindexed_schema) → IsTrue c ↔ (s ≡ first_schema) → a ≡ false → b ≡ false → c ≡ false → (version : Version) → s ≢ schema_of version
+of_none s a b c ours unindexed first no_a no_b no_c First is = true≢false (sym (first.1 is) ∙ no_c)
+of_none s a b c ours unindexed first no_a no_b no_c Unindexed is = true≢false (sym (unindexed.1 is) ∙ no_b)
+of_none s a b c ours unindexed first no_a no_b no_c Second is = true≢false (sym (ours.1 is) ∙ no_a)

@@ -46,6 +46,8 @@ pub mod Adds
 pub mod PutChild
 pub mod NodeSteps
 pub mod Carried
+pub mod Indexed
+pub mod Fifth
 pub mod Inspections
 pub mod Keepings
 pub mod Shaped
@@ -54,3 +56,4 @@ pub mod Adoptions
 pub mod StoreCases
 pub mod Closings
 pub mod Carryings
+pub mod Indexings

@@ -3,11 +3,11 @@ use Rattle.std.proofs.Common.{◌≡◌, refl, Ok}
 use Rattle.sqlite_tied.specs.Compute.{everything}
 use Rattle.sqlite.specs.Listing.{understood}
 use Rattle.sqlite.specs.Given.{IsPlain}
-use Rattle.sqlite.specs.Compile.{table_defined_by}
-use Rattle.sqlite.specs.Command.TheVariants.{CreateTable}
+use Rattle.sqlite.specs.Compile.{table_defined_by, index_defined_by}
+use Rattle.sqlite.specs.Command.TheVariants.{CreateTable, CreateIndex}
 use Rattle.sqlite.proofs.Callers.{command_of, statement_of}
-use Rattle.rows_sql.specs.OurSchema.{meta, nodes, sessions, locks, children, first_schema, the_schema}
-use Rattle.rows_sql.specs.Creation.{make_meta_text, make_nodes_text, make_sessions_text, make_locks_text, make_children_text, put_cell_text, put_cell_command, no_schema, with_meta, with_nodes, with_sessions}
+use Rattle.rows_sql.specs.OurSchema.{meta, nodes, sessions, locks, children, by_child, first_schema, unindexed_schema, the_schema}
+use Rattle.rows_sql.specs.Creation.{make_meta_text, make_nodes_text, make_sessions_text, make_locks_text, make_children_text, make_index_text, put_cell_text, put_cell_command, no_schema, with_meta, with_nodes, with_sessions}
 
 pub put_cell_is : command_of (understood the_schema put_cell_text) ≡ put_cell_command
 unfolding understood everything
@@ -76,3 +76,15 @@ children_made_plain = (refl, refl)
 pub children_defined : table_defined_by make_children_text ≡ Ok (record children { tree = 0 })
 unfolding understood everything
 children_defined = refl
+
+pub index_made : (command_of (understood unindexed_schema make_index_text) ≡ CreateIndex 4) × (statement_of make_index_text (understood unindexed_schema make_index_text) ≡ make_index_text)
+unfolding understood everything
+index_made = (refl, refl)
+
+pub index_made_plain : IsPlain (understood unindexed_schema make_index_text)
+unfolding understood everything
+index_made_plain = (refl, refl)
+
+pub index_defined : index_defined_by children make_index_text ≡ Ok (record by_child { tree = 0 })
+unfolding understood everything
+index_defined = refl

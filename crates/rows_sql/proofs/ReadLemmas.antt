@@ -10,6 +10,7 @@ use Rattle.sqlite_value.specs.Order.{Row}
 use Rattle.sqlite.specs.Term.{Term, eval_all}
 use Rattle.sqlite.specs.Query.{IsAnswer, output, Output}
 use Rattle.sqlite.specs.Program.{overlay}
+use Rattle.sqlite.specs.Tree.{Trees}
 use Rattle.sqlite.specs.Effect.{Database, Answers}
 use Rattle.sqlite.specs.Listing.{understood}
 use Rattle.sqlite.specs.Given.{IsPlain}
@@ -18,17 +19,15 @@ use Rattle.sqlite.specs.State.{State, HasCleanDisk, IsUnchanged, IsRolledBack, S
 use Rattle.sqlite.specs.Clock.{timed}
 use Rattle.sqlite.proofs.Callers.{reads_as, never_commits}
 use Rattle.sqlite_trees.proofs.ListLemmas.{map-map}
-use Rattle.rows_sql.specs.OurSchema.{the_schema}
 use Rattle.rows_sql.specs.declared.schema.ours.Version.{Version}
-use Rattle.rows_sql.specs.declared.schema.ours.Version.TheVariants.{Second}
 use Rattle.rows_sql.specs.Versions.{schema_of}
 use Rattle.rows_sql.specs.Texts.{read_meta_text, read_nodes_text, read_sessions_text, read_locks_text, read_children_text}
 use Rattle.rows_sql.specs.Commands.{over, meta_terms, nodes_terms, sessions_terms, locks_terms, children_terms, read_meta_command, read_nodes_command, read_sessions_command, read_locks_command, read_children_command}
 use Rattle.sqlite_trees.specs.declared.store.Store.{Ghosts}
 use Rattle.sqlite.specs.Held.{Held, state}
 use Rattle.std.proofs.Common.{arith}
-use Rattle.rows_sql.specs.Ready.{IsReadyAs, Rests, QuietAs, IsStillAs, meta_shown, node_shown, session_shown, lock_shown, child_shown}
-use Rattle.rows_sql.proofs.Meaning.{read_meta_is, read_meta_plain, read_meta_unlisted, read_nodes_is, read_nodes_plain, read_nodes_unlisted, read_sessions_is, read_sessions_plain, read_sessions_unlisted, read_locks_is, read_locks_plain, read_locks_unlisted, read_children_is, read_children_plain, read_children_unlisted}
+use Rattle.rows_sql.specs.Ready.{IsReadyAs, Rests, QuietAs, IsStillAs, meta_shown, node_shown, session_shown, lock_shown, child_shown, children_shown}
+use Rattle.rows_sql.proofs.Meaning.{HasFifth, read_meta_is, read_meta_plain, read_meta_unlisted, read_nodes_is, read_nodes_plain, read_nodes_unlisted, read_sessions_is, read_sessions_plain, read_sessions_unlisted, read_locks_is, read_locks_plain, read_locks_unlisted, read_children_is, read_children_plain, read_children_unlisted}
 
 module _ (table : ℕ) (project : List Term) (order : List (Term × Key)) (params : Row) where
   abbrev shows : Row → Row
@@ -121,8 +120,14 @@ module _ (version : Version) (old new : State) (has : old.now.schema ≡ schema_
   pub locks_read : Shown read_locks_text [] old new rows → IsPermutation (map lock_shown (old.now.trees 5)) rows
   locks_read h = read_whole 5 locks_terms _ [] old.now rows refl (reads_as read_locks_text [] old new (schema_of version) has read_locks_command (read_locks_is version) (read_locks_plain version) (read_locks_unlisted version) rows h)
 
-pub children_read : (old new : State) → old.now.schema ≡ the_schema → (rows : List Row) → Shown read_children_text [] old new rows → IsPermutation (map child_shown (old.now.trees 7)) rows
-children_read old new has rows h = read_whole 7 children_terms _ [] old.now rows refl (reads_as read_children_text [] old new the_schema has read_children_command read_children_is read_children_plain read_children_unlisted rows h)
+children_shown_is : (version : Version) (db : Trees) → HasFifth version → map child_shown (db 7) ≡ children_shown version db
+children_shown_is version db (inl e) = ap (λ v. children_shown v db) (sym e)
+children_shown_is version db (inr e) = ap (λ v. children_shown v db) (sym e)
+
+pub children_read : (version : Version) → HasFifth version → (old new : State) → old.now.schema ≡ schema_of version → (rows : List Row) → Shown read_children_text [] old new rows → IsPermutation (children_shown version old.now.trees) rows
+children_read version fifth old new has rows h =
+    subst (λ shown. IsPermutation shown rows) (children_shown_is version old.now.trees fifth)
+    (read_whole 7 children_terms _ [] old.now rows refl (reads_as read_children_text [] old new (schema_of version) has read_children_command (read_children_is version fifth) (read_children_plain version fifth) (read_children_unlisted version fifth) rows h))
 
 pub rests_then : (a b c : State) → Rests a b → Rests b c → Rests a c
 rests_then a b c p q is_open =

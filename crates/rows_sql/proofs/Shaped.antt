@@ -18,8 +18,8 @@ use Rattle.sqlite_rules.specs.Lists.{Has}
 use Rattle.sqlite_rules.proofs.ListLemmas.{has_filtered}
 use Rattle.sqlite_rules.proofs.PlaceLemmas.{row_at_is}
 use Rattle.sqlite.specs.Effect.{Database, IsDatabase}
-use Rattle.rows_sql.specs.OurSchema.{first_schema, the_schema, meta, nodes, sessions, locks, children}
-use Rattle.rows_sql.specs.Ongoing.{IsStore}
+use Rattle.rows_sql.specs.OurSchema.{first_schema, unindexed_schema, the_schema, meta, nodes, sessions, locks, children}
+use Rattle.rows_sql.specs.Ongoing.{IsStoreBy, IsStore}
 use Rattle.rows_sql.specs.Carrying.{IsFirstStore}
 
 zip_has : {A B : Type 0} (R : A → B → Type 0) (xs : List A) (ys : List B) (y : B) → AllZip R xs ys → Has ys y → (x : A) × Has xs x × R x y
@@ -65,6 +65,19 @@ is_store v db same ours sound listed ordered =
     let at = shaped_as the_schema v db same ours sound listed ordered in
     record {
       schema = ours;
+      sound = sound;
+      metas = at meta (inl refl);
+      nodes = at nodes (inr (inl refl));
+      sessions = at sessions (inr (inr (inl refl)));
+      locks = at locks (inr (inr (inr (inl refl))));
+      children = at children (inr (inr (inr (inr (inl refl)))));
+    }
+
+pub is_unindexed_store : (v : View) (db : Database) → db.trees ≡ v.trees → db.schema ≡ unindexed_schema → IsDatabase db → IsListed (v.trees catalog_tree) v.shape v.reals → IsOrdered v.shape v.trees → IsStoreBy unindexed_schema db
+is_unindexed_store v db same unindexed sound listed ordered =
+    let at = shaped_as unindexed_schema v db same unindexed sound listed ordered in
+    record {
+      schema = unindexed;
       sound = sound;
       metas = at meta (inl refl);
       nodes = at nodes (inr (inl refl));

@@ -12,11 +12,13 @@ use Rattle.rows_cell.specs.declared.tables.Rows.{Rows}
 use Rattle.node_core.specs.Limits.{number_limit}
 use Rattle.rows_cell.specs.Sound.{sound}
 use Rattle.rows_cell.specs.Rows.{map_of}
-use Rattle.rows_sql.specs.OurSchema.{first_schema, the_schema}
-use Rattle.rows_sql.specs.declared.schema.ours.Version.TheVariants.{First}
+use Rattle.rows_sql.specs.OurSchema.{first_schema, unindexed_schema, the_schema}
+use Rattle.rows_sql.specs.declared.schema.ours.Version.{Version}
+use Rattle.rows_sql.specs.declared.schema.ours.Version.TheVariants.{First, Unindexed}
+use Rattle.rows_sql.specs.Versions.{schema_of}
 use Rattle.rows_sql.specs.Held.{Says, SaysAs}
 use Rattle.rows_sql.specs.Ready.{tables_of, tables_as}
-use Rattle.rows_sql.specs.Ongoing.{IsStore}
+use Rattle.rows_sql.specs.Ongoing.{IsStoreBy, IsStore}
 use Rattle.rows_sql.specs.Creation.{no_schema}
 use Rattle.rows_sql.specs.Carrying.{IsFirstStore}
 
@@ -27,33 +29,40 @@ pub record IsAnew (s : State) : Type 0 where
   pub settled : HasCleanDisk s → s.committed ≡ s.now
   pub listed : HasCleanDisk s → IsDatabase s.now
   pub store : HasCleanDisk s → s.now.schema ≡ the_schema → IsStore s.now
+  pub unindexed : HasCleanDisk s → s.now.schema ≡ unindexed_schema → IsStoreBy unindexed_schema s.now
   pub first : HasCleanDisk s → s.now.schema ≡ first_schema → IsFirstStore s.now
 
--- it is a store of the first version, which says these rows, and by its rules a cell of this name may have them
-pub record SaysFirst (cell : List ℕ) (db : Database) (rows : Rows) : Type 0 where
-  pub schema : db.schema ≡ first_schema
-  pub said : SaysAs First (tables_as First db.trees) rows
+-- it is a store of this version, which says these rows, and by its rules a cell of this name may have them
+pub record SaysSound (version : Version) (cell : List ℕ) (db : Database) (rows : Rows) : Type 0 where
+  pub schema : db.schema ≡ schema_of version
+  pub said : SaysAs version (tables_as version db.trees) rows
   pub sound_rows : sound cell rows ≡ true
+
+-- it is a store of this version, and says no rows that a cell of this name may have
+abbrev pub IsUnsound : Version → List ℕ → Database → Type 0
+IsUnsound version cell db = (db.schema ≡ schema_of version) × ((rows : Rows) → SaysAs version (tables_as version db.trees) rows → sound cell rows ≡ false)
 
 -- what a store of the first version is carried over as: the same rows, of the next epoch
 abbrev pub carried : Rows → Rows
 carried rows = record rows { epoch = rows.epoch + 1 }
 
--- the rows that its tables say; the opening rows, where there is no table yet; or those that it is carried over as
+-- the rows that its tables say; the opening rows, where there is no table yet; those of a store that lacks its last index, as they are;
+-- or those that a store of the first version is carried over as
 abbrev pub Takes : Settled → Database → Rows → Type 0
 Takes settings db rows =
     ((db.schema ≡ the_schema) × Says (tables_of db.trees) rows)
-    ⊎ (((db.schema ≡ no_schema) × (rows ≡ opening settings)) ⊎ ((before : Rows) × SaysFirst settings.cell db before × (before.epoch < number_limit) × (rows ≡ carried before)))
+    ⊎ (((db.schema ≡ no_schema) × (rows ≡ opening settings))
+    ⊎ (SaysSound Unindexed settings.cell db rows ⊎ ((before : Rows) × SaysSound First settings.cell db before × (before.epoch < number_limit) × (rows ≡ carried before))))
 
--- it has other tables; or they say no rows; or it is of the first version, and says none that a cell of this name may have
+-- it has other tables; or they say no rows; or it is of an earlier program, and says none that a cell of this name may have
 abbrev pub IsForeign : List ℕ → Database → Type 0
 IsForeign cell db =
-    ((db.schema ≢ the_schema) × (db.schema ≢ no_schema) × (db.schema ≢ first_schema))
-    ⊎ (((db.schema ≡ the_schema) × ((rows : Rows) → ¬ Says (tables_of db.trees) rows)) ⊎ ((db.schema ≡ first_schema) × ((rows : Rows) → SaysAs First (tables_as First db.trees) rows → sound cell rows ≡ false)))
+    (((version : Version) → db.schema ≢ schema_of version) × (db.schema ≢ no_schema))
+    ⊎ (((db.schema ≡ the_schema) × ((rows : Rows) → ¬ Says (tables_of db.trees) rows)) ⊎ (IsUnsound Unindexed cell db ⊎ IsUnsound First cell db))
 
 -- it is of the first version, and its epoch can't go on
 abbrev pub IsAtItsEnd : List ℕ → Database → Type 0
-IsAtItsEnd cell db = (rows : Rows) × SaysFirst cell db rows × (rows.epoch ≡ number_limit)
+IsAtItsEnd cell db = (rows : Rows) × SaysSound First cell db rows × (rows.epoch ≡ number_limit)
 
 -- its rows are taken over: it is a store that says them, and all of them is committed
 pub record IsTaken {S : Type 0} (g : Ghosts S) (settings : Settled) (old new : Held S) (rows : Rows) : Type 0 where
@@ -110,5 +119,5 @@ pub record IsFull (cell : List ℕ) (s : State) : Type 0 where
 -- whatever a store of the first version is taken over as has its map, its sessions and its locks, and is of the next epoch
 abbrev pub CarryingKeeps : Type 0
 CarryingKeeps =
-    (settings : Settled) (db : Database) (before after : Rows) → SaysFirst settings.cell db before → Takes settings db after
+    (settings : Settled) (db : Database) (before after : Rows) → SaysSound First settings.cell db before → Takes settings db after
     → (map_of after ≡ map_of before) × (after.sessions ≡ before.sessions) × (after.locks ≡ before.locks) × (after.epoch ≡ before.epoch + 1)

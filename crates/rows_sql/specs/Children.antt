@@ -6,7 +6,7 @@ use Rattle.std.specs.Ordering.{nat_cmp}
 use Rattle.names_cell.specs.Text.{parent_of}
 use Rattle.rows_cell.specs.Rows.{StoredNodes}
 use Rattle.rows_sql.specs.declared.schema.ours.Version.{Version}
-use Rattle.rows_sql.specs.declared.schema.ours.Version.TheVariants.{First, Second}
+use Rattle.rows_sql.specs.declared.schema.ours.Version.TheVariants.{First, Unindexed, Second}
 
 -- names, each with that of its parent
 abbrev pub Parents : Type 0
@@ -24,6 +24,7 @@ children_of (e ∷ es) = with_child e.0 (parent_of e.0) (children_of es)
 -- a store of the first version has no such table
 abbrev pub children_for : Version → StoredNodes → Parents
 children_for First nodes = []
+children_for Unindexed nodes = children_of nodes
 children_for Second nodes = children_of nodes
 
 -- with a name that has this parent

@@ -1,4 +1,4 @@
--- A new store: the statements that make its five tables and the row of its cell, and what is there behind each.
+-- A new store: the statements that make its five tables, their index and the row of its cell, and what is there behind each.
 use Rattle.std.specs.Prelude.{◌≡◌, List, [], ◌∷◌, map, ℕ, codes, Some, pos, IsTrue}
 use Rattle.std.specs.List.{AllByRecursion}
 use Rattle.sqlite.specs.declared.types.Value.TheVariants.{Null, Int}
@@ -20,7 +20,7 @@ use Rattle.rows_cell.specs.Rows.{StoredNodes}
 use Rattle.rows_cell.specs.declared.tables.Rows.{Rows}
 use Rattle.rows_cell.specs.declared.tables.Edit.{Edit}
 use Rattle.rows_cell.specs.declared.tables.Edit.TheVariants.{PutNode}
-use Rattle.rows_sql.specs.OurSchema.{meta, nodes, sessions, key_index, first_schema, the_schema}
+use Rattle.rows_sql.specs.OurSchema.{meta, nodes, sessions, key_index, first_schema, unindexed_schema, the_schema}
 use Rattle.rows_sql.specs.Commands.{over}
 use Rattle.rows_sql.specs.Held.{Says}
 use Rattle.rows_sql.specs.Ready.{tables_of}
@@ -41,6 +41,9 @@ make_locks_text = codes "CREATE TABLE locks (instance INTEGER NOT NULL REFERENCE
 
 abbrev pub make_children_text : List ℕ
 make_children_text = codes "CREATE TABLE children (parent TEXT NOT NULL, child TEXT NOT NULL REFERENCES nodes (name) ON DELETE CASCADE, PRIMARY KEY (parent, child)) STRICT"
+
+abbrev pub make_index_text : List ℕ
+make_index_text = codes "CREATE INDEX children_by_child ON children (child)"
 
 abbrev pub put_cell_text : List ℕ
 put_cell_text = codes "INSERT INTO meta (id, version, cell, secret, epoch, next_instance) VALUES (1, 2, ?1, ?2, 0, 4) ON CONFLICT (id) DO UPDATE SET version = excluded.version, cell = excluded.cell, secret = excluded.secret, epoch = excluded.epoch, next_instance = excluded.next_instance"
@@ -79,13 +82,22 @@ Makes before after old new = IsEmptyAs before old.now → IsEmptyAs after new.no
 
 -- the four tables of the first version get a fifth without rows, and theirs stay
 pub record HasMore (old new : Database) : Type 0 where
-  pub schema : new.schema ≡ the_schema
+  pub schema : new.schema ≡ unindexed_schema
   pub sound : IsDatabase new
   pub kept : KeepsRows first_schema.tables old.trees new.trees
   pub empty : new.trees 7 ≡ []
 
 abbrev pub AddsChildren : State → State → Type 0
 AddsChildren old new = old.now.schema ≡ first_schema → HasMore old.now new.now
+
+-- the five tables get their last index, and their rows stay
+pub record HasIndex (old new : Database) : Type 0 where
+  pub schema : new.schema ≡ the_schema
+  pub sound : IsDatabase new
+  pub kept : KeepsRows unindexed_schema.tables old.trees new.trees
+
+abbrev pub AddsIndex : State → State → Type 0
+AddsIndex old new = old.now.schema ≡ unindexed_schema → HasIndex old.now new.now
 
 -- ---- the rows
 

@@ -129,20 +129,35 @@ abbrev pub is_children : Table → Bool
 is_children t =
     bytes_eq t.name (codes "children") && (t.tree == 7 && (has_child_columns t.columns && (not (is_some t.key) && (bytes_eq t.primary (1 ∷ 2 ∷ []) && (length t.uniques == 1 && (has_key t.uniques 0 (1 ∷ 2 ∷ []) && (has_orders t.orders 1 && (is_bound 2 (codes "name") t && (is_bare t)))))))))
 
+-- it is over these places, rising by bytes
+abbrev pub is_over : List ℕ → ℕ → ℕ → List ℕ → Index → Bool
+is_over name tree table places x =
+    bytes_eq x.name name && (x.tree == tree && (x.table == table && (bytes_eq x.columns places && (x.order.digits == 0))))
+
+-- the same, of a UNIQUE
 abbrev pub is_index : List ℕ → ℕ → ℕ → List ℕ → Index → Bool
-is_index name tree table places x =
-    bytes_eq x.name name && (x.tree == tree && (x.table == table && (bytes_eq x.columns places && (x.order.digits == 0 && (x.is_unique)))))
+is_index name tree table places x = is_over name tree table places x && x.is_unique
 
 abbrev pub index_at : List Index → ℕ → List ℕ → ℕ → ℕ → List ℕ → Bool
 index_at indexes at name tree table places = option_map_or (is_index name tree table places) (slice_get indexes at) false
+
+-- that of the children by their own names
+abbrev pub is_by_child : Index → Bool
+is_by_child x = is_over (codes "children_by_child") 9 7 (2 ∷ []) x && not x.is_unique
+
+abbrev pub has_by_child : List Index → Bool
+has_by_child indexes = option_map_or is_by_child (slice_get indexes 4) false
 
 abbrev pub has_key_indexes : List Index → Bool
 has_key_indexes xs =
     index_at xs 0 (codes "sqlite_autoindex_nodes_1") 2 1 (1 ∷ []) && (index_at xs 1 (codes "sqlite_autoindex_nodes_2") 3 1 (2 ∷ []) && (index_at xs 2 (codes "sqlite_autoindex_locks_1") 6 5 (1 ∷ 2 ∷ 3 ∷ [])))
 
+abbrev pub has_four_indexes : List Index → Bool
+has_four_indexes xs = has_key_indexes xs && (index_at xs 3 (codes "sqlite_autoindex_children_1") 8 7 (1 ∷ 2 ∷ []))
+
 abbrev pub has_indexes : List Index → Bool
 has_indexes xs =
-    length xs == 4 && (has_key_indexes xs && (index_at xs 3 (codes "sqlite_autoindex_children_1") 8 7 (1 ∷ 2 ∷ [])))
+    length xs == 5 && (has_four_indexes xs && (has_by_child xs))
 
 abbrev pub table_at : (Table → Bool) → List Table → ℕ → Bool
 table_at test tables at = option_map_or test (slice_get tables at) false
@@ -156,6 +171,10 @@ has_fifth ts = table_at is_children ts 4
 abbrev pub is_ours : Schema → Bool
 is_ours s =
     length s.views == 0 && (has_indexes s.indexes && (length s.tables == 5 && (has_four s.tables && (has_fifth s.tables))))
+
+abbrev pub is_unindexed : Schema → Bool
+is_unindexed s =
+    length s.views == 0 && (length s.indexes == 4 && (has_four_indexes s.indexes && (length s.tables == 5 && (has_four s.tables && (has_fifth s.tables)))))
 
 abbrev pub is_first : Schema → Bool
 is_first s =

@@ -19,6 +19,7 @@ pub mod Numbers
 pub mod Ongoing
 pub mod Creation
 pub mod Carrying
+pub mod Indexing
 pub mod Found
 pub mod Verdicts
 pub mod Keeping

@@ -6,6 +6,7 @@ use Rattle.std.specs.Cmp.Lexicographic.{slice_cmp}
 use Rattle.std.specs.Ordering.{nat_cmp}
 use Rattle.sqlite.specs.Tree.{Trees}
 use Rattle.sqlite.specs.Order.{Row}
+use Rattle.sqlite.specs.Schema.{Schema}
 use Rattle.sqlite.specs.Effect.{Database, IsDatabase}
 use Rattle.sqlite.specs.View.{IsShaped}
 use Rattle.sqlite.specs.State.{State, Shows, Executes}
@@ -22,15 +23,19 @@ use Rattle.rows_sql.specs.Children.{Parents, children_of}
 use Rattle.rows_sql.specs.Held.{Says, SaysWith}
 use Rattle.rows_sql.specs.Ready.{tables_of}
 
--- it has the schema of a cell's store and obeys it, and the rowids of each table rise
-pub record IsStore (db : Database) : Type 0 where
-  pub schema : db.schema ≡ the_schema
+-- it has this schema, of five tables, and obeys it, and the rowids of each table rise
+pub record IsStoreBy (which : Schema) (db : Database) : Type 0 where
+  pub schema : db.schema ≡ which
   pub sound : IsDatabase db
   pub metas : IsShaped Table (db.trees 0)
   pub nodes : IsShaped Table (db.trees 1)
   pub sessions : IsShaped Table (db.trees 4)
   pub locks : IsShaped Table (db.trees 5)
   pub children : IsShaped Table (db.trees 7)
+
+-- it is a cell's store of now
+abbrev pub IsStore : Database → Type 0
+IsStore db = IsStoreBy the_schema db
 
 -- a statement was run in a transaction, and did not end it
 pub record RanInside (sql : List ℕ) (params : Row) (old new : State) : Type 0 where

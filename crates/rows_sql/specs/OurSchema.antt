@@ -1,4 +1,4 @@
--- The tables of a cell's store, in both versions.
+-- The tables of a cell's store, and their indexes, in each version.
 use Rattle.std.specs.Prelude.{Bool, true, false, [], ◌∷◌, Some, None, codes, List, ℕ}
 use Rattle.sqlite.specs.Collation.TheVariants.{Binary}
 use Rattle.sqlite.specs.declared.types.Value.TheVariants.{Null}
@@ -115,6 +115,10 @@ children = record {
 abbrev pub key_index : List ℕ → ℕ → ℕ → List ℕ → Index
 key_index name tree table places = record { name = name; tree = tree; table = table; columns = places; order = plain; is_unique = true }
 
+-- the index of the children by their own names, by which the row of a child is found when its node goes
+abbrev pub by_child : Index
+by_child = record { name = codes "children_by_child"; tree = 9; table = 7; columns = 2 ∷ []; order = plain; is_unique = false }
+
 -- the first version: four tables in this order, the indexes of their keys, and nothing beside them
 abbrev pub first_schema : Schema
 first_schema = record {
@@ -125,13 +129,25 @@ first_schema = record {
   views = [];
 }
 
--- the version of now: the same, and behind them the table of children
+-- the second version without its last index: the same, and behind them the table of children
+abbrev pub unindexed_schema : Schema
+unindexed_schema = record {
+  tables = meta ∷ nodes ∷ sessions ∷ locks ∷ children ∷ [];
+  indexes = key_index (codes "sqlite_autoindex_nodes_1") 2 1 (1 ∷ [])
+      ∷ key_index (codes "sqlite_autoindex_nodes_2") 3 1 (2 ∷ [])
+      ∷ key_index (codes "sqlite_autoindex_locks_1") 6 5 (1 ∷ 2 ∷ 3 ∷ [])
+      ∷ key_index (codes "sqlite_autoindex_children_1") 8 7 (1 ∷ 2 ∷ []) ∷ [];
+  views = [];
+}
+
+-- the version of now: the same tables, and an index of the children by their own names
 abbrev pub the_schema : Schema
 the_schema = record {
   tables = meta ∷ nodes ∷ sessions ∷ locks ∷ children ∷ [];
   indexes = key_index (codes "sqlite_autoindex_nodes_1") 2 1 (1 ∷ [])
       ∷ key_index (codes "sqlite_autoindex_nodes_2") 3 1 (2 ∷ [])
       ∷ key_index (codes "sqlite_autoindex_locks_1") 6 5 (1 ∷ 2 ∷ 3 ∷ [])
-      ∷ key_index (codes "sqlite_autoindex_children_1") 8 7 (1 ∷ 2 ∷ []) ∷ [];
+      ∷ key_index (codes "sqlite_autoindex_children_1") 8 7 (1 ∷ 2 ∷ [])
+      ∷ by_child ∷ [];
   views = [];
 }

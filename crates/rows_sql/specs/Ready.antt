@@ -7,7 +7,7 @@ use Rattle.sqlite.specs.Order.{Row, column}
 use Rattle.sqlite.specs.Tree.{Trees}
 use Rattle.sqlite.specs.State.{State, HasCleanDisk}
 use Rattle.rows_sql.specs.declared.schema.ours.Version.{Version}
-use Rattle.rows_sql.specs.declared.schema.ours.Version.TheVariants.{First, Second}
+use Rattle.rows_sql.specs.declared.schema.ours.Version.TheVariants.{First, Unindexed, Second}
 use Rattle.rows_sql.specs.Versions.{schema_of}
 use Rattle.rows_sql.specs.Held.{Tables}
 
@@ -29,6 +29,7 @@ child_shown r = column r 1 ∷ column r 2 ∷ []
 -- a store of the first version has no fifth table
 abbrev pub children_shown : Version → Trees → List Row
 children_shown First db = []
+children_shown Unindexed db = map child_shown (db 7)
 children_shown Second db = map child_shown (db 7)
 
 abbrev pub tables_as : Version → Trees → Tables

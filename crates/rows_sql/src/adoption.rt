@@ -13,6 +13,7 @@ ghost use Rattle.rows_sql.specs.Ready.{tables_of};
 ghost use Rattle.rows_sql.specs.Adopting.{IsAnew, IsForeign, IsAtItsEnd, IsTaken, IsLeftAlone, IsReopened};
 
 use crate::carrying::take_first;
+use crate::indexing::take_unindexed;
 use crate::reading::load_said;
 use crate::schema::{Version, version_of};
 use crate::writing::make_store;
@@ -124,9 +125,9 @@ fn take_store<S: Alter>(
     load_said(alloc, conn)
 }
 
-/// Takes the rows of a database over: those of a store as they are; one of the first version is carried over; and where
-/// there is no table, a new store is made.
-#[tactic(auto, using(crate::proofs::Adoptions::foreign_none, crate::proofs::Adoptions::foreign_store, crate::proofs::Adoptions::foreign_first))]
+/// Takes the rows of a database over: those of a store as they are, which gets its last index where it lacks it; one of
+/// the first version is carried over; and where there is no table, a new store is made.
+#[tactic(auto, using(crate::proofs::Adoptions::foreign_none, crate::proofs::Adoptions::foreign_store, crate::proofs::Adoptions::foreign_unindexed, crate::proofs::Adoptions::foreign_first))]
 pub(crate) fn take_over<S: Alter>(
     alloc: Global,
     conn: &mut Connection<S>,
@@ -141,6 +142,7 @@ pub(crate) fn take_over<S: Alter>(
     let version = version_of(alloc, conn.schema())?;
     match version {
         Some(Version::Second) => take_store(alloc, conn, settings),
+        Some(Version::Unindexed) => take_unindexed(alloc, conn, settings),
         Some(Version::First) => take_first(alloc, conn, settings),
         None => take_none(alloc, conn, settings),
     }

@@ -21,6 +21,27 @@ use settings_core::Settings;
 use sqlite::{Alter, Connection};
 use std::alloc::Global;
 
+/// The rows of a store of this version, where a cell of this name may have them.
+pub(crate) fn load_sound_as<S: Alter>(
+    alloc: Global,
+    conn: &mut Connection<S>,
+    settings: &Settings,
+    version: Version,
+) -> Result<Rows, StoreFault>
+    ensures rows { HasCleanDisk (state S.Store conn.new) → IsReadyAs version (state S.Store conn.old) → IfOk result (λ rows. SaysAs version (tables_as version (state S.Store conn.old).now.trees) rows) }
+    ensures fits { IfOk result (λ rows. sound settings.now.cell rows ≡ true) }
+    ensures damaged { HasCleanDisk (state S.Store conn.new) → IsReadyAs version (state S.Store conn.old) → result ≡ Err StoreFault.Damaged → (rows : Held) → SaysAs version (tables_as version (state S.Store conn.old).now.trees) rows → sound settings.now.cell rows ≡ false }
+    ensures counted { result ≡ Err StoreFault.Exhausted → ⊥ }
+    ensures quiet { QuietAs version S.Store conn.old conn.new }
+    ensures still { HasCleanDisk (state S.Store conn.new) → IsReadyAs version (state S.Store conn.old) → OnOk result (IsStillAs version (state S.Store conn.old) (state S.Store conn.new)) }
+{
+    let rows = load_as(alloc, conn, version)?;
+    if !is_sound(alloc, settings.cell(), &rows)? {
+        return Err(StoreFault::Damaged);
+    }
+    Ok(rows)
+}
+
 // The rows of a store of the first version, where a cell of this name may have them, and its epoch can go on.
 #[tactic(auto, using(crate::proofs::Carryings::epoch_low, crate::proofs::Carryings::epoch_last))]
 fn load_first<S: Alter>(
@@ -35,10 +56,7 @@ fn load_first<S: Alter>(
     ensures quiet { QuietAs First S.Store conn.old conn.new }
     ensures still { HasCleanDisk (state S.Store conn.new) → IsReadyAs First (state S.Store conn.old) → OnOk result (IsStillAs First (state S.Store conn.old) (state S.Store conn.new)) }
 {
-    let rows = load_as(alloc, conn, Version::First)?;
-    if !is_sound(alloc, settings.cell(), &rows)? {
-        return Err(StoreFault::Damaged);
-    }
+    let rows = load_sound_as(alloc, conn, settings, Version::First)?;
     if rows.epoch == NUMBER_LIMIT {
         return Err(StoreFault::Exhausted);
     }

@@ -7,6 +7,7 @@ mod carrying;
 mod closing;
 mod files;
 mod history;
+mod indexing;
 mod laws;
 mod reading;
 mod records;

@@ -152,12 +152,14 @@ impl<S: Alter> Records for SqlRecords<S> {
 impl<S: Alter + Drop> SqlRecords<S> {
     /// Takes a database over. What isn't committed there is undone. The rows of a store are taken as they are, whether a
     /// cell may have them or not; where there is no table, the five tables are made and the opening rows put, in one
-    /// transaction. A store of the first version is carried over, where a cell of this name may have its rows: one
-    /// transaction makes it a store of now, of the next epoch, with one statement for each node.
+    /// transaction. A store that lacks its last index gets it, where a cell of this name may have its rows: they stay. A
+    /// store of the first version is carried over, where a cell of this name may have its rows: one transaction makes it a
+    /// store of now, of the next epoch, with one statement for each node.
     ///
-    /// Refused as `Damaged` where other tables are there, or where the tables say no rows, in the first version none that a
-    /// cell of this name may have; as `Exhausted` where the epoch of a store of the first version can't go on; as `Refused`
-    /// where the database can't be read or written. The store then comes back, over which a connection can be opened.
+    /// Refused as `Damaged` where other tables are there, or where the tables say no rows, in the first version and without
+    /// the index none that a cell of this name may have; as `Exhausted` where the epoch of a store of the first version
+    /// can't go on; as `Refused` where the database can't be read or written. The store then comes back, over which a
+    /// connection can be opened.
     pub fn adopt(
         alloc: Global,
         conn: Connection<S>,

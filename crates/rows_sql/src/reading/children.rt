@@ -47,7 +47,7 @@ pub(crate) fn children_for(
 {
     match version {
         Version::First => Ok(Table::new(alloc)),
-        Version::Second => children_of(alloc, nodes),
+        Version::Unindexed | Version::Second => children_of(alloc, nodes),
     }
 }
 

@@ -96,7 +96,7 @@ fn read_children<S: Alter>(
 {
     match version {
         Version::First => Ok(Vec::new(alloc)),
-        Version::Second => read_all(
+        Version::Unindexed | Version::Second => read_all(
             conn,
             "SELECT parent, child FROM children ORDER BY parent, child",
         ),

@@ -1,6 +1,6 @@
 //! Keys, references and indexes.
 ghost use Rattle.std.specs.Prelude.{◌≡◌, ◌==◌, length, IfOk};
-ghost use Rattle.rows_sql.specs.Fields.{is_key_of, has_key, is_plain, has_orders, is_to_node, is_index, index_at, is_bare, is_only_name};
+ghost use Rattle.rows_sql.specs.Fields.{is_key_of, has_key, is_plain, has_orders, is_to_node, is_over, is_index, index_at, is_by_child, has_by_child, is_bare, is_only_name};
 
 use sqlite_items::Items;
 use sqlite_schema::code::Terms;
@@ -116,8 +116,8 @@ pub(crate) fn is_bare(alloc: Global, table: &Table) -> Result<bool, AllocError>
     Ok(!table.is_counted)
 }
 
-fn is_index(index: &Index, name: &[u8], tree: u32, table: u32, places: &[usize]) -> bool
-    ensures { result ≡ is_index name.now tree table places.now index.now }
+fn is_over(index: &Index, name: &[u8], tree: u32, table: u32, places: &[usize]) -> bool
+    ensures { result ≡ is_over name.now tree table places.now index.now }
 {
     if index.name.as_slice() != name {
         return false;
@@ -131,10 +131,35 @@ fn is_index(index: &Index, name: &[u8], tree: u32, table: u32, places: &[usize])
     if index.columns.as_slice() != places {
         return false;
     }
-    if index.order.digits != 0 {
+    index.order.digits == 0
+}
+
+fn is_index(index: &Index, name: &[u8], tree: u32, table: u32, places: &[usize]) -> bool
+    ensures { result ≡ is_index name.now tree table places.now index.now }
+{
+    if !is_over(index, name, tree, table, places) {
         return false;
     }
     index.is_unique
+}
+
+fn is_by_child(index: &Index) -> bool
+    ensures { result ≡ is_by_child index.now }
+{
+    if !is_over(index, b"children_by_child", 9, 7, &[2]) {
+        return false;
+    }
+    !index.is_unique
+}
+
+/// Whether the last index is that of the children by their own names.
+pub(crate) fn has_by_child(indexes: &Items<Index>) -> bool
+    ensures { result ≡ has_by_child indexes.now }
+{
+    match indexes.get(4) {
+        Some(index) => is_by_child(index),
+        None => false,
+    }
 }
 
 /// Whether the index at a place is that of a UNIQUE.

@@ -1,31 +1,36 @@
 //! Whether a schema is that of a store, field by field.
 ghost use Rattle.std.specs.Prelude.{◌≡◌, ◌↔◌, IsTrue, IfOk};
-ghost use Rattle.rows_sql.specs.OurSchema.{the_schema, first_schema};
-ghost use Rattle.rows_sql.specs.Fields.{is_meta, is_nodes, is_sessions, is_locks, is_children, is_bound, has_key_indexes, has_indexes, has_four, has_fifth, is_first, is_ours};
+ghost use Rattle.rows_sql.specs.OurSchema.{the_schema, unindexed_schema, first_schema};
+ghost use Rattle.rows_sql.specs.Fields.{is_meta, is_nodes, is_sessions, is_locks, is_children, is_bound, has_key_indexes, has_four_indexes, has_indexes, has_four, has_fifth, is_first, is_unindexed, is_ours};
 ghost use Rattle.rows_sql.specs.Versions.{number_of, IsVersionOf};
 
 use crate::schema::columns::{
     has_child_columns, has_lock_columns, has_meta_columns, has_node_columns, has_session_columns,
 };
-use crate::schema::keys::{has_key, has_orders, index_at, is_bare, is_key_of, is_to_node};
+use crate::schema::keys::{
+    has_by_child, has_key, has_orders, index_at, is_bare, is_key_of, is_to_node,
+};
 use sqlite_items::Items;
 use sqlite_schema::schema::{Index, Schema, Table};
 use std::alloc::{AllocError, Global};
 
-/// The version of a store's schema. A store of the first has no table of children.
+/// The version of a store's schema. A store of the first has no table of children; one of the second that an earlier
+/// program made lacks the index of these by their own names.
 #[derive(Clone, Copy, Debug, PartialEq, Eq)]
 pub enum Version {
     First,
+    Unindexed,
     Second,
 }
 
 impl Version {
-    /// The number that the row of the cell has.
+    /// The number that the row of the cell has: how the rows are read, for which an index is nothing.
     pub fn number(self) -> i64
         ensures { result ≡ number_of self }
     {
         match self {
             Version::First => 1,
+            Version::Unindexed => 2,
             Version::Second => 2,
         }
     }
@@ -219,20 +224,30 @@ fn has_key_indexes(indexes: &Items<Index>) -> bool
     index_at(indexes, 2, b"sqlite_autoindex_locks_1", 6, 5, &[1, 2, 3])
 }
 
-// Whether there are just the indexes of the keys, with that of the children.
-fn has_indexes(indexes: &Items<Index>) -> bool
-    ensures { result ≡ has_indexes indexes.now }
+// Whether the first four are those of the keys, with that of the children.
+fn has_four_indexes(indexes: &Items<Index>) -> bool
+    ensures { result ≡ has_four_indexes indexes.now }
 {
-    if indexes.len() != 4 {
-        return false;
-    }
     if !has_key_indexes(indexes) {
         return false;
     }
     index_at(indexes, 3, b"sqlite_autoindex_children_1", 8, 7, &[1, 2])
 }
 
-// Whether the first four tables are those of both versions.
+// Whether there are just those and that of the children by their own names.
+fn has_indexes(indexes: &Items<Index>) -> bool
+    ensures { result ≡ has_indexes indexes.now }
+{
+    if indexes.len() != 5 {
+        return false;
+    }
+    if !has_four_indexes(indexes) {
+        return false;
+    }
+    has_by_child(indexes)
+}
+
+// Whether the first four tables are those of each version.
 fn has_four(alloc: Global, tables: &Items<Table>) -> Result<bool, AllocError>
     ensures { IfOk result (λ has. has ≡ has_four tables.now) }
 {
@@ -288,6 +303,27 @@ fn has_all(alloc: Global, schema: &Schema) -> Result<bool, AllocError>
     has_fifth(alloc, &schema.tables)
 }
 
+fn has_all_but_one(alloc: Global, schema: &Schema) -> Result<bool, AllocError>
+    ensures { IfOk result (λ unindexed. unindexed ≡ is_unindexed schema.now) }
+{
+    if schema.views.len() != 0 {
+        return Ok(false);
+    }
+    if schema.indexes.len() != 4 {
+        return Ok(false);
+    }
+    if !has_four_indexes(&schema.indexes) {
+        return Ok(false);
+    }
+    if schema.tables.len() != 5 {
+        return Ok(false);
+    }
+    if !has_four(alloc, &schema.tables)? {
+        return Ok(false);
+    }
+    has_fifth(alloc, &schema.tables)
+}
+
 fn has_first(alloc: Global, schema: &Schema) -> Result<bool, AllocError>
     ensures { IfOk result (λ first. first ≡ is_first schema.now) }
 {
@@ -315,6 +351,13 @@ pub fn is_ours(alloc: Global, schema: &Schema) -> Result<bool, AllocError>
     has_all(alloc, schema)
 }
 
+// Whether a schema is that of a store that lacks the last index alone. Refused as `is_ours` is.
+fn is_unindexed(alloc: Global, schema: &Schema) -> Result<bool, AllocError>
+    ensures { IfOk result (λ unindexed. IsTrue unindexed ↔ (schema.now ≡ unindexed_schema)) }
+{
+    has_all_but_one(alloc, schema)
+}
+
 /// Whether a schema is that of a store of the first version: the same without the table of children. Refused as
 /// `is_ours` is.
 pub fn is_first(alloc: Global, schema: &Schema) -> Result<bool, AllocError>
@@ -329,6 +372,9 @@ pub fn version_of(alloc: Global, schema: &Schema) -> Result<Option<Version>, All
 {
     if is_ours(alloc, schema)? {
         return Ok(Some(Version::Second));
+    }
+    if is_unindexed(alloc, schema)? {
+        return Ok(Some(Version::Unindexed));
     }
     if is_first(alloc, schema)? {
         return Ok(Some(Version::First));

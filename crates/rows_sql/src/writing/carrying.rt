@@ -5,7 +5,7 @@ ghost use Rattle.sqlite.specs.Held.{state};
 ghost use Rattle.rows_sql.specs.Creation.{StaysInside};
 ghost use Rattle.rows_sql.specs.Carrying.{SetsVersion, PutsChildren, AddsAll, Carries, IsCarried, MayCarry};
 
-use crate::writing::creation::make_children;
+use crate::writing::creation::make_fifth;
 use crate::writing::edits::{put_child, run};
 use crate::writing::values::number;
 use names_cell::Name;
@@ -44,7 +44,7 @@ fn put_children<S: Alter>(
     Ok(())
 }
 
-// Makes the fifth table, and fills it.
+// Makes the fifth table with its index, and fills it.
 fn add_children<S: Alter>(
     tx: &mut Transaction<'_, S>,
     children: &Table<Name, Name>,
@@ -53,7 +53,7 @@ fn add_children<S: Alter>(
     ensures ok { HasCleanDisk (state S.Store tx.new.conn.now) → OnOk result (AddsAll children.now (state S.Store tx.old.conn.now) (state S.Store tx.new.conn.now)) }
     ensures stays { StaysInside (state S.Store tx.old.conn.now) (state S.Store tx.new.conn.now) }
 {
-    make_children(tx)?;
+    make_fifth(tx)?;
     put_children(tx, children)
 }
 
@@ -71,8 +71,8 @@ fn carry<S: Alter>(
     set_version(tx, epoch)
 }
 
-/// Carries a store of the first version over into one of now, in one transaction: the fifth table is made and filled with
-/// these names, each under its parent, the number of the version is set, and this epoch. All of it is done, or nothing
+/// Carries a store of the first version over into one of now, in one transaction: the fifth table is made with its
+/// index and filled with these names, each under its parent, the number of the version is set, and this epoch. All of it is done, or nothing
 /// where the database refuses one of its statements. One statement for each name.
 pub fn carry_over<S: Alter>(
     conn: &mut Connection<S>,

@@ -1,9 +1,10 @@
 //! A new store, made in one transaction.
-ghost use Rattle.std.specs.Prelude.{◌≡◌, false, OnOk, OnErr};
+ghost use Rattle.std.specs.Prelude.{◌≡◌, [], false, OnOk, OnErr};
 ghost use Rattle.sqlite.specs.State.{HasCleanDisk, KeepsCommit, Survives};
 ghost use Rattle.sqlite.specs.Held.{state};
-ghost use Rattle.rows_sql.specs.OurSchema.{first_schema, the_schema};
-ghost use Rattle.rows_sql.specs.Creation.{no_schema, with_meta, with_nodes, with_sessions, Makes, AddsChildren, PutsCell, MakesBare, Opens, IsMade, MayOpen, StaysInside, opening_edits};
+ghost use Rattle.rows_sql.specs.OurSchema.{first_schema, unindexed_schema, the_schema};
+ghost use Rattle.rows_sql.specs.Carrying.{AddsAll};
+ghost use Rattle.rows_sql.specs.Creation.{no_schema, with_meta, with_nodes, with_sessions, Makes, AddsChildren, AddsIndex, PutsCell, MakesBare, Opens, IsMade, MayOpen, StaysInside, opening_edits};
 
 use crate::writing::changes::edit_all;
 use crate::writing::edits::run;
@@ -60,10 +61,9 @@ fn make_locks<S: Alter>(tx: &mut Transaction<'_, S>) -> Result<(), Error>
     )
 }
 
-/// Makes the fifth table, where the four are there.
-pub(crate) fn make_children<S: Alter>(tx: &mut Transaction<'_, S>) -> Result<(), Error>
+fn make_children<S: Alter>(tx: &mut Transaction<'_, S>) -> Result<(), Error>
     ensures same { tx.new.conn.ghost_name ≡ tx.old.conn.ghost_name }
-    ensures ok { HasCleanDisk (state S.Store tx.new.conn.now) → OnOk result (Makes first_schema the_schema (state S.Store tx.old.conn.now) (state S.Store tx.new.conn.now)) }
+    ensures ok { HasCleanDisk (state S.Store tx.new.conn.now) → OnOk result (Makes first_schema unindexed_schema (state S.Store tx.old.conn.now) (state S.Store tx.new.conn.now)) }
     ensures adds { HasCleanDisk (state S.Store tx.new.conn.now) → OnOk result (AddsChildren (state S.Store tx.old.conn.now) (state S.Store tx.new.conn.now)) }
     ensures stays { StaysInside (state S.Store tx.old.conn.now) (state S.Store tx.new.conn.now) }
 {
@@ -72,6 +72,31 @@ pub(crate) fn make_children<S: Alter>(tx: &mut Transaction<'_, S>) -> Result<(),
         "CREATE TABLE children (parent TEXT NOT NULL, child TEXT NOT NULL REFERENCES nodes (name) ON DELETE CASCADE, PRIMARY KEY (parent, child)) STRICT",
         &[],
     )
+}
+
+/// Makes the last index, where the five tables are there.
+pub(crate) fn make_index<S: Alter>(tx: &mut Transaction<'_, S>) -> Result<(), Error>
+    ensures same { tx.new.conn.ghost_name ≡ tx.old.conn.ghost_name }
+    ensures ok { HasCleanDisk (state S.Store tx.new.conn.now) → OnOk result (Makes unindexed_schema the_schema (state S.Store tx.old.conn.now) (state S.Store tx.new.conn.now)) }
+    ensures adds { HasCleanDisk (state S.Store tx.new.conn.now) → OnOk result (AddsIndex (state S.Store tx.old.conn.now) (state S.Store tx.new.conn.now)) }
+    ensures stays { StaysInside (state S.Store tx.old.conn.now) (state S.Store tx.new.conn.now) }
+{
+    run(
+        tx,
+        "CREATE INDEX children_by_child ON children (child)",
+        &[],
+    )
+}
+
+/// Makes the fifth table with its index, where the four are there.
+pub(crate) fn make_fifth<S: Alter>(tx: &mut Transaction<'_, S>) -> Result<(), Error>
+    ensures same { tx.new.conn.ghost_name ≡ tx.old.conn.ghost_name }
+    ensures ok { HasCleanDisk (state S.Store tx.new.conn.now) → OnOk result (Makes first_schema the_schema (state S.Store tx.old.conn.now) (state S.Store tx.new.conn.now)) }
+    ensures adds { HasCleanDisk (state S.Store tx.new.conn.now) → OnOk result (AddsAll [] (state S.Store tx.old.conn.now) (state S.Store tx.new.conn.now)) }
+    ensures stays { StaysInside (state S.Store tx.old.conn.now) (state S.Store tx.new.conn.now) }
+{
+    make_children(tx)?;
+    make_index(tx)
 }
 
 fn make_meta_and_nodes<S: Alter>(tx: &mut Transaction<'_, S>) -> Result<(), Error>
@@ -107,7 +132,7 @@ fn make_tables<S: Alter>(tx: &mut Transaction<'_, S>) -> Result<(), Error>
     ensures stays { StaysInside (state S.Store tx.old.conn.now) (state S.Store tx.new.conn.now) }
 {
     make_four(tx)?;
-    make_children(tx)
+    make_fifth(tx)
 }
 
 // Puts the row of the cell.

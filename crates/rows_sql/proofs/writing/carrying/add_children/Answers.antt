@@ -7,11 +7,11 @@ use Rattle.rows_sql.proofs.writing.carrying.add_children.Goals as goal
 pub returns-clause-ok : goal.returns-clause-ok
 returns-clause-ok g c clean =
     let old = state g.S.Store c.args.tx.now.conn.now in
-    let mid = state g.S.Store c.make_children.new.tx.conn.now in
+    let mid = state g.S.Store c.make_fifth.new.tx.conn.now in
     let last = state g.S.Store c.put_children.new.tx.conn.now in
-    let first = c.in_ok-make_children.ensures.adds (clean_before mid last c.put_children.ensures.stays clean) in
+    let first = c.in_ok-make_fifth.ensures.adds (clean_before mid last c.put_children.ensures.stays clean) in
     ok_then c.put_children.result (adds_all c.args.children.now old mid last first) (c.put_children.ensures.ok clean)
 
 pub returns-clause-stays : goal.returns-clause-stays
 returns-clause-stays g c =
-    stays_then (state g.S.Store c.args.tx.now.conn.now) (state g.S.Store c.make_children.new.tx.conn.now) (state g.S.Store c.put_children.new.tx.conn.now) c.make_children.ensures.stays c.put_children.ensures.stays
+    stays_then (state g.S.Store c.args.tx.now.conn.now) (state g.S.Store c.make_fifth.new.tx.conn.now) (state g.S.Store c.put_children.new.tx.conn.now) c.make_fifth.ensures.stays c.put_children.ensures.stays
