@@ -1,5 +1,5 @@
 //! Locks: who gets them and who waits, the delay behind an expiry, sequencers, and what the rows tell a new master.
-use lock_core::{Acquired, Claim, Hold, Lock, Locks, Owner, Turn};
+use lock_core::{Acquired, Claim, Hold, Lock, Locks, Owner, Parting, Turn};
 use names_cell::Name;
 use node_core::LockMode::{Exclusive, Shared};
 use node_core::{Fault, LockMode};
@@ -21,8 +21,9 @@ enum Step {
     Acquire(u64, LockMode, u64),
     Release(u64),
     Close(u64),
-    // Of the client's session, with the moment.
+    // Of the client's session, with the moment: its timeout has come, or the client has ended it.
     Expire(u64, u64),
+    Leave(u64, u64),
     Due(u64),
     Reopen,
     NodeEnds,
@@ -104,8 +105,8 @@ fn closes(locks: &mut Locks, client: u64) -> Result<Answer, Fault> {
 }
 
 // How many locks the session held or awaited.
-fn expires(locks: &mut Locks, client: u64, now: u64) -> Result<Answer, Fault> {
-    let ended = locks.lapse(client, now)?;
+fn parts(locks: &mut Locks, parting: Parting, client: u64, now: u64) -> Result<Answer, Fault> {
+    let ended = locks.lapse(parting, client, now)?;
     let count = ended.len() as u64;
     locks.carry_out(ended);
     Ok(Answer::Number(count))
@@ -200,7 +201,8 @@ fn does(alloc: Global, locks: &mut Locks, step: Step) -> Result<Answer, Fault> {
         Step::Acquire(client, mode, delay) => acquires(locks, claim(client, mode, delay)),
         Step::Release(client) => releases(locks, client),
         Step::Close(client) => closes(locks, client),
-        Step::Expire(client, now) => expires(locks, client, now),
+        Step::Expire(client, now) => parts(locks, Parting::Expiry, client, now),
+        Step::Leave(client, now) => parts(locks, Parting::Leave, client, now),
         Step::Reopen => reopens(locks),
         Step::NodeEnds => Ok(node_ends(locks)),
         Step::Generation(_) | Step::Holder(_, _, _) | Step::Closing(_, _) => tells(locks, step),
@@ -315,6 +317,25 @@ const TABLES: &[(&str, &[(Step, Answer)])] = &[
             (Step::NodeEnds, Answer::Number(0)),
             (Step::Moment(120_020), Answer::Nothing),
             (Step::Due(120_020), Answer::Nothing),
+        ],
+    ),
+    // Without a delay, whatever was asked for: the lock is free, or the next waiter's, at once.
+    (
+        "leaves",
+        &[
+            (Step::Acquire(1, Exclusive, 60_000), Answer::Number(1)),
+            (Step::Leave(1, 50), Answer::Number(1)),
+            (Step::Due(60_050), Answer::Nothing),
+            (Step::Try(2, Exclusive, 50), Answer::Number(2)),
+            (Step::Acquire(3, Shared, 0), Answer::Waits),
+            (Step::Acquire(4, Shared, 0), Answer::Waits),
+            (Step::Leave(3, 60), Answer::Number(1)),
+            (Step::Leave(2, 70), Answer::Number(1)),
+            (
+                Step::Try(3, Exclusive, 70),
+                Answer::Refused(Fault::Held(Shared)),
+            ),
+            (Step::Sequencer(4), Answer::Number(3)),
         ],
     ),
     // With no delay the next waiter gets the lock at once. A session that leaves others there gives no delay.
