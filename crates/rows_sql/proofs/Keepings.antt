@@ -1,5 +1,5 @@
 -- Each call keeps what ties the rows to the database.
-use Rattle.std.proofs.Common.{◌≡◌, Bool, true, false, not, List, [], ◌∷◌, ◌++◌, inl, inr, refl, sym, ap, ◌∙◌, subst, arith, true≢false}
+use Rattle.std.proofs.Common.{◌≡◌, Bool, true, false, not, Option, Some, None, List, [], ◌∷◌, ◌++◌, inl, inr, refl, sym, ap, ◌∙◌, subst, arith, true≢false}
 use Rattle.std.specs.Prelude.{IsTrue}
 use Rattle.std.specs.List.{fold}
 use Rattle.sqlite_trees.specs.declared.store.Store.{Ghosts}
@@ -26,6 +26,13 @@ fold_last f b (y ∷ xs) x = fold_last f (f b y) xs x
 
 pub stood_last : (items : List (Note × List Edit)) (n : Note) (change : List Edit) → stood (items ++ (n, change) ∷ []) ≡ noted n change (stood items)
 stood_last items n change = fold_last (λ (s : Stood) (m : Note × List Edit). noted m.0 m.1 s) (record { rows = no_rows; left = [] }) items (n, change)
+
+pub some_is : {X : Type 0} (a b : X) → Some a ≡ Some b → a ≡ b
+some_is a b e = cc
+
+-- no rows were kept that were read before
+pub none_kept : (o : Option Rows) (P : Rows → Type 0) → o ≡ None → (rows : Rows) → o ≡ Some rows → P rows
+none_kept o P none rows some = absurd (let e = sym none ∙ some in cc)
 
 has_first : {X : Type 0} (xs : List X) (y x : X) → Has xs x → Has (xs ++ y ∷ []) x
 has_first [] y x h = absurd h

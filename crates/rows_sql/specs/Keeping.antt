@@ -1,5 +1,5 @@
 -- The rows that stand, whatever the disk does, and what a crash may leave of them.
-use Rattle.std.specs.Prelude.{◌≡◌, ◌≤◌, Bool, false, List, [], ◌∷◌, ◌++◌, IsTrue}
+use Rattle.std.specs.Prelude.{◌≡◌, ◌≤◌, Bool, false, List, [], ◌∷◌, ◌++◌, Option, Some, None, IsTrue}
 use Rattle.std.specs.List.{fold}
 use Rattle.sqlite_trees.specs.declared.store.Store.{Ghosts}
 use Rattle.sqlite_trees.specs.View.{doubt}
@@ -30,6 +30,13 @@ noted (Adopted rows) change s = record { rows = rows; left = rows ∷ [] }
 noted (Read rows) change s = record s { rows = rows }
 noted Done change s = record { rows = changed_rows s.rows change; left = changed_rows s.rows change ∷ [] }
 noted Tried change s = record s { left = s.left ++ changed_rows s.rows change ∷ [] }
+
+-- the rows of a note, if there are any
+abbrev pub told_in : Note → Option Rows
+told_in (Adopted rows) = Some rows
+told_in (Read rows) = Some rows
+told_in Done = None
+told_in Tried = None
 
 -- what a history comes to
 abbrev pub stood : List (Note × List Edit) → Stood

@@ -1,12 +1,13 @@
 //! The rows of a cell in a SQL database.
-ghost use Rattle.std.specs.Prelude.{◌≡◌, ◌≤◌, ◌∷◌, [], Ok, IfOk, IfErr, IsTrue};
+ghost use Rattle.std.specs.Prelude.{◌≡◌, ◌≤◌, ◌∷◌, [], IfOk, IfErr, IsTrue};
 ghost use Rattle.sqlite_trees.specs.View.{doubt, IsClean};
 ghost use Rattle.sqlite.specs.State.{HasCleanDisk};
 ghost use Rattle.sqlite.specs.Held.{state};
 ghost use Rattle.rows_cell.specs.declared.tables.Rows.{Rows as Held};
 ghost use Rattle.rows_sql.specs.Held.{Says};
 ghost use Rattle.rows_sql.specs.Ready.{tables_of};
-ghost use Rattle.rows_sql.specs.Keeping.{noted, stood, IsLeft};
+ghost use Rattle.rows_cell.specs.Stores.{Loads, told};
+ghost use Rattle.rows_sql.specs.Keeping.{told_in, noted, stood, IsLeft};
 ghost use Rattle.rows_sql.specs.Adopting.{Adopts, ComesBack, IsOther, IsFull};
 
 use crate::adoption::{reopen, take_over};
@@ -15,7 +16,7 @@ use crate::steps::{goes_on, is_committed, load_sound};
 use names_cell::Component;
 use node_core::NUMBER_LIMIT;
 use plain::Items;
-use rows_cell::{Edit, Records, Rows, StoreFault};
+use rows_cell::{Edit, Records, Rows, StoreFault, is_sound};
 use settings_core::Settings;
 use sqlite::{Alter, Connection};
 use std::alloc::Global;
@@ -38,14 +39,16 @@ pub struct SqlRecords<S: Alter> {
     cell: Component,
     refusals: u64,
     is_shut: bool,
+    first: Option<Rows>,
     past: GhostLog<Note, Items<Edit>>,
 }
 
 impl<S: Alter> Model for SqlRecords<S> {
-    ghost use Rattle.std.specs.Prelude.{◌≤◌};
+    ghost use Rattle.std.specs.Prelude.{◌≡◌, ◌≤◌, Some};
     ghost use Rattle.sqlite_trees.specs.View.{doubt};
     ghost use Rattle.sqlite.specs.Held.{state};
     ghost use Rattle.node_core.specs.Limits.{number_limit};
+    ghost use Rattle.rows_cell.specs.declared.tables.Rows.{Rows as Held};
     ghost use Rattle.rows_cell.specs.Stores.{Store};
     ghost use Rattle.rows_sql.specs.Keeping.{stood, Keeps};
 
@@ -59,7 +62,7 @@ impl<S: Alter> Model for SqlRecords<S> {
       doubt = doubt (state S.Store s.conn).is_clean;
     } };
 
-    ghost invariant = { λ s. Keeps (state S.Store s.conn) s.is_shut (stood s.past.items).rows (stood s.past.items).left × (s.refusals ≤ number_limit) };
+    ghost invariant = { λ s. Keeps (state S.Store s.conn) s.is_shut (stood s.past.items).rows (stood s.past.items).left × (s.refusals ≤ number_limit) × ((rows : Held) → s.first ≡ Some rows → rows ≡ (stood s.past.items).rows) };
 }
 
 impl<S: Alter + Drop> Drop for SqlRecords<S> {
@@ -70,6 +73,7 @@ impl<S: Alter + Drop> Drop for SqlRecords<S> {
             cell: _,
             refusals: _,
             is_shut: _,
+            first: _,
             past: _,
         } = self;
     }
@@ -85,15 +89,27 @@ fn noted(
     past.and(note, change)
 }
 
-// The rows that were read.
-fn rows_in(note: Note) -> Result<Rows, StoreFault>
-    ensures { (rows : Held) → note ≡ Note.Read rows → result ≡ Ok rows }
+// The rows of a note, if there are any.
+fn rows_in(note: Note) -> Option<Rows>
+    ensures { result ≡ told_in note }
 {
     match note {
-        Note::Read(rows) => Ok(rows),
-        Note::Adopted(_rows) => Err(StoreFault::NoMemory),
-        Note::Done => Err(StoreFault::NoMemory),
-        Note::Tried => Err(StoreFault::NoMemory),
+        Note::Adopted(rows) | Note::Read(rows) => Some(rows),
+        Note::Done | Note::Tried => None,
+    }
+}
+
+impl<S: Alter> SqlRecords<S> {
+    // Gives rows that were read before, where a cell may have them.
+    fn give(&self, rows: Rows) -> Result<Rows, StoreFault>
+        requires { rows ≡ self.now.rows }
+        ensures { Loads self.now self.now (told result) }
+    {
+        if is_sound(self.alloc, &self.cell, &rows)? {
+            Ok(rows)
+        } else {
+            Err(StoreFault::Damaged)
+        }
     }
 }
 
@@ -102,6 +118,7 @@ impl<S: Alter> Records for SqlRecords<S> {
 
     ghost store = { λ s. s };
 
+    // The rows that were read as the database was taken over, once; from then on all are read.
     fn load(&mut self) -> Result<Rows, StoreFault> {
         if self.refusals == NUMBER_LIMIT {
             return Err(StoreFault::Exhausted);
@@ -110,13 +127,16 @@ impl<S: Alter> Records for SqlRecords<S> {
             self.refusals += 1;
             return Err(StoreFault::Refused);
         }
+        if let Some(rows) = self.first.take() {
+            return self.give(rows);
+        }
         match load_sound(self.alloc, &mut self.conn, &self.cell) {
             Ok(rows) => {
                 let none = Items::new(self.alloc);
                 let note = Note::Read(rows);
                 self.past = noted(&self.past, &note, &none);
                 drop(none);
-                rows_in(note)
+                rows_in(note).ok_or(StoreFault::NoMemory)
             }
             Err(StoreFault::Refused) => {
                 self.is_shut = !goes_on(self.alloc, &mut self.conn);
@@ -138,6 +158,7 @@ impl<S: Alter> Records for SqlRecords<S> {
             self.refusals += 1;
             return Err(StoreFault::Refused);
         }
+        self.first = None;
         if !is_committed(&mut self.conn, change) {
             self.past = noted(&self.past, &Note::Tried, change);
             self.is_shut = !goes_on(self.alloc, &mut self.conn);
@@ -196,6 +217,7 @@ impl<S: Alter + Drop> SqlRecords<S> {
                     cell,
                     refusals: 0,
                     is_shut: false,
+                    first: rows_in(note),
                     past,
                 })
             }
@@ -220,6 +242,7 @@ impl<S: Alter> SqlRecords<S> {
             cell: _,
             refusals: _,
             is_shut: _,
+            first: _,
             past: _,
         } = self;
         conn

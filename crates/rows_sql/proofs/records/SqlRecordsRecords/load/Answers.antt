@@ -1,4 +1,4 @@
-use Rattle.std.proofs.Common.{◌≡◌, Bool, refl, sym, subst, rules}
+use Rattle.std.proofs.Common.{◌≡◌, Ok, Bool, sym, subst, rules}
 use Rattle.sqlite_trees.specs.View.{doubt}
 use Rattle.sqlite.specs.Held.{state}
 use Rattle.rows_cell.specs.Stores.{Store, Loads, told}
@@ -18,10 +18,11 @@ returns-in-Ok g c =
     let st = stood c.self.inside.past.items in
     let keeps = subst (λ (b : Bool). Keeps (state g.S.Store old) b st.rows st.left) c.if-self.false c.self.invariant.0 in
     let same = same_rows g.S.Store old new st.rows st.left keeps c.in-Ok.rows c.load_sound.ensures.quiet c.in-Ok.ensures.rows in
-    let done : Loads (at cell st.rows st.left n d) (at cell c.in-Ok.rows st.left n e) (told c.rows_in.result) =
-    loads_read cell st.rows st.left n d e c.load_sound.ensures.quiet.clean c.in-Ok.rows c.rows_in.result (c.rows_in.ensures c.in-Ok.rows refl) c.in-Ok.ensures.sound same in
+    let given : c.ok_or.result ≡ Ok c.in-Ok.rows = search rules in
+    let done : Loads (at cell st.rows st.left n d) (at cell c.in-Ok.rows st.left n e) (told c.ok_or.result) =
+    loads_read cell st.rows st.left n d e c.load_sound.ensures.quiet.clean c.in-Ok.rows c.ok_or.result given c.in-Ok.ensures.sound same in
     let now = stood c.noted-self-inside.result.items in
-    let moved : Loads (at cell st.rows st.left n d) (at cell now.rows now.left n e) (told c.rows_in.result) =
-    subst (λ (t : Stood). Loads (at cell st.rows st.left n d) (at cell t.rows t.left n e) (told c.rows_in.result)) (sym c.noted-self-inside.ensures) done in
+    let moved : Loads (at cell st.rows st.left n d) (at cell now.rows now.left n e) (told c.ok_or.result) =
+    subst (λ (t : Stood). Loads (at cell st.rows st.left n d) (at cell t.rows t.left n e) (told c.ok_or.result)) (sym c.noted-self-inside.ensures) done in
     let view : at cell st.rows st.left n d ≡ c.args.self.now = search rules in
-    subst (λ (s : Store). Loads s (at cell now.rows now.left n e) (told c.rows_in.result)) view moved
+    subst (λ (s : Store). Loads s (at cell now.rows now.left n e) (told c.ok_or.result)) view moved
