@@ -100,6 +100,9 @@ uint32_t cell_client_beat(struct cell_client *client, uint64_t now);
  * SEND: the call is outstanding until its reply was given. SERVED: an Open, a read or a ReadDir out of the cache; the lines show the
  * view, of a directory with its children. DONE: the Close of a handle whose node stays open for others. Else a refusal: NOT_FOUND
  * and STALE_INSTANCE out of the cache, all others as above.
+ *
+ * A Leave ends the session. From then on the cache is empty and off, and each other call is NO_SESSION; go on beating. Behind "done C N ok"
+ * the session is over, and the cell waits for the client no more. Where that was refused, ask again.
  */
 uint32_t cell_client_ask(struct cell_client *client, uint64_t now, const uint8_t *call, size_t call_length);
 
@@ -148,7 +151,7 @@ uint32_t cell_client_again(struct cell_client *client, uint8_t *room, size_t roo
  */
 uint64_t cell_client_leased_until(struct cell_client *client);
 
-/* Closes the client and frees its memory. The cell learns nothing: the session ends when its lease has run out. */
+/* Closes the client and frees its memory. The cell learns nothing: a session that wasn't ended ends when its lease has run out. */
 void cell_client_close(struct cell_client client);
 
 #ifdef __cplusplus

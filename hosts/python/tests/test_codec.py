@@ -38,6 +38,7 @@ class Sent(unittest.TestCase):
             codec.start(1, 1, "ann"),
             codec.beat(1, 1, 2, 0, 0),
             codec.call(1, 1, 1, codec.opening("/ls/c/f", 3, made, 0, 0), None),
+            codec.call(1, 1, 2, bytes([codec.LEAVE]), None),
         ]
         self.assertEqual(blocks_to_server("PROTOCOL.md"), wanted)
 

@@ -142,7 +142,41 @@ class Coherence(WithServer):
         reader.close()
         begun = time.monotonic()
         writer.set(file, b"b")
+        self.assertLess(time.monotonic() - begun, 2)
+
+
+class Leaving(WithServer):
+    def test_what_a_client_that_is_closed_has_is_free_at_once(self):
+        first, second = self.client(), self.client("bob")
+        first.acquire(first.open("/ls/c/kept", "rw", make=b"", delay=60_000))
+        wanted = second.open("/ls/c/kept", "rw")
+        waiter = threading.Thread(target=second.acquire, args=(wanted,))
+        waiter.start()
+        time.sleep(0.2)
+        self.assertTrue(waiter.is_alive())
+        first.close()
+        waiter.join(2)
+        self.assertFalse(waiter.is_alive())
+        with self.assertRaises(ConnectionError):
+            first.open("/ls/c/kept")
+
+
+class Restarts(WithServer):
+    def test_a_server_waits_for_no_client_that_left(self):
+        Client(self.server.address, "ann").close()
+        self.server.stop()
+        begun = time.monotonic()
+        self.server.start()
+        self.client().open(NAME, "rw", make=b"")
         self.assertLess(time.monotonic() - begun, 5)
+
+    def test_a_client_that_nobody_answers_is_closed_all_the_same(self):
+        client = self.client()
+        self.server.stop(signal.SIGKILL)
+        begun = time.monotonic()
+        client.close()
+        self.assertLess(time.monotonic() - begun, 5)
+        self.server.start()
 
 
 class Locks(WithServer):

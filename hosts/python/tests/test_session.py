@@ -157,6 +157,42 @@ class Refusals(unittest.TestCase):
         self.assertIsNone(waiting.ends)
 
 
+class Leaving(unittest.TestCase):
+    def test_nothing_is_kept_or_served_from_then_on(self):
+        session = live()
+        read(session, 1020)
+        session.leave()
+        self.assertEqual((session.cache, session.enabled), ({}, False))
+        session.beat(2000)
+        session.give(2010, message(codec.ALIVE, 2, span=12_000))
+        self.assertEqual((session.lease, session.enabled, session.state), ((2000, 12_000), False, "live"))
+
+    def test_a_better_lease_ends_its_jeopardy(self):
+        session = live()
+        session.leave()
+        session.beat(13_000)
+        session.note(13_000)
+        told = session.give(13_010, message(codec.ALIVE, 2, span=12_000))
+        self.assertEqual([event.kind for event in told], ["safe"])
+        self.assertEqual((session.enabled, session.jeopardy), (False, None))
+
+    def test_its_end(self):
+        rows = [
+            (message(codec.REPLY, 1, result=None), "left", (None, None)),
+            (message(codec.REPLY, 1, result=Refusal(29)), "live", (Refusal(29), None)),
+            (message(codec.REFUSED, 1, result=Refusal(19)), "lost", (Refusal(31), None)),
+            (message(codec.REFUSED, 1, result=Refusal(28, 6)), "live", (Refusal(34), None)),
+        ]
+        for given, state, ends in rows:
+            session = live()
+            waiting = session.leave()
+            session.give(1030, given)
+            self.assertEqual((session.state, session.enabled, waiting.ends), (state, False, ends), given)
+        again = session.leave()
+        session.give(1040, message(codec.REPLY, 2, epoch=6, result=None))
+        self.assertEqual((again.number, session.state), (2, "left"))
+
+
 class Schedules(unittest.TestCase):
     def test_no_beat_while_an_answer_may_be_on_its_way(self):
         schedule = Schedule()

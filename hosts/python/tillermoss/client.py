@@ -17,6 +17,10 @@ EVENT_LETTERS = {"m": 1, "d": 2, "l": 4, "x": 8}
 STALE_INSTANCE, BUSY, RECOVERING, IN_JEOPARDY = 14, 22, 29, 30
 # Between two tries to connect, at first and at most, in seconds.
 PAUSES = 0.02, 0.5
+# Between two tries of a call that is refused for now.
+PAUSE = 0.05
+# So long at most a client that is closed waits until its session has ended.
+PARTING = 2.0
 
 
 class Refused(Exception):
@@ -77,17 +81,34 @@ class Client:
         self.close()
 
     def close(self) -> None:
-        """Ends it. The server acknowledges for it from then on what its master asks back, so no write waits for its cache."""
+        """Ends its session, and waits for that for 2 seconds at most: its locks are free then, its ephemeral nodes go, and nothing waits
+        for its cache. Where no master answers by then, or another call is under way for so long, the session ends with its lease."""
+        ends = time.monotonic() + PARTING
+        if self.calling.acquire(timeout=PARTING):
+            try:
+                while self.leave_once(ends):
+                    time.sleep(PAUSE)
+            finally:
+                self.calling.release()
         with self.changed:
-            block = self.session.last_beat() if self.fault is None else None
             self.fault = self.fault or ConnectionError("the client is closed")
-            if block:
-                self.send(block)
             if self.connection:
                 self.connection.end()
             self.session.end((Refusal(EXPIRED), None))
             self.changed.notify_all()
         self.keeper.join(2.0)
+
+    def leave_once(self, ends: float) -> bool:
+        """Asks for the end of the session, and waits until that moment; whether it is to be asked for again."""
+        with self.changed:
+            self.tell(self.session.note(now()))
+            if self.fault or self.session.state != "live" or time.monotonic() >= ends:
+                return False
+            if self.session.jeopardy is None:
+                waiting = self.session.leave()
+                self.send(waiting.block)
+                self.changed.wait_for(lambda: waiting.ends, ends - time.monotonic())
+            return self.session.state == "live"
 
     # ---- the keeper's thread
 
@@ -207,7 +228,7 @@ class Client:
     def check(self) -> None:
         if self.fault:
             raise self.fault
-        if self.session.state != "live":
+        if self.session.state != "live" or self.session.leaving:
             raise Refused(Refusal(EXPIRED if self.session.state == "lost" else NO_SESSION))
         if self.session.jeopardy is not None:
             raise Refused(Refusal(IN_JEOPARDY))
@@ -222,7 +243,7 @@ class Client:
             except Refused as why:
                 if why.limit or why.refusal.number not in for_now or time.monotonic() >= ends:
                     raise
-                time.sleep(0.05)
+                time.sleep(PAUSE)
 
     def call_once(self, body: bytes, handle: Optional[Handle], name: Optional[str], sequencer: Optional[bytes]) -> object:
         with self.calling, self.changed:

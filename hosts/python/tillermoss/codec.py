@@ -6,9 +6,10 @@ from typing import NamedTuple, Optional
 
 VERSION = 2
 GREETING = 1
-START, BEAT, CALL, LAST_BEAT = range(4)
+START, BEAT, CALL = range(3)
 STARTED, ALIVE, REPLY, REFUSED, NOTICE = range(5)
-OPEN, CLOSE, READ, STAT, LIST, SET, SET_ACL, DELETE, ACQUIRE, TRY_ACQUIRE, RELEASE, GET_SEQUENCER, SET_SEQUENCER, CHECK_SEQUENCER = range(14)
+OPEN, CLOSE, READ, STAT, LIST, SET, SET_ACL, DELETE, ACQUIRE, TRY_ACQUIRE = range(10)
+RELEASE, GET_SEQUENCER, SET_SEQUENCER, CHECK_SEQUENCER, LEAVE = range(10, 15)
 
 REFUSALS = (
     "NoMemory BadName OtherCell BadPrincipal BadAcl NotFound Exists WrongKind NotEmpty Denied WrongGeneration TooLarge Exhausted "
@@ -187,9 +188,8 @@ def start(client: int, number: int, principal: str) -> bytes:
     return bytes([VERSION, START]) + word(client) + word(number) + text(principal)
 
 
-def beat(client: int, epoch: int, number: int, invalidations: int, events: int, is_last: bool = False) -> bytes:
-    head = bytes([VERSION, LAST_BEAT if is_last else BEAT])
-    return head + b"".join(map(word, (client, epoch, number, invalidations, events)))
+def beat(client: int, epoch: int, number: int, invalidations: int, events: int) -> bytes:
+    return bytes([VERSION, BEAT]) + b"".join(map(word, (client, epoch, number, invalidations, events)))
 
 
 def call(client: int, epoch: int, number: int, body: bytes, sequencer: Optional[bytes]) -> bytes:

@@ -39,6 +39,7 @@ class Session:
         self.processed, self.heard = 0, 0
         self.lease, self.jeopardy = (0, 0), None
         self.enabled, self.cache = False, {}
+        self.leaving = False
         self.waiting: Optional[Waiting] = None
 
     def note(self, moment: int) -> list:
@@ -74,12 +75,6 @@ class Session:
             return codec.start(self.client, self.beats, self.principal)
         return codec.beat(self.client, self.epoch, self.beats, self.processed, self.heard)
 
-    def last_beat(self) -> Optional[bytes]:
-        if self.state != "live":
-            return None
-        self.cache.clear()
-        return codec.beat(self.client, self.epoch, self.beats + 1, self.processed, self.heard, is_last=True)
-
     def cached(self, moment: int, name: str) -> tuple:
         """Whether the cache answers for this name, and what: a view, or None where it isn't there."""
         is_served = self.enabled and moment < leased_until(self.lease) and name in self.cache
@@ -90,6 +85,12 @@ class Session:
         block = codec.call(self.client, self.epoch, self.calls, body, sequencer)
         self.waiting = Waiting(self.calls, block, name, teaches_absence)
         return self.waiting
+
+    def leave(self) -> Waiting:
+        """Asks for the end of the session. Before that goes out the cache is emptied and turned off, for good; nothing else is asked."""
+        self.leaving, self.enabled = True, False
+        self.cache.clear()
+        return self.ask(bytes([codec.LEAVE]), None, None, False)
 
     def give(self, moment: int, message: codec.Message) -> list:
         """Takes a message of a master; gives the events that it tells of."""
@@ -106,11 +107,13 @@ class Session:
         return []
 
     def take_lease(self, moment: int, lease: tuple) -> bool:
+        """Whether it runs."""
         self.lease = lease
-        self.enabled = moment < leased_until(lease)
+        runs = moment < leased_until(lease)
+        self.enabled = runs and not self.leaving
         if not self.enabled:
             self.cache.clear()
-        return self.enabled
+        return runs
 
     def alive(self, moment: int, message: codec.Message) -> list:
         if self.state != "live" or message.epoch != self.epoch:
@@ -134,6 +137,8 @@ class Session:
             return []
         if message.stamp is not None and self.processed <= message.stamp and self.enabled and self.jeopardy is None:
             self.learn(call, message.result)
+        if self.leaving and message.result is None:
+            self.state = "left"
         self.end((message.result, call.limit))
         return []
 

@@ -2,7 +2,7 @@
 
 use crate::fields::Fields;
 use crate::messages::VERSION;
-use crate::messages::of_client::{LAST_BEAT, START};
+use crate::messages::of_client::{CALL, START};
 
 /// What stands at the front of a client's message, and of a Start all that it has.
 #[derive(Clone, Debug, PartialEq, Eq)]
@@ -20,7 +20,7 @@ impl<'a> Head<'a> {
     pub fn read(bytes: &'a [u8]) -> Option<Head<'a>> {
         let mut fields = Fields(bytes);
         let (version, kind) = (fields.byte()?, fields.byte()?);
-        if version != VERSION || kind > LAST_BEAT {
+        if version != VERSION || kind > CALL {
             return None;
         }
         let client = fields.word()?;
@@ -60,8 +60,7 @@ mod tests {
             (BEAT, Some((7, None))),
             (b"\x02\x02\0\0\0\0\0\0\0\x09", Some((9, None))),
             (b"\x01\x01\0\0\0\0\0\0\0\x07", None),
-            (b"\x02\x03\0\0\0\0\0\0\0\x07", Some((7, None))),
-            (b"\x02\x04\0\0\0\0\0\0\0\x07", None),
+            (b"\x02\x03\0\0\0\0\0\0\0\x07", None),
             (b"\x02\x01\0\0\0\0\0\0\0", None),
             (&START_OF_ANN[..24], None),
             (b"", None),

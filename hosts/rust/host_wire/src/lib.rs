@@ -2,8 +2,7 @@
 //!
 //! A stream is blocks, each behind its length in four bytes, big-endian. The first block each way greets: the client says who it
 //! is ([`Hello`]), the server which number the connection is bound to ([`Welcome`]). Every later block is one message between
-//! client and master, its bytes as `docs/FORMATS.md` lays them out; the last Beat of a client that is closed is marked
-//! ([`Estate`]), and a server that doesn't hand a call on says why ([`Notice`]).
+//! client and master, its bytes as `docs/FORMATS.md` lays them out; and a server that doesn't hand a call on says why ([`Notice`]).
 
 mod addresses;
 mod blocks;
@@ -14,7 +13,6 @@ mod heads;
 pub mod messages;
 mod names;
 mod notices;
-mod partings;
 mod shown;
 
 pub use addresses::{Address, NoAddress};
@@ -25,7 +23,6 @@ pub use greetings::{GREETING_LIMIT, Hello, Malformed, TurnedAway, Welcome};
 pub use heads::{Head, is_component};
 pub use names::common_name;
 pub use notices::{Notice, write_store_refused};
-pub use partings::{Estate, write_parting};
 pub use shown::{LockShown, NodeShown, SessionShown, Shown, Status, WaitShown};
 
 /// The longest block that a client sends, in bytes: a frame that carries it to the master has at most 1,048,576, ten of them

@@ -13,8 +13,6 @@ pub mod of_client {
     pub const BEAT: u8 = 1;
     /// A call.
     pub const CALL: u8 = 2;
-    /// In the place of a Beat's kind: it is the last one of a client that is closed. Its server reads that, no master does.
-    pub const LAST_BEAT: u8 = 3;
 }
 
 /// The kinds of a master's messages.

@@ -1,6 +1,6 @@
 //! Whatever bytes come: they are read as what they are, or as nothing.
 
-use host_wire::{Blocks, Deed, Estate, Head, Hello, Notice, TurnedAway, Welcome, common_name, ended_call, framed, is_component};
+use host_wire::{Blocks, Deed, Head, Hello, Notice, TurnedAway, Welcome, common_name, ended_call, framed, is_component};
 use proptest::collection::vec;
 use proptest::prelude::*;
 
@@ -19,9 +19,6 @@ proptest! {
         }
         if let Ok(welcome) = Welcome::read(&bytes) {
             prop_assert_eq!(Welcome::write(&welcome), bytes.clone());
-        }
-        if let Some(estate) = Estate::read(&bytes) {
-            prop_assert_eq!(&estate.beat()[2..], &bytes[2..]);
         }
         if let Some(deed) = Deed::read(&bytes) {
             prop_assert_eq!(Head::read(&bytes).map(|head| head.client), Some(deed.client));

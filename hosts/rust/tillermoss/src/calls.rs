@@ -113,6 +113,7 @@ pub enum Call<'a> {
     GetSequencer(u64),
     SetSequencer(u64, &'a [u8]),
     CheckSequencer(&'a [u8]),
+    Leave,
 }
 
 /// Bytes that are written field by field.
@@ -197,6 +198,7 @@ impl Call<'_> {
             Call::GetSequencer(_) => 11,
             Call::SetSequencer(..) => 12,
             Call::CheckSequencer(_) => 13,
+            Call::Leave => 14,
         }
     }
 
@@ -223,6 +225,7 @@ impl Call<'_> {
             Call::Release(handle) | Call::GetSequencer(handle) | Call::SetSequencer(handle, _) => out.handle(handle),
             Call::Acquire(handle, mode) | Call::TryAcquire(handle, mode) => out.lock(handle, mode),
             Call::CheckSequencer(sequencer) => out.bytes(sequencer),
+            Call::Leave => {}
             Call::Set(handle, content, generation) => {
                 out.handle(handle);
                 out.bytes(content);
@@ -294,6 +297,7 @@ mod tests {
             (Call::GetSequencer(3), format!("0b {HANDLE_3} 00")),
             (Call::SetSequencer(3, b"\xcd"), format!("0c {HANDLE_3} 01 00000001 cd")),
             (Call::CheckSequencer(b"\xcd"), "0d 00000001 cd 00".to_owned()),
+            (Call::Leave, "0e 00".to_owned()),
         ];
         for (call, wanted) in rows {
             assert_eq!(call.write(), bytes_of(&format!("{HEAD}{wanted}")), "{call:?}");

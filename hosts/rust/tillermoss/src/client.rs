@@ -1,7 +1,7 @@
 //! A client that keeps its session by itself.
 
 use crate::calls::{Call, Create, Opening};
-use crate::core::{Core, Reply, Standing, State, Tried};
+use crate::core::{Core, End, Reply, Standing, State, Tried};
 use crate::errors::Error;
 use crate::events::{Event, Events};
 use crate::keeper::{Keeper, greet_any};
@@ -13,13 +13,16 @@ use crate::refusals::Refusal;
 use host_wire::{Hello, Welcome};
 use std::path::PathBuf;
 use std::sync::Arc;
-use std::sync::mpsc::{Receiver, Sender, channel};
+use std::sync::mpsc::{Receiver, RecvTimeoutError, Sender, channel};
 use std::thread;
 use std::time::{Duration, Instant};
 use tokio::runtime::Builder;
 
 /// So long between two tries of a call that was refused for now.
 const PAUSE: Duration = Duration::from_millis(50);
+
+/// So long at most a client that is dropped waits until its session has ended.
+const PARTING: Duration = Duration::from_secs(2);
 
 /// How a client is connected.
 ///
@@ -101,8 +104,9 @@ pub struct Watch {
 
 /// A client of a cell (Burrows 2006, section 2): a session that a thread keeps, and a cache that answers what the master would.
 ///
-/// One call at a time waits for the master, others behind it; what the cache answers doesn't wait. A client that is dropped lets
-/// go of what it cached; but its session ends only when its lease has run out, and with it its locks and ephemeral nodes go.
+/// One call at a time waits for the master, others behind it; what the cache answers doesn't wait. A client that is dropped ends its
+/// session as [`leave`](Client::leave) does, and waits for that for 2 s at most. Where no master answers within them, or one of its
+/// calls that was poisoned waits still, the session ends when its lease has run out, as that of a program that is killed.
 ///
 /// ```
 /// # trials::with_client(|client| {
@@ -196,6 +200,79 @@ impl Client {
     #[must_use]
     pub fn is_lost(&self) -> bool {
         self.core.lock().standing() == Standing::Lost
+    }
+
+    /// Ends the session in order. First the cache is emptied; then the master ends what the client held, at once and without a
+    /// lock-delay: its locks are free for who waits, its ephemeral nodes go, and no write and no new master waits for it.
+    ///
+    /// ```
+    /// # let server = trials::server_of_its_own();
+    /// # let address = server.address.as_str();
+    /// # use tillermoss::*;
+    /// let client = Client::connect(&Options::new(address, "ann"))?;
+    /// client.acquire(client.create("/ls/c/f", b"")?, LockMode::Exclusive)?;
+    /// client.leave()?;
+    /// let other = Client::connect(&Options::new(address, "bob"))?;
+    /// other.try_acquire(other.open("/ls/c/f", Mode::WRITE)?, LockMode::Exclusive)?;
+    /// # Ok::<(), Error>(())
+    /// ```
+    ///
+    /// # Errors
+    ///
+    /// `SessionExpired` where the session was lost before. `Unavailable` where no master has ended it for as long as the client has
+    /// patience, `CallOutstanding` where one of its calls that was poisoned waited for so long: then the client is closed all the same,
+    /// and its session ends when its lease has run out.
+    pub fn leave(self) -> Result<(), Error> {
+        self.part(self.patience)
+    }
+
+    // Whatever comes of that, the connection ends.
+    fn part(&self, most: Duration) -> Result<(), Error> {
+        let parted = self.end_session(Instant::now() + most);
+        self.core.end(End::Closed);
+        parted
+    }
+
+    // (of a client that hasn't heard of its session nobody knows whether there is one)
+    fn end_session(&self, until: Instant) -> Result<(), Error> {
+        loop {
+            let mut state = self.core.lock();
+            if state.standing() == Standing::Unstarted {
+                return Err(Error::Unavailable);
+            }
+            let refusal = match state.call(&Call::Leave, None)? {
+                Tried::Sent(reply) => {
+                    drop(state);
+                    match self.parted(&reply, until)? {
+                        None => return Ok(()),
+                        Some(refusal) => refusal,
+                    }
+                }
+                Tried::NotNow(refusal) => {
+                    drop(self.core.wait(state));
+                    refusal
+                }
+                other => return Err(Error::Malformed(format!("an answer to another call: {other:?}"))),
+            };
+            if Instant::now() >= until {
+                return Err(refusal.into());
+            }
+        }
+    }
+
+    // None where the session is over; or the refusal behind which that may be asked for again. Where the reply got lost the next answer
+    // is that there is no session.
+    fn parted(&self, reply: &Receiver<Result<Reply, Error>>, until: Instant) -> Result<Option<Refusal>, Error> {
+        match reply.recv_timeout(until.saturating_duration_since(Instant::now())) {
+            Ok(Ok(_) | Err(Error::Refused(Refusal::SessionExpired))) => Ok(None),
+            Ok(Err(Error::Refused(refusal))) if is_for_now(refusal, true) => {
+                thread::sleep(PAUSE);
+                Ok(Some(refusal))
+            }
+            Ok(Err(error)) => Err(error),
+            Err(RecvTimeoutError::Timeout) => Err(Error::Unavailable),
+            Err(RecvTimeoutError::Disconnected) => Err(self.core.lock().fault().unwrap_or(Error::Closed)),
+        }
     }
 
     // Makes a call, again while it is refused for now, and one that only reads also where its outcome got lost. None where the
@@ -688,7 +765,8 @@ impl Client {
 
 impl Drop for Client {
     fn drop(&mut self) {
-        self.core.close();
+        // (where it can't leave its session ends when its lease has run out)
+        let _ = self.part(PARTING);
     }
 }
 

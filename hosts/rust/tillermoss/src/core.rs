@@ -8,17 +8,14 @@ use crate::library::{Library, Status};
 use crate::lines::{Answer, Line, Shown};
 use crate::refusals::Refusal;
 use host_wire::messages::number_of_client;
-use host_wire::{Notice, TurnedAway, write_parting};
+use host_wire::{Notice, TurnedAway};
 use std::sync::mpsc::{Receiver, Sender, channel};
 use std::sync::{Condvar, Mutex, MutexGuard, PoisonError};
-use std::time::{Duration, Instant};
+use std::time::Duration;
 use tokio::sync::mpsc::UnboundedSender;
 
 /// So long at most who waits for a change doesn't look again.
 const LOOK: Duration = Duration::from_millis(50);
-
-/// So long at most a client that is closed waits until its last Beat is written.
-const PARTING: Duration = Duration::from_secs(1);
 
 /// How a call ended.
 #[derive(Debug)]
@@ -82,7 +79,6 @@ struct Watcher {
 pub struct State {
     library: Library,
     outgoing: Option<UnboundedSender<Vec<u8>>>,
-    is_writing: bool,
     notice: Option<Notice>,
     waiter: Option<Sender<Result<Reply, Error>>>,
     new_watcher: Option<Sender<Event>>,
@@ -104,7 +100,6 @@ impl Core {
         let state = State {
             library,
             outgoing: None,
-            is_writing: false,
             notice: None,
             waiter: None,
             new_watcher: None,
@@ -137,19 +132,6 @@ impl Core {
         state.disconnect();
         self.tell();
     }
-
-    /// The client is closed. Its server is told by its last Beat, for which it waits a little.
-    pub fn close(&self) {
-        let mut state = self.lock();
-        state.part();
-        state.end(End::Closed);
-        let begun = Instant::now();
-        while state.is_writing && begun.elapsed() < PARTING {
-            state = self.wait(state);
-        }
-        drop(state);
-        self.tell();
-    }
 }
 
 impl State {
@@ -174,7 +156,6 @@ impl State {
     /// From here on messages go this way. A Beat goes first, and the outstanding call again.
     pub fn connect(&mut self, outgoing: UnboundedSender<Vec<u8>>) {
         self.outgoing = Some(outgoing);
-        self.is_writing = true;
     }
 
     fn end(&mut self, end: End) {
@@ -183,19 +164,9 @@ impl State {
         self.watchers.clear();
     }
 
-    // The last Beat goes, behind which the writer ends.
-    fn part(&mut self) {
-        if self.library.beat(clock::now()) == Status::Send {
-            let beat = self.library.message();
-            self.send(beat.as_deref().and_then(write_parting));
-        }
-        self.outgoing = None;
-    }
-
     /// The connection is gone.
     pub fn disconnect(&mut self) {
         self.outgoing = None;
-        self.is_writing = false;
     }
 
     // Without a connection a message is lost, and goes again with the next one.

@@ -228,7 +228,7 @@ impl Keeper {
                 self.reach.turn(None);
                 return Err(ErrorKind::TimedOut.into());
             }
-            // (of a client that is closed the last Beat is written first)
+            // (a client that is closed beats no more)
             if self.core.lock().goes_on() && clock::now() >= schedule.due {
                 schedule = self.beat(!schedule.is_answered, &schedule);
             }

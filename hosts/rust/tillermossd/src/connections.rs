@@ -11,9 +11,7 @@ use crate::rates::Rate;
 use crate::routes::Routes;
 use crate::settings::Limits;
 use anyhow::Result;
-use host_wire::{
-    Blocks, Deed, Estate, GREETING_LIMIT, Head, Hello, Notice, REQUEST_LIMIT, TurnedAway, Welcome, framed, write_store_refused,
-};
+use host_wire::{Blocks, Deed, GREETING_LIMIT, Head, Hello, Notice, REQUEST_LIMIT, TurnedAway, Welcome, framed, write_store_refused};
 use std::collections::HashMap;
 use std::io;
 use std::sync::{Arc, Mutex, MutexGuard, PoisonError, RwLock};
@@ -298,14 +296,8 @@ impl Hall {
             if !self.routes.is_bound(bound.client, binding) {
                 return Some("its client has a later one");
             }
-            let estate = Estate::read(&block);
-            let bytes = estate.as_ref().map_or(block, Estate::beat);
-            if let Some(estate) = estate {
-                self.routes.unbind(bound.client, binding);
-                self.routes.leave(estate);
-            }
-            if self.is_let_in(&bytes, bound, outgoing) {
-                self.lines.push(Message { client: bound.client, principal: bound.principal.clone(), bytes, place: Some(place) });
+            if self.is_let_in(&block, bound, outgoing) {
+                self.lines.push(Message { client: bound.client, principal: bound.principal.clone(), bytes: block, place });
             }
         }
     }

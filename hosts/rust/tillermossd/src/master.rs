@@ -226,11 +226,6 @@ fn follow(hall: &Hall, line: &str, from: Option<&(u64, Arc<str>)>) {
         "started" | "ended" => debug!(client = second, principal = principal.map(|principal| &**principal), "a session {first}"),
         _ => {}
     }
-    if first == "ended"
-        && let Ok(client) = second.parse()
-    {
-        hall.routes.forget(client);
-    }
     // (a session may begin later than its Start came, where the store refused meanwhile)
     let starter = second.parse().ok().filter(|_| first == "started").and_then(|client| hall.routes.principal(client));
     hall.picture().follow(line, starter.as_ref().or(principal));
@@ -393,10 +388,7 @@ impl Master {
             self.hall.metrics.refused(number);
         }
         drop(picture);
-        if let Some(bytes) = self.hall.routes.send(client, message) {
-            let principal = self.hall.picture().sessions.get(&client).map_or_else(|| "".into(), |session| session.principal.clone());
-            self.hall.lines.push(Message { client, principal, bytes, place: None });
-        }
+        self.hall.routes.send(client, message);
     }
 
     // A copy is taken once no frame is out: nothing is written meanwhile.

@@ -1,11 +1,10 @@
 //! Over which connection a client is reached.
 
 use crate::outgoing::Outgoing;
-use host_wire::Estate;
 use std::collections::HashMap;
 use std::sync::{Arc, Mutex, MutexGuard, PoisonError};
 
-/// The connection of each client that has one, and what those left that are closed.
+/// The connection of each client that has one.
 #[derive(Debug, Default)]
 pub struct Routes(Mutex<Table>);
 
@@ -13,7 +12,6 @@ pub struct Routes(Mutex<Table>);
 struct Table {
     bound: u64,
     open: HashMap<u64, (u64, Arc<Outgoing>)>,
-    left: HashMap<u64, Estate>,
 }
 
 impl Routes {
@@ -28,7 +26,6 @@ impl Routes {
         outgoing.send(first);
         table.bound += 1;
         let binding = table.bound;
-        table.left.remove(&client);
         if let Some((_, old)) = table.open.insert(client, (binding, outgoing)) {
             old.cut("its client has a later one");
         }
@@ -60,25 +57,11 @@ impl Routes {
         self.table().open.get(&client).map(|(_, outgoing)| outgoing.principal.clone())
     }
 
-    /// The client is closed, and left this.
-    pub fn leave(&self, estate: Estate) {
-        self.table().left.insert(estate.client(), estate);
-    }
-
-    /// The client's session has ended: nothing is to be acknowledged for it any more.
-    pub fn forget(&self, client: u64) {
-        self.table().left.remove(&client);
-    }
-
-    /// Sends a message to a client. One that has no connection doesn't get it, as if it were lost; for one that is closed the answer
-    /// to its master is given.
-    pub fn send(&self, client: u64, message: Vec<u8>) -> Option<Vec<u8>> {
-        let mut table = self.table();
-        if let Some((_, outgoing)) = table.open.get(&client) {
+    /// Sends a message to a client. One that has no connection doesn't get it, as if it were lost.
+    pub fn send(&self, client: u64, message: Vec<u8>) {
+        if let Some((_, outgoing)) = self.table().open.get(&client) {
             outgoing.send(message);
-            return None;
         }
-        table.left.get_mut(&client)?.answer(&message)
     }
 }
 
@@ -107,30 +90,13 @@ mod tests {
         assert!(!routes.is_bound(7, first));
         routes.unbind(7, first);
         assert!(routes.is_bound(7, second));
-        assert_eq!(routes.send(8, b"lost".to_vec()), None);
-        assert_eq!(routes.send(7, b"here".to_vec()), None);
+        routes.send(8, b"lost".to_vec());
+        routes.send(7, b"here".to_vec());
         assert_eq!(blocks.next_of(&mut new).await.unwrap(), Some(b"here".to_vec()));
         routes.send_to_all(b"all");
         assert_eq!(blocks.next_of(&mut new).await.unwrap(), Some(b"all".to_vec()));
         assert_eq!(Blocks::new(9).next_of(&mut old).await.unwrap(), None);
         routes.unbind(7, second);
         assert!(!routes.is_bound(7, second));
-    }
-
-    #[tokio::test]
-    async fn what_is_asked_back_of_a_closed_client_is_acknowledged() {
-        let words = |kind: u8, words: [u64; 5]| [vec![2, kind], words.map(u64::to_be_bytes).concat()].concat();
-        let alive =
-            [words(1, [7, 2, 5, 12_000, 1])[..34].to_vec(), b"\0\0\0\x01\0\0\0\0\0\0\0\x04\0\0\0\x05/ls/c\0\0\0\0".to_vec()].concat();
-        let routes = Routes::default();
-        let leave = || routes.leave(Estate::read(&words(3, [7, 2, 5, 3, 1])).unwrap());
-        leave();
-        assert_eq!(routes.send(7, alive.clone()), Some(words(1, [7, 2, 6, 4, 1])));
-        leave();
-        routes.forget(7);
-        assert_eq!(routes.send(7, alive.clone()), None);
-        leave();
-        let (_binding, _stream) = bound(&routes, 7, b"");
-        assert_eq!(routes.send(7, alive), None);
     }
 }

@@ -116,6 +116,27 @@ pub fn fail_over(clients: usize, one_way: Duration, looked_at: Duration) -> Resu
     Ok(noticed)
 }
 
+/// How long after its start a server answers the first call of a new client, where so many clients, who held locks and cached files,
+/// have all left the one before it, which went by SIGTERM.
+///
+/// # Errors
+///
+/// As `fail_over`.
+pub fn start_behind_clients_that_left(clients: usize) -> Result<Duration, Error> {
+    let folder = folder("left");
+    let mut server = Start::new(&folder.join("store.db")).start()?;
+    for guest in come(&server.address, clients)? {
+        guest.client.leave()?;
+    }
+    server.kill(Kill::InOrder)?;
+    let begun = Instant::now();
+    let again = Start::new(&folder.join("store.db")).with(&[&server.address]).start()?;
+    Client::connect(&Options::new(&again.address, "bob"))?.create("/ls/c/f", b"")?;
+    let answered = begun.elapsed();
+    std::fs::remove_dir_all(folder)?;
+    Ok(answered)
+}
+
 // Beats until it is over, and acknowledges nothing. What the master sends is read, or the connection would be cut off.
 fn beat_on(mut connection: Plain, client: u64, epoch: u64, is_over: &AtomicBool) -> io::Result<()> {
     let mut heard = connection.stream.try_clone()?;

@@ -12,7 +12,7 @@ mod servers;
 mod workers;
 
 pub use calls::{ask, call, forged, handle, open_call, read_call, set_call};
-pub use fail_overs::{Noticed, fail_over, write_beside_one_that_keeps, write_beside_one_that_stays_behind};
+pub use fail_overs::{Noticed, fail_over, start_behind_clients_that_left, write_beside_one_that_keeps, write_beside_one_that_stays_behind};
 pub use far::far_from;
 pub use history::{Read, Write, check_history};
 pub use holds::{Hold, check_holds};

@@ -3,7 +3,7 @@
 use std::path::PathBuf;
 use std::time::{Duration, Instant};
 use tillermoss::{Client, Create, Error, Event, Events, Handle, Kind, Life, LockMode, Mode, Opening, Options, Refusal, Right};
-use trials::{Plain, Server, ask, call, folder, handle, open_call, read_call};
+use trials::{Kill, Plain, Server, ask, call, folder, handle, open_call, read_call};
 
 const BOTH: Mode = Mode::READ.and(Mode::WRITE);
 
@@ -134,10 +134,13 @@ fn a_listing_is_served_until_a_node_comes_or_goes() {
     assert_eq!((view.children, view.is_served), (vec![], true));
 }
 
-// (a session ends 12 s after its last Beat was answered)
+// So long whatever waits for a client that left waits at most; a session that isn't ended lasts 12 s behind its last Beat that was
+// answered.
+const SOON: Duration = Duration::from_secs(2);
+
 #[test]
-fn a_closed_client_lets_no_write_wait() {
-    let cell = Cell::new("closed");
+fn a_client_that_is_dropped_lets_no_write_wait() {
+    let cell = Cell::new("dropped");
     let other = cell.client("bob");
     let file = other.create("/ls/c/f", b"old").unwrap();
     let client = cell.client("ann");
@@ -145,7 +148,73 @@ fn a_closed_client_lets_no_write_wait() {
     drop(client);
     let begun = Instant::now();
     other.set(file, b"new", None).unwrap();
-    assert!(begun.elapsed() < Duration::from_secs(6), "{:?}", begun.elapsed());
+    assert!(begun.elapsed() < SOON, "{:?}", begun.elapsed());
+}
+
+#[test]
+fn what_one_who_leaves_has_is_free_at_once() {
+    let cell = Cell::new("left");
+    let (client, other) = (cell.client("ann"), cell.client("bob"));
+    let create = Create { content: Some(Vec::new()), ..Create::default() };
+    let opening = Opening { create: Some(create), lock_delay: 60_000, ..Opening::new("/ls/c/f", BOTH) };
+    client.acquire(client.open_with(&opening).unwrap(), LockMode::Exclusive).unwrap();
+    let wanted = other.open("/ls/c/f", Mode::WRITE).unwrap();
+    std::thread::scope(|scope| {
+        let waiting = scope.spawn(|| other.acquire(wanted, LockMode::Exclusive));
+        std::thread::sleep(Duration::from_millis(300));
+        assert!(!waiting.is_finished());
+        let begun = Instant::now();
+        client.leave().unwrap();
+        waiting.join().unwrap().unwrap();
+        assert!(begun.elapsed() < SOON, "{:?}", begun.elapsed());
+    });
+}
+
+// (for 60 s behind a start no ephemeral file goes)
+#[test]
+fn an_ephemeral_file_goes_with_one_who_leaves() {
+    let cell = Cell::new("gone");
+    let begun = Instant::now();
+    let (client, other) = (cell.client("ann"), cell.client("bob"));
+    let create = Create { content: Some(Vec::new()), life: Life::Ephemeral, ..Create::default() };
+    client.open_with(&Opening { create: Some(create), ..Opening::new("/ls/c/f", BOTH) }).unwrap();
+    let above = other.open("/ls/c", Mode::READ).unwrap();
+    let is_there = || other.list(above).unwrap().contains(&"f".to_owned());
+    assert!(is_there());
+    std::thread::sleep(Duration::from_secs(61).saturating_sub(begun.elapsed()));
+    client.leave().unwrap();
+    let begun = Instant::now();
+    while is_there() {
+        assert!(begun.elapsed() < SOON, "{:?}", begun.elapsed());
+    }
+}
+
+#[test]
+fn one_that_is_killed_is_waited_for_until_its_time_is_up() {
+    let cell = Cell::new("killed");
+    let client = cell.client("ann");
+    let file = client.create("/ls/c/f", b"old").unwrap();
+    let (mut other, number, epoch) = Plain::begin(cell.server.place(), "bob").unwrap();
+    let opened = ask(&mut other, &call(number, epoch, 1, &open_call("/ls/c/f", b""))).unwrap();
+    assert_eq!(ask(&mut other, &call(number, epoch, 2, &read_call(&handle(&opened).unwrap()))).unwrap()[0], 2);
+    drop(other);
+    let begun = Instant::now();
+    client.set(file, b"new", None).unwrap();
+    assert!((6..13).contains(&begun.elapsed().as_secs()), "{:?}", begun.elapsed());
+}
+
+#[test]
+fn one_that_no_master_answers_is_closed_all_the_same() {
+    let mut cell = Cell::new("unheard");
+    let client = cell.client("ann");
+    let other = Client::connect(&Options { patience: Duration::from_millis(300), ..Options::new(&cell.server.address, "bob") }).unwrap();
+    cell.server.kill(Kill::Server).unwrap();
+    let begun = Instant::now();
+    assert!(matches!(other.leave(), Err(Error::Unavailable)));
+    assert!(begun.elapsed() < SOON, "{:?}", begun.elapsed());
+    let begun = Instant::now();
+    drop(client);
+    assert!((2..4).contains(&begun.elapsed().as_secs()), "{:?}", begun.elapsed());
 }
 
 // (who caches a name and acknowledges nothing lets a change of it wait for a lease, 12 s)

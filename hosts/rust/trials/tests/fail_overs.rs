@@ -1,7 +1,7 @@
 //! What clients notice where their server goes and another comes, and how long one is waited for that never acknowledges.
 
 use std::time::Duration;
-use trials::{fail_over, write_beside_one_that_keeps};
+use trials::{fail_over, start_behind_clients_that_left, write_beside_one_that_keeps};
 
 /// So long an answer may take behind the start of the next server.
 const SOON: Duration = Duration::from_secs(3);
@@ -32,6 +32,14 @@ fn five_clients_notice_no_fail_over() {
 #[test]
 fn twenty_clients_far_away_notice_no_fail_over() {
     nobody_notices(20, Duration::from_millis(120));
+}
+
+// (a session that didn't end would be waited for, up to 60 s)
+#[test]
+fn clients_that_left_are_not_waited_for() {
+    let answered = start_behind_clients_that_left(5).unwrap();
+    println!("fail-over: behind 5 clients that all left: the first call was answered within {} ms of the start", answered.as_millis());
+    assert!(answered < Duration::from_secs(1), "{answered:?}");
 }
 
 // Two leases and 48 s are the most that a master waits; and a lease and 48 s it does.

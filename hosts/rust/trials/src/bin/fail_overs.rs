@@ -3,7 +3,7 @@
 
 use std::time::Duration;
 use tillermoss::Error;
-use trials::{fail_over, write_beside_one_that_keeps, write_beside_one_that_stays_behind};
+use trials::{fail_over, start_behind_clients_that_left, write_beside_one_that_keeps, write_beside_one_that_stays_behind};
 
 /// The lease of a cell whose settings say none, in milliseconds.
 const LEASE: u64 = 12_000;
@@ -22,6 +22,8 @@ fn main() -> Result<(), Error> {
         );
         println!("  for {} s from then on: {} in jeopardy, {} lost", LOOKED_AT.as_secs(), noticed.jeopardies, noticed.lost);
     }
+    let left = start_behind_clients_that_left(5)?;
+    println!("5 clients that all left: the first call of a new one answered {} ms behind the start of the next server", left.as_millis());
     let kept = write_beside_one_that_keeps(LEASE)?;
     println!("a write beside a client that caches the file, beats and never acknowledges: {:.1} s", kept.as_secs_f64());
     let behind = write_beside_one_that_stays_behind(LEASE)?;

@@ -17,7 +17,7 @@ use std::time::{Duration, Instant};
 use tillermoss::{Client, Error, Event, Handle, Refusal, Watch};
 
 /// So long between two looks at the command, the session and the signals.
-const LOOK: Duration = Duration::from_millis(20);
+pub const LOOK: Duration = Duration::from_millis(20);
 
 /// So long a command has to end behind SIGTERM where the session is lost.
 const LAST: Duration = Duration::from_secs(2);

@@ -2,26 +2,41 @@
 
 use crate::faults::Fault;
 use crate::output::{content, note, print, print_json, say};
+use crate::running::{LOOK, signals};
 use crate::words::Output;
 use serde_json::{Map, Value};
+use signal_hook::iterator::Signals;
+use std::sync::mpsc::{Receiver, RecvTimeoutError};
 use tillermoss::{Client, Error, Event, Events, Kind, Refusal, View, Watch};
 
 /// Prints the content of a file whenever it was written, and the children of a directory that come, go, or are written; until the
-/// node is deleted, or so many events were printed. Where two writes come close together the later content may stand for both.
+/// node is deleted, so many events were printed, or a signal comes. Where two writes come close together the later content may stand for both.
 pub fn watch(client: &Client, output: Output, name: &str, prev: bool, count: Option<u64>) -> Result<(), Fault> {
+    let mut signals = signals()?;
     let watched = client.watch(name, Events::CONTENTS.and(Events::CHILDREN))?;
     let seen = client.read(watched.handle)?;
     let mut teller = Teller { output, prev, left: count, name: name.to_owned(), seen };
     note(&format!("watching {name}"));
     while teller.left != Some(0) {
-        let Ok(event) = watched.events.recv() else {
-            return Err(Refusal::SessionExpired.into());
-        };
+        let event = next(&watched.events, &mut signals)?;
         if !teller.tell(client, &watched, event)? {
             break;
         }
     }
     Ok(())
+}
+
+fn next(events: &Receiver<Event>, signals: &mut Signals) -> Result<Event, Fault> {
+    loop {
+        if let Some(signal) = signals.pending().next() {
+            return Err(Fault::Signal(signal));
+        }
+        match events.recv_timeout(LOOK) {
+            Ok(event) => return Ok(event),
+            Err(RecvTimeoutError::Timeout) => {}
+            Err(RecvTimeoutError::Disconnected) => return Err(Refusal::SessionExpired.into()),
+        }
+    }
 }
 
 /// What was printed of a node, and how more is.
