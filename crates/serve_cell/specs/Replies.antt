@@ -14,6 +14,7 @@ use Rattle.serve_cell.specs.Blocks.{framed}
 use Rattle.serve_cell.specs.Told.{told}
 use Rattle.serve_cell.specs.declared.settling.End.{End}
 use Rattle.serve_cell.specs.declared.settling.End.TheVariants as ends
+use Rattle.serve_cell.specs.declared.settling.Round.{Round}
 use Rattle.serve_cell.specs.declared.settling.Settled.{Settled}
 use Rattle.serve_cell.specs.declared.answers.Answered.{Answered}
 use Rattle.serve_cell.specs.declared.answers.Answered.TheVariants as answers
@@ -55,8 +56,11 @@ end_told ends.Quiet = []
 end_told (ends.Refused fault) = refusal_told fault
 end_told ends.Unfinished = []
 
+abbrev pub round_told : Round → List Told
+round_told round = sweeps_told round.sweeps ++ end_told round.end
+
 abbrev pub settled_told : Settled → List Told
-settled_told settled = sweeps_told settled.sweeps ++ end_told settled.end
+settled_told settled = round_told settled.round ++ round_told settled.beats
 
 abbrev pub answered_told : Answered → List Told
 answered_told (answers.Refused fault) = refusal_told fault

@@ -12,7 +12,7 @@ use Rattle.serve_cell.specs.declared.frames.Frame.{Frame}
 use Rattle.serve_cell.specs.declared.frames.Frame.TheVariants as frames
 use Rattle.serve_cell.specs.declared.settling.Settled.{Settled}
 use Rattle.serve_cell.specs.declared.standing.Standing.{Standing}
-use Rattle.serve_cell.specs.Serving.{EndsIn, Answers}
+use Rattle.serve_cell.specs.Serving.{Settles, Answers}
 use Rattle.serve_cell.specs.Standing.{standing_of}
 use Rattle.serve_cell.specs.declared.seats.Seat.{Seat}
 use Rattle.serve_cell.specs.declared.seats.Seat.TheVariants as seats
@@ -57,7 +57,7 @@ pub record CameUp (lease now : ℕ) (old : Store) (epoch : ℕ) (settled : Settl
   pub came : ComesUp lease now cell.master old cell.store
   pub told : epoch ≡ cell.master.epoch
   pub after : CellState
-  pub swept : EndsIn now cell settled.sweeps settled.end after
+  pub swept : Settles now cell settled after
   pub up : new ≡ with_master after
 
 -- one comes up, or it is told why none does
@@ -73,7 +73,7 @@ Hears now message old _ new = ⊥
 
 -- it sweeps until one is quiet
 abbrev pub Sweeps : ℕ → CellState → Reply → Hosted → Type 0
-Sweeps now old (replies.Swept settled) new = (after : CellState) × EndsIn now old settled.sweeps settled.end after × (new ≡ with_master after)
+Sweeps now old (replies.Swept settled) new = (after : CellState) × Settles now old settled after × (new ≡ with_master after)
 Sweeps now old _ new = ⊥
 
 -- ---- with a master, or without one

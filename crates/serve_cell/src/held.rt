@@ -1,11 +1,11 @@
 //! What is answered to a message, and to the time, where changes are held back.
-ghost use Rattle.std.specs.Prelude.{◌≡◌};
+ghost use Rattle.std.specs.Prelude.{◌≡◌, false};
 ghost use Rattle.serve_cell.specs.Held.{seen};
-ghost use Rattle.serve_cell.specs.Serving.{Answers, EndsIn};
+ghost use Rattle.serve_cell.specs.Serving.{Answers, EndsIn, is_shut, Settles};
 
 use crate::answers::Answered;
 use crate::holds::Group;
-use crate::settling::{End, Settled, ended_in};
+use crate::settling::{End, Round, Settled, ended_in, no_beats};
 use rows_cell::Records;
 use std::alloc::Global;
 use tags_cell::Request;
@@ -28,7 +28,20 @@ pub(crate) fn answer_held<R: Records>(
 
 /// Sweeps at a moment, as `settle` does it.
 pub(crate) fn settle_held<R: Records>(alloc: Global, group: &mut Group<R>, now: u64) -> Settled
+    ensures settles { Settles now (seen group.old) result (seen group.new) }
+    ensures store { group.new.store ≡ group.old.store }
+{
+    let round = sweep_on(alloc, group, now);
+    Settled {
+        round,
+        beats: no_beats(alloc),
+    }
+}
+
+// No store is asked, so none refuses.
+fn sweep_on<R: Records>(alloc: Global, group: &mut Group<R>, now: u64) -> Round
     ensures ends { EndsIn now (seen group.old) result.sweeps result.end (seen group.new) }
+    ensures open { is_shut result.end ≡ false }
     ensures store { group.new.store ≡ group.old.store }
 {
     let mut sweeps = Vec::new(alloc);

@@ -1,10 +1,10 @@
 //! The bytes of what is told.
 ghost use Rattle.std.specs.Prelude.{◌∷◌, ◌++◌, [], map, OnOk, IfOk};
-ghost use Rattle.serve_cell.specs.Replies.{line_told, out_told, refusal_told, bad_told, mark_told, step_told, sweeps_told, end_told, settled_told, answered_told, recovery_told, delay_told, delays_told, standing_told, reply_told, all_told, AreBlocks, Puts};
+ghost use Rattle.serve_cell.specs.Replies.{line_told, out_told, refusal_told, bad_told, mark_told, step_told, sweeps_told, end_told, round_told, settled_told, answered_told, recovery_told, delay_told, delays_told, standing_told, reply_told, all_told, AreBlocks, Puts};
 
 use crate::answers::Answered;
 use crate::seats::Reply;
-use crate::settling::{End, Settled};
+use crate::settling::{End, Round, Settled};
 use crate::standing::{Counts, Delay, Recovery, Standing};
 use crate::stops::Stop;
 use crate::tellings::{
@@ -93,8 +93,15 @@ fn put_answered(alloc: Global, out: &mut Vec<u8>, answered: &Answered) -> Result
 fn put_settled(alloc: Global, out: &mut Vec<u8>, settled: &Settled) -> Result<(), Stop>
     ensures { OnOk result (Puts (settled_told settled.now) out.old.items out.new.items) }
 {
-    put_sweeps(alloc, out, settled.sweeps.as_slice())?;
-    put_end(alloc, out, settled.end)
+    put_round(alloc, out, &settled.round)?;
+    put_round(alloc, out, &settled.beats)
+}
+
+fn put_round(alloc: Global, out: &mut Vec<u8>, round: &Round) -> Result<(), Stop>
+    ensures { OnOk result (Puts (round_told round.now) out.old.items out.new.items) }
+{
+    put_sweeps(alloc, out, round.sweeps.as_slice())?;
+    put_end(alloc, out, round.end)
 }
 
 fn put_end(alloc: Global, out: &mut Vec<u8>, end: End) -> Result<(), Stop>

@@ -1,11 +1,12 @@
 use Rattle.std.proofs.Common.{◌≡◌, length}
 use Rattle.serve_cell.specs.Held.{seen}
+use Rattle.serve_cell.specs.Serving.{SweepsOnce}
 use Rattle.serve_cell.proofs.Sweeps.{Going}
-use Rattle.serve_cell.proofs.held.settle_held.Given as goal
+use Rattle.serve_cell.proofs.held.sweep_on.Given as goal
 
 abbrev pub invariant-loop-done : goal.invariant-loop-done
 invariant-loop-done g l = record {
-  going : Going l.now (seen l.fn.group) l.sweeps.items (seen l.group);
+  going : Going (SweepsOnce l.now) (seen l.fn.group) l.sweeps.items (seen l.group);
   counted : length l.sweeps.items ≡ l._done;
   store : l.group.store ≡ l.fn.group.store;
 }

@@ -1,9 +1,10 @@
 use Rattle.std.proofs.Common.{◌≡◌, length}
+use Rattle.serve_cell.specs.Serving.{SweepsOnce}
 use Rattle.serve_cell.proofs.Sweeps.{Going}
-use Rattle.serve_cell.proofs.settling.settle.Given as goal
+use Rattle.serve_cell.proofs.settling.sweep_on.Given as goal
 
 abbrev pub invariant-loop-done : goal.invariant-loop-done
 invariant-loop-done g l = record {
-  going : Going l.now l.fn.cell l.sweeps.items l.cell;
+  going : Going (SweepsOnce l.now) l.fn.cell l.sweeps.items l.cell;
   counted : length l.sweeps.items ≡ l._done;
 }
