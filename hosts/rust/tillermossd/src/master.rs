@@ -32,9 +32,12 @@ use tracing::{debug, error, info, trace, warn};
 const AT_ONCE: usize = 256;
 const BYTES_AT_ONCE: usize = 1 << 20;
 
-/// So long a master has one frame at a time, where the store refused a group of the one before it: a frame that is alone is refused
-/// alone.
+/// So long a master has one frame at a time behind one that the store refused: of a group it refuses all, and the master is gone; one
+/// that is alone it refuses alone, and Beats are answered.
 const ALONE: Duration = Duration::from_secs(60);
+
+/// So too while the store's file system has no more room than so many bytes. A group changes less.
+const GROUP_ROOM: u64 = 16 << 20;
 
 /// What a master ends with where the store refused what a group of frames changed.
 const GROUP_REFUSED: i32 = 3;
@@ -108,7 +111,7 @@ pub struct Master {
     pulse: Pulse,
     sent: VecDeque<Sent>,
     bytes_sent: usize,
-    is_alone: bool,
+    alone_until: Option<Instant>,
     copying: Option<oneshot::Sender<io::Result<TempDir>>>,
 }
 
@@ -131,8 +134,9 @@ impl Making {
         let next = next.context("the master didn't come up")?;
         let identity = if kept.is_none() { Some(Identity::of(&self.store)?) } else { None };
         let (hall, pulse) = (hall.clone(), Pulse::new(0, next));
+        let alone_until = is_alone.then(|| begun + ALONE);
         let (sent, bytes_sent, copying) = (VecDeque::new(), 0, None);
-        Ok(Master { hall, child, output, blocks, frames, identity, rows: kept, begun, pulse, sent, bytes_sent, is_alone, copying })
+        Ok(Master { hall, child, output, blocks, frames, identity, rows: kept, begun, pulse, sent, bytes_sent, alone_until, copying })
     }
 
     // In a process group of its own, so that what is typed at a terminal doesn't end it before its server.
@@ -283,9 +287,13 @@ impl Master {
     }
 
     fn has_room(&self) -> bool {
-        let is_alone = self.is_alone && self.begun.elapsed() < ALONE;
-        let most = if is_alone { 1 } else { AT_ONCE };
-        self.copying.is_none() && self.sent.len() < most && self.bytes_sent < BYTES_AT_ONCE
+        let is_group = self.sent.len() < AT_ONCE && self.bytes_sent < BYTES_AT_ONCE && !self.is_alone();
+        self.copying.is_none() && (self.sent.is_empty() || is_group)
+    }
+
+    fn is_alone(&self) -> bool {
+        let is_short = || self.identity.as_ref().is_some_and(|store| store.is_short_of(GROUP_ROOM));
+        self.alone_until.is_some_and(|until| Instant::now() < until) || is_short()
     }
 
     fn now(&self) -> u64 {
@@ -362,7 +370,11 @@ impl Master {
             Told::Bad(reason) => warn!(reason, "the master took no frame of what was sent"),
             Told::End(next) => {
                 let sent = self.sent.pop_front();
-                self.pulse.answer(next, sent.as_ref().is_some_and(|sent| sent.is_refused));
+                let is_refused = sent.as_ref().is_some_and(|sent| sent.is_refused);
+                self.pulse.answer(next, is_refused);
+                if is_refused {
+                    self.alone_until = Some(Instant::now() + ALONE);
+                }
                 if let Some(sent) = sent {
                     self.bytes_sent -= sent.bytes;
                     self.hall.metrics.answered(sent.at.elapsed(), sent.has_committed);

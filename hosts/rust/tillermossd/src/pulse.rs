@@ -9,8 +9,10 @@ const LEAST: u64 = 5;
 /// How many milliseconds after the last frame a tick is due where the master doesn't tell.
 const UNTOLD: u64 = 50;
 
-/// How many milliseconds behind a frame in which the store refused the next tick is due: a disk that is full has room a little later.
-const REFUSED: u64 = 500;
+/// How many milliseconds behind a frame in which the store refused the next tick is due: each time in a row twice as many, from the
+/// first on until the last. A disk that is full has room a little later; meanwhile it is ticks that answer Beats, which are due three
+/// seconds before a lease ends.
+const REFUSED: (u64, u64) = (100, 2000);
 
 /// What is known of the last frame and of its answer. Each frame makes its master do what there is to do, so a tick is due only
 /// where none waits for its answer.
@@ -18,12 +20,13 @@ const REFUSED: u64 = 500;
 pub struct Pulse {
     last: u64,
     next: Next,
+    pause: u64,
 }
 
 impl Pulse {
     /// Behind the first frame's answer, whose moment this was, and whose mark told this.
     pub fn new(moment: u64, next: Next) -> Pulse {
-        Pulse { last: moment, next }
+        Pulse { last: moment, next, pause: REFUSED.0 }
     }
 
     /// A frame of this moment is sent.
@@ -33,7 +36,8 @@ impl Pulse {
 
     /// A frame was answered; whether the store refused in it. Then there is something to do at once, and it is tried a little later.
     pub fn answer(&mut self, next: Next, is_refused: bool) {
-        self.next = if is_refused { Next::At(self.last.saturating_add(REFUSED)) } else { next };
+        (self.next, self.pause) =
+            if is_refused { (Next::At(self.last.saturating_add(self.pause)), (2 * self.pause).min(REFUSED.1)) } else { (next, REFUSED.0) };
     }
 
     /// How long from this moment on there is no tick, where no frame waits for its answer; None before something else happens.
@@ -76,7 +80,17 @@ mod tests {
         assert_eq!(pulse.rest(25), Some(Duration::from_millis(5)));
         pulse.answer(Next::Nothing, false);
         assert_eq!(pulse.rest(25), None);
-        pulse.answer(Next::At(24), true);
-        assert_eq!(pulse.rest(24), Some(Duration::from_millis(500)));
+    }
+
+    #[test]
+    fn what_the_store_refused_is_tried_at_growing_times() {
+        let mut pulse = Pulse::new(1000, Next::At(1000));
+        for wanted in [100, 200, 400, 800, 1600, 2000, 2000] {
+            pulse.answer(Next::At(1000), true);
+            assert_eq!(pulse.rest(1000), Some(Duration::from_millis(wanted)));
+        }
+        pulse.answer(Next::Nothing, false);
+        pulse.answer(Next::At(1000), true);
+        assert_eq!(pulse.rest(1000), Some(Duration::from_millis(100)));
     }
 }

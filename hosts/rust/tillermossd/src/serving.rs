@@ -41,8 +41,9 @@ const WHILE: Duration = Duration::from_secs(60);
 /// So many edits a commit may have: all sessions of a cell that end at once, with their locks and nodes.
 const OPERATIONS: usize = 10_000;
 
-/// So long behind a master whose epoch the store refused the next one is tried.
-const AGAIN: Duration = Duration::from_millis(500);
+/// So long behind a master whose epoch the store refused the next one is tried: each time in a row twice as long, from the first on
+/// until the last.
+const AGAIN: (Duration, Duration) = (Duration::from_millis(500), Duration::from_secs(5));
 
 /// How often the service manager hears that the server lives.
 const WATCHDOG: Duration = Duration::from_secs(5);
@@ -288,6 +289,7 @@ async fn keep(mut master: Master, making: Making, hall: Arc<Hall>, mut orders: m
 
 // Starts a master; while the store refuses its epoch it is tried again a little later. None where it was told to go meanwhile.
 async fn up_again(making: &Making, hall: &Arc<Hall>, is_alone: bool, orders: &mut mpsc::Receiver<Order>) -> Result<Option<Master>> {
+    let mut pause = AGAIN.0;
     loop {
         if making.rows.as_ref().is_some_and(|rows| !rows.mastership.holds()) {
             bail!("the mastership has ended");
@@ -299,7 +301,8 @@ async fn up_again(making: &Making, hall: &Arc<Hall>, is_alone: bool, orders: &mu
             }
             started => return started.map(Some),
         }
-        let until = tokio::time::Instant::now() + AGAIN;
+        let until = tokio::time::Instant::now() + pause;
+        pause = (2 * pause).min(AGAIN.1);
         while let Ok(order) = tokio::time::timeout_at(until, orders.recv()).await {
             // (a copy waits for a master: who asked for one learns that there is none)
             if matches!(order, Some(Order::Down) | None) {

@@ -3,6 +3,7 @@
 
 use crate::numbers::Epochs;
 use anyhow::{Context, Result, bail};
+use nix::sys::statvfs::statvfs;
 use rusqlite::{Connection, OpenFlags};
 use std::fs;
 use std::io;
@@ -147,6 +148,12 @@ impl Identity {
     #[must_use]
     pub fn path(&self) -> &Path {
         &self.path
+    }
+
+    /// Whether its file system has less room than so many bytes; where it doesn't tell, it has more.
+    #[must_use]
+    pub fn is_short_of(&self, bytes: u64) -> bool {
+        statvfs(&self.path).is_ok_and(|found| found.blocks_available().saturating_mul(found.fragment_size()) < bytes)
     }
 
     /// Why the file isn't the same any more.

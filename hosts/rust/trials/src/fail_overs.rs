@@ -35,9 +35,9 @@ pub struct Noticed {
 }
 
 /// A client, its file that it caches, and whose lock it holds.
-struct Guest {
-    client: Client,
-    watch: Watch,
+pub(crate) struct Guest {
+    pub(crate) client: Client,
+    pub(crate) watch: Watch,
 }
 
 impl Guest {
@@ -53,7 +53,7 @@ impl Guest {
     }
 
     // How often its lease ended; and whether its session is lost, or the lock with it.
-    fn noticed(&self) -> (usize, bool) {
+    pub(crate) fn noticed(&self) -> (usize, bool) {
         let jeopardies = self.watch.events.try_iter().filter(|event| *event == Event::Jeopardy).count();
         let still = self.client.sequencer(self.watch.handle).and_then(|held| self.client.check_sequencer(&held));
         (jeopardies, self.client.is_lost() || still.is_err())
@@ -70,7 +70,7 @@ fn write(client: &Client, file: Handle) -> Result<(), Error> {
     }
 }
 
-fn come(address: &str, clients: usize) -> Result<Vec<Guest>, Error> {
+pub(crate) fn come(address: &str, clients: usize) -> Result<Vec<Guest>, Error> {
     thread::scope(|scope| {
         let coming: Vec<_> = (0..clients).map(|number| scope.spawn(move || Guest::new(address, number))).collect();
         coming.into_iter().map(|guest| guest.join().unwrap_or(Err(Error::Closed))).collect()

@@ -1,6 +1,7 @@
 //! What server, clients and command line are tested with.
 
 mod calls;
+mod disks;
 mod fail_overs;
 mod far;
 mod history;
@@ -12,6 +13,7 @@ mod servers;
 mod workers;
 
 pub use calls::{ask, call, forged, handle, open_call, read_call, set_call};
+pub use disks::{Filled, fill};
 pub use fail_overs::{Noticed, fail_over, start_behind_clients_that_left, write_beside_one_that_keeps, write_beside_one_that_stays_behind};
 pub use far::far_from;
 pub use history::{Read, Write, check_history};

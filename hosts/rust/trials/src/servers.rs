@@ -3,11 +3,11 @@
 use nix::sys::signal::{Signal, kill};
 use nix::unistd::Pid;
 use std::fs::{self, File};
-use std::io::{self, BufRead, BufReader, Read, Seek, SeekFrom};
+use std::io::{self, BufRead, BufReader, Read, Seek, SeekFrom, Write};
 use std::path::{Path, PathBuf};
 use std::process::{Child, Command, ExitStatus, Stdio};
 use std::thread;
-use std::time::Duration;
+use std::time::{Duration, Instant};
 use tillermoss::{Client, Error, Options};
 
 /// How a server is killed.
@@ -30,6 +30,7 @@ pub struct Server {
     /// Where it shows itself to operators, where that was asked for.
     pub admin: Option<String>,
     log: PathBuf,
+    disk: Option<PathBuf>,
 }
 
 /// How a server is started.
@@ -38,6 +39,7 @@ pub struct Start {
     words: Vec<String>,
     store: PathBuf,
     log: PathBuf,
+    megabytes: Option<u32>,
 }
 
 /// A program of this workspace: cargo builds it, since its package has a test of it.
@@ -92,7 +94,7 @@ impl Start {
     /// Over this store, at a free port of loopback.
     #[must_use]
     pub fn new(store: &Path) -> Start {
-        Start { words: Vec::new(), store: store.to_owned(), log: store.with_added_extension("log") }
+        Start { words: Vec::new(), store: store.to_owned(), log: store.with_added_extension("log"), megabytes: None }
     }
 
     /// With these words more. Where an address is among them it listens there alone.
@@ -121,10 +123,34 @@ impl Start {
         self.with(&["--settings", &path.display().to_string()])
     }
 
+    /// On a disk of its own of so many megabytes, in memory, as which it sees the store's folder; a user may make one within its own
+    /// namespaces. What stands in that folder the server doesn't see.
+    #[must_use]
+    pub fn on_disk(mut self, megabytes: u32) -> Start {
+        self.megabytes = Some(megabytes);
+        self
+    }
+
+    // The disk, where it has one of its own.
+    fn disk(&self) -> Option<PathBuf> {
+        self.megabytes.and_then(|_| Some(self.store.parent()?.to_owned()))
+    }
+
+    // The command that another one goes behind.
+    fn inside(&self) -> Command {
+        let (Some(disk), Some(megabytes)) = (self.disk(), self.megabytes) else {
+            return Command::new(program("tillermossd"));
+        };
+        let script = format!("mount -t tmpfs -o size={megabytes}m none \"$0\" && exec \"$@\"");
+        let mut inside = Command::new("unshare");
+        inside.args(["--map-root-user", "--mount", "sh", "-c", &script]).arg(disk).arg(program("tillermossd"));
+        inside
+    }
+
     /// The command that starts it.
     #[must_use]
     pub fn command(&self) -> Command {
-        let mut command = Command::new(program("tillermossd"));
+        let mut command = self.inside();
         if self.addresses() == 0 {
             command.arg("0");
         }
@@ -160,7 +186,7 @@ impl Start {
             }
         }
         match addresses.first().cloned() {
-            Some(address) => Ok(Server { child, address, addresses, admin, log: self.log.clone() }),
+            Some(address) => Ok(Server { child, address, addresses, admin, log: self.log.clone(), disk: self.disk() }),
             None => {
                 let status = child.wait()?;
                 let mut logged = String::new();
@@ -229,6 +255,32 @@ impl Server {
             }
             has
         })
+    }
+
+    /// Fills its disk, where it has one of its own: the file that does so, which is removed to make room.
+    ///
+    /// # Errors
+    ///
+    /// Where it has none.
+    pub fn fill_disk(&self) -> io::Result<PathBuf> {
+        let disk = self.disk.as_ref().ok_or_else(|| io::Error::other("the server has no disk of its own"))?;
+        let filler = PathBuf::from(format!("/proc/{}/root{}/filler", self.child.id(), disk.display()));
+        let mut out = File::create(&filler)?;
+        while out.write_all(&[0; 1024]).is_ok() {}
+        Ok(filler)
+    }
+
+    /// Waits so long, fills its disk for so long, and makes room again: since when there is.
+    ///
+    /// # Errors
+    ///
+    /// As `fill_disk`.
+    pub fn fill_disk_for(&self, before: Duration, lasting: Duration) -> io::Result<Instant> {
+        thread::sleep(before);
+        let filler = self.fill_disk()?;
+        thread::sleep(lasting);
+        fs::remove_file(filler)?;
+        Ok(Instant::now())
     }
 
     /// Waits until it ends by itself; how.

@@ -9,7 +9,7 @@ use rand::{Rng, SeedableRng};
 use std::fs;
 use std::io::Write;
 use std::path::{Path, PathBuf};
-use std::process::{Child, Command, Stdio};
+use std::process::{Command, Stdio};
 use std::sync::atomic::{AtomicBool, Ordering};
 use std::thread;
 use std::time::{Duration, Instant};
@@ -570,73 +570,31 @@ fn numbers_rolled_back(stage: &mut Stage) -> String {
     lost_between(stage, lose, "they are an older copy", "they are an older copy")
 }
 
-// Reads a log up to a line that has this; gives what stands behind it.
-fn read_until<R: std::io::Read>(log: R, text: &str) -> std::io::BufReader<R> {
-    let mut log = std::io::BufReader::new(log);
-    let mut line = String::new();
-    while !line.contains(text) {
-        line.clear();
-        assert!(std::io::BufRead::read_line(&mut log, &mut line).unwrap() > 0, "the log ends before: {text}");
-    }
-    log
-}
-
-/// A server on a disk of its own, of 2 MB; a user may make one within its own namespaces.
-struct OnDisk {
-    child: Child,
-    address: String,
-    /// A file on the disk.
-    filler: PathBuf,
-    folder: PathBuf,
-}
-
-impl OnDisk {
-    fn new() -> OnDisk {
-        let folder = folder("full-disk");
-        let disk = folder.join("disk");
-        fs::create_dir(&disk).unwrap();
-        let command = Start::new(&disk.join("store.db")).command();
-        let mut inside = Command::new("unshare");
-        inside.args(["--map-root-user", "--mount", "sh", "-c", "mount -t tmpfs -o size=2m none \"$0\" && exec \"$@\""]);
-        inside.arg(&disk).arg(command.get_program()).args(command.get_args());
-        let mut child = inside.stdout(Stdio::piped()).stderr(Stdio::piped()).spawn().unwrap();
-        let mut line = String::new();
-        std::io::BufRead::read_line(&mut std::io::BufReader::new(child.stdout.take().unwrap()), &mut line).unwrap();
-        let address = line.trim_end().strip_prefix("listening ").unwrap_or_else(|| panic!("no server came up: {line}")).to_owned();
-        let filler = PathBuf::from(format!("/proc/{}/root{}/filler", child.id(), disk.display()));
-        OnDisk { child, address, filler, folder }
-    }
-
-    fn fill(&self) {
-        let mut out = fs::File::create(&self.filler).unwrap();
-        assert!((0..10_000).any(|_| out.write_all(&[0; 1024]).is_err()));
-    }
-}
-
 // A cell of its own: a write waits while its disk is full, and is done when there is room again.
 fn full_disk(_: &mut Stage) -> String {
-    let mut cell = OnDisk::new();
-    let mut witness = Witness::new(&cell.address);
+    let folder = folder("full-disk");
+    let disk = folder.join("disk");
+    fs::create_dir(&disk).unwrap();
+    let mut server = Start::new(&disk.join("store.db")).on_disk(2).start().unwrap();
+    let mut witness = Witness::new(&server.address);
     let file = witness.client.create("/ls/c/f", b"first").unwrap();
-    cell.fill();
-    let (log, waited) = thread::scope(|scope| {
+    let filler = server.fill_disk().unwrap();
+    let waited = thread::scope(|scope| {
         let (client, begun) = (&witness.client, Instant::now());
         let written = scope.spawn(move || client.set(file, &[b'a'; 200_000], None).map(|()| begun.elapsed()));
-        let log = read_until(cell.child.stderr.take().unwrap(), "the store refuses");
+        assert!(server.has_logged("the store refuses"));
         thread::sleep(Duration::from_secs(2));
         assert!(!written.is_finished());
-        fs::remove_file(&cell.filler).unwrap();
-        (log, written.join().unwrap().unwrap())
+        fs::remove_file(filler).unwrap();
+        written.join().unwrap().unwrap()
     });
     assert!(waited >= Duration::from_secs(2));
     assert_eq!(witness.client.read(file).unwrap().stat.length, 200_000);
-    let mut log = read_until(log, "the store takes writes again");
-    witness.check(&cell.address, "a full disk");
-    nix::sys::signal::kill(nix::unistd::Pid::from_raw(cell.child.id().cast_signed()), Signal::SIGTERM).unwrap();
-    let (mut rest, status) = (String::new(), cell.child.wait().unwrap());
-    std::io::Read::read_to_string(&mut log, &mut rest).unwrap();
-    assert!(status.success(), "{status}: {rest}");
-    fs::remove_dir_all(&cell.folder).unwrap();
+    assert!(server.has_logged("the store takes writes again"));
+    witness.check(&server.address, "a full disk");
+    drop(witness);
+    assert!(server.kill(Kill::InOrder).unwrap().success(), "{}", server.logged());
+    fs::remove_dir_all(folder).unwrap();
     "a write waits until there is room again".to_owned()
 }
 

@@ -155,10 +155,9 @@ fn a_client_that_is_dropped_lets_no_write_wait() {
 fn what_one_who_leaves_has_is_free_at_once() {
     let cell = Cell::new("left");
     let (client, other) = (cell.client("ann"), cell.client("bob"));
-    let create = Create { content: Some(Vec::new()), life: Life::Ephemeral, ..Create::default() };
+    let create = Create { content: Some(Vec::new()), ..Create::default() };
     let opening = Opening { create: Some(create), lock_delay: 60_000, ..Opening::new("/ls/c/f", BOTH) };
     client.acquire(client.open_with(&opening).unwrap(), LockMode::Exclusive).unwrap();
-    client.open_with(&Opening { create: opening.create, ..Opening::new("/ls/c/alone", BOTH) }).unwrap();
     let wanted = other.open("/ls/c/f", Mode::WRITE).unwrap();
     std::thread::scope(|scope| {
         let waiting = scope.spawn(|| other.acquire(wanted, LockMode::Exclusive));
@@ -169,9 +168,25 @@ fn what_one_who_leaves_has_is_free_at_once() {
         waiting.join().unwrap().unwrap();
         assert!(begun.elapsed() < SOON, "{:?}", begun.elapsed());
     });
-    // (the file of the lock is still open, by the other client)
-    other.set(wanted, b"", None).unwrap();
-    assert_eq!(refusal(other.open("/ls/c/alone", Mode::READ)), Some(Refusal::NotFound));
+}
+
+// (for 60 s behind a start no ephemeral file goes)
+#[test]
+fn an_ephemeral_file_goes_with_one_who_leaves() {
+    let cell = Cell::new("gone");
+    let begun = Instant::now();
+    let (client, other) = (cell.client("ann"), cell.client("bob"));
+    let create = Create { content: Some(Vec::new()), life: Life::Ephemeral, ..Create::default() };
+    client.open_with(&Opening { create: Some(create), ..Opening::new("/ls/c/f", BOTH) }).unwrap();
+    let above = other.open("/ls/c", Mode::READ).unwrap();
+    let is_there = || other.list(above).unwrap().contains(&"f".to_owned());
+    assert!(is_there());
+    std::thread::sleep(Duration::from_secs(61).saturating_sub(begun.elapsed()));
+    client.leave().unwrap();
+    let begun = Instant::now();
+    while is_there() {
+        assert!(begun.elapsed() < SOON, "{:?}", begun.elapsed());
+    }
 }
 
 #[test]

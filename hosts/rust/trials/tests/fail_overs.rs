@@ -1,7 +1,7 @@
 //! What clients notice where their server goes and another comes, and how long one is waited for that never acknowledges.
 
 use std::time::Duration;
-use trials::{fail_over, start_behind_clients_that_left, write_beside_one_that_keeps};
+use trials::{fail_over, fill, start_behind_clients_that_left, write_beside_one_that_keeps};
 
 /// So long an answer may take behind the start of the next server.
 const SOON: Duration = Duration::from_secs(3);
@@ -40,6 +40,15 @@ fn clients_that_left_are_not_waited_for() {
     let answered = start_behind_clients_that_left(5).unwrap();
     println!("fail-over: behind 5 clients that all left: the first call was answered within {} ms of the start", answered.as_millis());
     assert!(answered < Duration::from_secs(1), "{answered:?}");
+}
+
+// (who isn't answered for the 12 s of a lease and 45 more loses its session)
+#[test]
+fn a_disk_that_is_full_for_a_minute_ends_no_session() {
+    let filled = fill(64, Duration::from_secs(60), 5, 4).unwrap();
+    println!("fail-over: a disk that is full for 60 s, 5 clients that beat, 4 that write: {filled:?}");
+    assert_eq!((filled.is_refused, filled.jeopardies, filled.lost), (true, 0, 0), "{filled:?}");
+    assert!(filled.waited < SOON, "{filled:?}");
 }
 
 // Two leases and 48 s are the most that a master waits; and a lease and 48 s it does.

@@ -1,9 +1,9 @@
-//! Measures what clients notice of a fail-over, and how long one is waited for that never acknowledges, under the lease of 12 s: with
-//! servers of its own, in five minutes.
+//! Measures what clients notice of a fail-over and of a full disk, and how long one is waited for that never acknowledges, under the
+//! lease of 12 s: with servers of its own, in seven minutes.
 
 use std::time::Duration;
 use tillermoss::Error;
-use trials::{fail_over, start_behind_clients_that_left, write_beside_one_that_keeps, write_beside_one_that_stays_behind};
+use trials::{fail_over, fill, start_behind_clients_that_left, write_beside_one_that_keeps, write_beside_one_that_stays_behind};
 
 /// The lease of a cell whose settings say none, in milliseconds.
 const LEASE: u64 = 12_000;
@@ -21,6 +21,10 @@ fn main() -> Result<(), Error> {
             noticed.answered_since_the_end.as_millis()
         );
         println!("  for {} s from then on: {} in jeopardy, {} lost", LOOKED_AT.as_secs(), noticed.jeopardies, noticed.lost);
+    }
+    for seconds in [30, 60] {
+        let filled = fill(64, Duration::from_secs(seconds), 5, 4)?;
+        println!("5 clients that beat, 4 that write, a disk that is full for {seconds} s: {filled:?}");
     }
     let left = start_behind_clients_that_left(5)?;
     println!("5 clients that all left: the first call of a new one answered {} ms behind the start of the next server", left.as_millis());
