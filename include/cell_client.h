@@ -32,6 +32,88 @@ struct cell_client {
     void *at;
 };
 
+/* How a node is opened. What isn't named in an initializer is 0: a plain Open, which makes nothing and is told of nothing. */
+struct cell_client_opening {
+    /* So many milliseconds nobody else gets a lock that the handle holds when its session expires; at most 60,000. */
+    uint64_t lock_delay;
+    /* READ, WRITE and CHANGE_ACL, added; at least one. */
+    uint8_t mode;
+    /* Of which events the client is told: CONTENTS, CHILDREN, LOCK and CONFLICT, added. */
+    uint8_t events;
+    /* MAKES_NOTHING, MAY_MAKE or MUST_MAKE. */
+    uint8_t create;
+    /* Of a node that is made: A_FILE or A_DIRECTORY, and PERMANENT or EPHEMERAL. It takes the ACL names of its directory. */
+    uint8_t kind;
+    uint8_t life;
+};
+
+#define CELL_CLIENT_READ 1u
+#define CELL_CLIENT_WRITE 2u
+#define CELL_CLIENT_CHANGE_ACL 4u
+#define CELL_CLIENT_CONTENTS 1u
+#define CELL_CLIENT_CHILDREN 2u
+#define CELL_CLIENT_LOCK 4u
+#define CELL_CLIENT_CONFLICT 8u
+#define CELL_CLIENT_MAKES_NOTHING 0u
+/* Where a node of the name is there, it is opened. */
+#define CELL_CLIENT_MAY_MAKE 1u
+/* Where a node of the name is there, the call is refused. */
+#define CELL_CLIENT_MUST_MAKE 2u
+#define CELL_CLIENT_A_FILE 0u
+#define CELL_CLIENT_A_DIRECTORY 1u
+#define CELL_CLIENT_PERMANENT 0u
+#define CELL_CLIENT_EPHEMERAL 1u
+
+/* Modes of a lock. */
+#define CELL_CLIENT_EXCLUSIVE 0u
+#define CELL_CLIENT_SHARED 1u
+
+/* A line of the last step, in parts. What doesn't belong to a line of its kind is 0. */
+struct cell_client_line {
+    /* One of the kinds below. */
+    uint32_t what;
+    /* The number of the refusal. */
+    uint32_t fault;
+    /* The number of the call that ended; 0 where the client answered by itself. */
+    uint64_t call;
+    /* The number of the new handle. */
+    uint64_t handle;
+    /* Of the node that is shown; the generation of its lock only where it is STATED. */
+    uint64_t instance;
+    uint64_t content_generation;
+    uint64_t acl_generation;
+    uint64_t lock_generation;
+    /* Of the content, or of the sequencer, in bytes. */
+    uint64_t length;
+    uint32_t kind;
+    uint32_t life;
+};
+
+/* There is no such line. */
+#define CELL_CLIENT_NO_LINE 0u
+/* A call ended: it gave a handle; closed one; poisoned one; gave a node with its content; its numbers; the names of its children, which
+ * cell_client_lines shows; a sequencer; nothing; or was refused. */
+#define CELL_CLIENT_OPENED 1u
+#define CELL_CLIENT_CLOSED 2u
+#define CELL_CLIENT_HANDLE_POISONED 3u
+#define CELL_CLIENT_VIEWED 4u
+#define CELL_CLIENT_STATED 5u
+#define CELL_CLIENT_NAMES 6u
+#define CELL_CLIENT_SEQUENCER 7u
+#define CELL_CLIENT_OKAY 8u
+#define CELL_CLIENT_REFUSED 9u
+/* The cache served a node; or that there is none. */
+#define CELL_CLIENT_SEEN 10u
+#define CELL_CLIENT_ABSENT 11u
+/* An event, which cell_client_lines shows. */
+#define CELL_CLIENT_EVENT 12u
+/* The session is in jeopardy; safe again; lost. */
+#define CELL_CLIENT_JEOPARDY 13u
+#define CELL_CLIENT_SAFE 14u
+#define CELL_CLIENT_LOST 15u
+/* Another line: a client prints none. */
+#define CELL_CLIENT_OTHER_LINE 16u
+
 /* Done: there is nothing to send. */
 #define CELL_CLIENT_DONE 0u
 
@@ -73,7 +155,8 @@ struct cell_client {
 #define CELL_CLIENT_BAD_NUMBER 85u
 #define CELL_CLIENT_BAD_TEXT 86u
 #define CELL_CLIENT_EXTRA 87u
-/* A message, but none that asks for a call; a handle in it that isn't 8 bytes; a SetSequencer without a sequencer. */
+/* A message, but none that asks for a call; a handle in it that isn't 8 bytes; a SetSequencer without a sequencer. (By its parts each
+ * call is one, or BAD_NUMBER, BAD_KIND or BAD_TEXT.) */
 #define CELL_CLIENT_NO_CALL 88u
 
 /*
@@ -91,6 +174,52 @@ uint32_t cell_client_open(uint64_t number, const uint8_t *principal, size_t prin
  * before the lease ends: beat again as soon as an Alive was given, and when none came for long.
  */
 uint32_t cell_client_beat(struct cell_client *client, uint64_t now);
+
+/*
+ * ---- Calls by their parts. Each is a step, and answers as cell_client_ask does: SEND, SERVED, DONE or a refusal. A handle is the
+ * client's own number for it.
+ */
+
+/* Opens a node, or makes it, a file with this content. BAD_NUMBER for another mode or other events, BAD_KIND for another number that
+ * is a choice, and BAD_TEXT for another name than /ls/CELL/.., told in this order. */
+uint32_t cell_client_open_node(struct cell_client *client, uint64_t now, const uint8_t *name, size_t name_length,
+                               const struct cell_client_opening *opening, const uint8_t *content, size_t content_length);
+
+uint32_t cell_client_close_handle(struct cell_client *client, uint64_t now, uint64_t handle);
+
+/* Asks for the numbers of the node. */
+uint32_t cell_client_stat(struct cell_client *client, uint64_t now, uint64_t handle);
+
+/* Asks for the names of a directory's children. */
+uint32_t cell_client_list(struct cell_client *client, uint64_t now, uint64_t handle);
+
+/* Sets the whole content of a file; where `generation` isn't 0, only where that is the present content generation. */
+uint32_t cell_client_set(struct cell_client *client, uint64_t now, uint64_t handle, const uint8_t *content, size_t content_length,
+                         uint64_t generation);
+
+uint32_t cell_client_delete(struct cell_client *client, uint64_t now, uint64_t handle);
+
+/* Takes the node's lock, EXCLUSIVE or SHARED, else BAD_KIND: waits until it is free, or is refused where it isn't. */
+uint32_t cell_client_acquire(struct cell_client *client, uint64_t now, uint64_t handle, uint32_t mode);
+uint32_t cell_client_try_acquire(struct cell_client *client, uint64_t now, uint64_t handle, uint32_t mode);
+
+/* Gives the lock back. */
+uint32_t cell_client_release(struct cell_client *client, uint64_t now, uint64_t handle);
+
+/* Asks for what describes the lock that the handle holds; cell_client_line_bytes has it then. */
+uint32_t cell_client_get_sequencer(struct cell_client *client, uint64_t now, uint64_t handle);
+
+/* Once this is done each later call on the handle but a Close stands under this sequencer. */
+uint32_t cell_client_set_sequencer(struct cell_client *client, uint64_t now, uint64_t handle, const uint8_t *sequencer,
+                                   size_t sequencer_length);
+
+/* Asks whether a sequencer is valid still. */
+uint32_t cell_client_check_sequencer(struct cell_client *client, uint64_t now, const uint8_t *sequencer, size_t sequencer_length);
+
+/* Ends the session: its locks are free at once. From here on the client serves nothing, and every other call is NO_SESSION. */
+uint32_t cell_client_leave(struct cell_client *client, uint64_t now);
+
+/* ---- A call by its bytes, and the other steps. */
 
 /*
  * Asks for a call. `call` are the bytes of a Call as docs/FORMATS.md lays it out, with these differences: a handle is the client's
@@ -144,6 +273,15 @@ uint32_t cell_client_message(struct cell_client *client, uint8_t *room, size_t r
  * event, "jeopardy C", "safe C" and "lost C" of the session.
  */
 uint32_t cell_client_lines(struct cell_client *client, uint8_t *room, size_t room_length, size_t *length);
+
+/*
+ * The line that stands at this place among those of the last step, the first at 0; its `what` is NO_LINE behind the last.
+ */
+void cell_client_line(struct cell_client *client, size_t place, struct cell_client_line *line);
+
+/* The content, or the sequencer, that the line at this place shows; of length 0 where it shows none. The length is the answer; where
+ * that is at most `room_length` the bytes stand in the room, else the room is as it was. */
+size_t cell_client_line_bytes(struct cell_client *client, size_t place, uint8_t *room, size_t room_length);
 
 /* The whole content of the view that the last of the lines shows; of length 0 where that shows none. The length is the answer. */
 size_t cell_client_content(struct cell_client *client, uint8_t *room, size_t room_length);

@@ -1,5 +1,5 @@
 -- A client that has asked for the end of its session serves nothing behind each step.
-use Rattle.std.proofs.Common.{◌≡◌, ℕ, Result, Ok, Err, sym, subst}
+use Rattle.std.proofs.Common.{ℕ, Result, Ok, Err, sym, subst}
 use Rattle.node_core.specs.declared.refusals.Fault.{Fault}
 use Rattle.tags_cell.specs.declared.messages.outs.Out.{Out}
 use Rattle.client_core.specs.declared.parts.asks.Ask.{Ask}

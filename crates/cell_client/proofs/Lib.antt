@@ -4,6 +4,7 @@ mod Ending
 mod Reading
 mod Lasting
 mod Opening
+mod Naming
 mod Showing
 mod Closing
 mod Looking

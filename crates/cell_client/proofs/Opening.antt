@@ -10,7 +10,7 @@ use Rattle.wire_core.proofs.TextLaws.{utf8_of_component}
 use Rattle.cell_client.specs.States.{new_held}
 use Rattle.cell_client.specs.Opens.{opened_for, opened}
 
-false_of : (b : Bool) → (b ≡ true → ⊥) → b ≡ false
+pub false_of : (b : Bool) → (b ≡ true → ⊥) → b ≡ false
 false_of true h = absurd (h refl)
 false_of false h = refl
 

@@ -15,3 +15,4 @@ pub mod Shows
 pub mod Follows
 pub mod Answers
 pub mod Hits
+pub mod Parts

@@ -125,7 +125,7 @@ impl Held {
         }
     }
 
-    fn ask(&mut self, now: u64, ask: &Ask) -> Status
+    pub(crate) fn ask(&mut self, now: u64, ask: &Ask) -> Status
         ensures step { Makes self.old self.new result (ask_held self.old now ask.now) }
         ensures kept { Stays self.old self.new result }
     {

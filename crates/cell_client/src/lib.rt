@@ -3,6 +3,7 @@
 #![tactic(auto)]
 
 mod asks;
+mod calls;
 mod changes;
 mod handles;
 mod held;
@@ -15,6 +16,7 @@ mod parts;
 mod rooms;
 mod shows;
 mod statuses;
+mod tellings;
 
 ghost use Rattle.std.specs.Prelude.{◌≡◌, ◌≢◌, Ok, Err};
 ghost use Rattle.std.specs.Option.{option_map};
@@ -26,7 +28,10 @@ ghost use Rattle.client_core.specs.declared.parts.asks.NodeCall.TheVariants as n
 ghost use Rattle.cell_client.specs.Answers.{Opens, Answers, Fills, Shows};
 ghost use Rattle.cell_client.specs.Leases.{EndsAt};
 ghost use Rattle.cell_client.specs.Hits.{hit, Hits};
+ghost use Rattle.cell_client.specs.Parts.{open_ask, acquire_ask, try_acquire_ask, set_ask, ask_parts, telling_at, bytes_at};
 
+pub use calls::OpenParts;
+use client_core::{Ask, NodeCall};
 use handles::Handle;
 pub use held::Held;
 pub use laws::hit_is_asked;
@@ -34,6 +39,7 @@ use parts::Parts;
 use rooms::{fill, put, put_hit};
 pub use statuses::Status;
 use std::alloc::Global;
+pub use tellings::Telling;
 use wire_core::WireFault;
 
 /// Opens a client of this number, 1 to 2^53-1, for this principal: 0, and the address that is written owns it. Else 1 for want of
@@ -128,6 +134,148 @@ pub extern "C" fn cell_client_poison(handle: &mut Handle, now: u64, number: u64)
     handle.as_mut().poison(now, number).code()
 }
 
+/// Opens the node of this name, as these parts say; where it is made, with this content.
+#[unsafe(no_mangle)]
+pub extern "C" fn cell_client_open_node(
+    handle: &mut Handle,
+    now: u64,
+    name: &[u8],
+    opening: &OpenParts,
+    content: &[u8],
+) -> u32
+    ensures { Answers handle.old.value handle.new.value result (ask_parts handle.old.value now (open_ask name.now opening.now content.now)) }
+{
+    handle
+        .as_mut()
+        .open_node(now, name, opening, content)
+        .code()
+}
+
+/// Closes a handle.
+#[unsafe(no_mangle)]
+pub extern "C" fn cell_client_close_handle(handle: &mut Handle, now: u64, number: u64) -> u32
+    ensures { Answers handle.old.value handle.new.value result (ask_held handle.old.value now (asks.Close number)) }
+{
+    handle.as_mut().call(now, Ask::Close(number)).code()
+}
+
+/// Asks for the numbers of a handle's node.
+#[unsafe(no_mangle)]
+pub extern "C" fn cell_client_stat(handle: &mut Handle, now: u64, number: u64) -> u32
+    ensures { Answers handle.old.value handle.new.value result (ask_held handle.old.value now (asks.Node number node_calls.Stat)) }
+{
+    handle.as_mut().call_on(now, number, NodeCall::Stat).code()
+}
+
+/// Asks for the names of the children of a handle's directory.
+#[unsafe(no_mangle)]
+pub extern "C" fn cell_client_list(handle: &mut Handle, now: u64, number: u64) -> u32
+    ensures { Answers handle.old.value handle.new.value result (ask_held handle.old.value now (asks.Node number node_calls.List)) }
+{
+    handle.as_mut().call_on(now, number, NodeCall::List).code()
+}
+
+/// Deletes a handle's node.
+#[unsafe(no_mangle)]
+pub extern "C" fn cell_client_delete(handle: &mut Handle, now: u64, number: u64) -> u32
+    ensures { Answers handle.old.value handle.new.value result (ask_held handle.old.value now (asks.Node number node_calls.Delete)) }
+{
+    handle
+        .as_mut()
+        .call_on(now, number, NodeCall::Delete)
+        .code()
+}
+
+/// Gives the lock of a handle's node back.
+#[unsafe(no_mangle)]
+pub extern "C" fn cell_client_release(handle: &mut Handle, now: u64, number: u64) -> u32
+    ensures { Answers handle.old.value handle.new.value result (ask_held handle.old.value now (asks.Node number node_calls.Release)) }
+{
+    handle
+        .as_mut()
+        .call_on(now, number, NodeCall::Release)
+        .code()
+}
+
+/// Asks for what describes the lock that a handle holds.
+#[unsafe(no_mangle)]
+pub extern "C" fn cell_client_get_sequencer(handle: &mut Handle, now: u64, number: u64) -> u32
+    ensures { Answers handle.old.value handle.new.value result (ask_held handle.old.value now (asks.Node number node_calls.GetSequencer)) }
+{
+    handle
+        .as_mut()
+        .call_on(now, number, NodeCall::GetSequencer)
+        .code()
+}
+
+/// Waits for the lock of a handle's node: 0 exclusive, 1 shared.
+#[unsafe(no_mangle)]
+pub extern "C" fn cell_client_acquire(handle: &mut Handle, now: u64, number: u64, mode: u32) -> u32
+    ensures { Answers handle.old.value handle.new.value result (ask_parts handle.old.value now (acquire_ask number mode)) }
+{
+    handle.as_mut().acquire(now, number, mode).code()
+}
+
+/// The same, and is refused where it would have to wait.
+#[unsafe(no_mangle)]
+pub extern "C" fn cell_client_try_acquire(
+    handle: &mut Handle,
+    now: u64,
+    number: u64,
+    mode: u32,
+) -> u32
+    ensures { Answers handle.old.value handle.new.value result (ask_parts handle.old.value now (try_acquire_ask number mode)) }
+{
+    handle.as_mut().try_acquire(now, number, mode).code()
+}
+
+/// Sets the whole content of a handle's file; where the generation isn't 0, only where that is the present one.
+#[unsafe(no_mangle)]
+pub extern "C" fn cell_client_set(
+    handle: &mut Handle,
+    now: u64,
+    number: u64,
+    content: &[u8],
+    generation: u64,
+) -> u32
+    ensures { Answers handle.old.value handle.new.value result (ask_parts handle.old.value now (set_ask number content.now generation)) }
+{
+    handle.as_mut().set(now, number, content, generation).code()
+}
+
+/// Sets a sequencer on a handle.
+#[unsafe(no_mangle)]
+pub extern "C" fn cell_client_set_sequencer(
+    handle: &mut Handle,
+    now: u64,
+    number: u64,
+    sequencer: &[u8],
+) -> u32
+    ensures { Answers handle.old.value handle.new.value result (ask_held handle.old.value now (asks.SetSequencer number sequencer.now)) }
+{
+    handle.as_mut().set_sequencer(now, number, sequencer).code()
+}
+
+/// Asks whether a sequencer is valid.
+#[unsafe(no_mangle)]
+pub extern "C" fn cell_client_check_sequencer(
+    handle: &mut Handle,
+    now: u64,
+    sequencer: &[u8],
+) -> u32
+    ensures { Answers handle.old.value handle.new.value result (ask_held handle.old.value now (asks.CheckSequencer sequencer.now)) }
+{
+    handle.as_mut().check_sequencer(now, sequencer).code()
+}
+
+/// Ends the session.
+#[unsafe(no_mangle)]
+pub extern "C" fn cell_client_leave(handle: &mut Handle, now: u64) -> u32
+    ensures { Answers handle.old.value handle.new.value result (ask_held handle.old.value now asks.Leave) }
+{
+    handle.as_mut().call(now, Ask::Leave).code()
+}
+
 /// Gives the client the master's message of these bytes.
 #[unsafe(no_mangle)]
 pub extern "C" fn cell_client_give(handle: &mut Handle, now: u64, message: &[u8]) -> u32
@@ -174,6 +322,28 @@ pub extern "C" fn cell_client_content(handle: &mut Handle, room: &mut [u8]) -> u
     ensures kept { handle.new.value ≡ handle.old.value }
 {
     fill(handle.as_mut().content(), room)
+}
+
+/// The line of the last step that stands at this place, the first at 0, in parts.
+#[unsafe(no_mangle)]
+pub extern "C" fn cell_client_line(handle: &mut Handle, place: usize, out: &mut Telling)
+    ensures shown { out.new ≡ telling_at handle.old.value.lines place }
+    ensures kept { handle.new.value ≡ handle.old.value }
+{
+    *out = handle.as_mut().telling(place);
+}
+
+/// The content, or the sequencer, that the line at this place shows, empty where it shows none: how long it is.
+#[unsafe(no_mangle)]
+pub extern "C" fn cell_client_line_bytes(
+    handle: &mut Handle,
+    place: usize,
+    room: &mut [u8],
+) -> usize
+    ensures shown { Fills (bytes_at handle.old.value.lines place) room.old room.new result }
+    ensures kept { handle.new.value ≡ handle.old.value }
+{
+    fill(handle.as_mut().told_bytes(place), room)
 }
 
 /// The moment from which on the client trusts its lease no more, if it gets no better one; 0 where it has none.

@@ -82,7 +82,7 @@ fn line_content(line: &Line) -> &[u8]
     }
 }
 
-fn seen_content(seen: &Option<View>) -> &[u8]
+pub(crate) fn seen_content(seen: &Option<View>) -> &[u8]
     ensures { result.now ≡ seen_content seen.now }
 {
     match seen {
