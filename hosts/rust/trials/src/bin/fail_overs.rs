@@ -1,5 +1,5 @@
 //! Measures what clients notice of a fail-over and of a full disk, and how long one is waited for that never acknowledges, under the
-//! lease of 12 s: with servers of its own, in seven minutes.
+//! lease of 12 s: with servers of its own, in eight minutes.
 
 use std::time::Duration;
 use tillermoss::Error;
