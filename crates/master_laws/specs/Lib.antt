@@ -3,3 +3,6 @@ pub mod Opens
 pub mod Makes
 pub mod Closed
 pub mod Refused
+pub mod Waits
+pub mod Settling
+pub mod FreeLocks

@@ -1,11 +1,15 @@
 //! What a master does for its clients, as laws of its tables: who is given a handle, what a closed handle is still good
-//! for, and what a refused call changes.
+//! for, what a refused call changes, and whom a write waits for.
 #![tactic(auto)]
 
+mod free_locks;
 mod handles;
 mod opens;
 mod refusals;
+mod settling;
+mod waits;
 
+pub use free_locks::awaited_locks_are_held;
 pub use handles::{
     close_closes, close_closes_for_good, closed_for_good_by_messages, closed_for_good_by_sweeps,
     closed_for_good_forever, closed_handle_is_refused, closed_handle_stays_closed,
@@ -17,4 +21,9 @@ pub use opens::{
 pub use refusals::{
     refusal_grants_absence_alone, refused_application_changes_nothing,
     refused_call_changes_nothing, turned_away_changes_nothing,
+};
+pub use settling::{settling_ends, sweeps_are_counted, sweeps_leave_less};
+pub use waits::{
+    a_change_waits, changes_go_on, each_is_held_up, recoveries_end, recovery_is_held_up,
+    rights_come_back, sessions_end_in_time, silent_clients_hold_nothing, silent_sessions_end,
 };

@@ -1,15 +1,20 @@
-use Rattle.std.proofs.Common.{◌≡◌, ℕ, false, Ok, rules, inr}
+use Rattle.std.proofs.Common.{◌≡◌, ℕ, false, Ok, rules, sym, ap, inr}
 use Rattle.over_core.proofs.KeptByUps.{up_stands}
 use Rattle.node_core.specs.declared.refusals.Fault.{Fault}
 use Rattle.rows_cell.specs.declared.tables.Rows.{Rows}
 use Rattle.rows_cell.specs.Stores.{Store, IsRefused}
 use Rattle.over_core.specs.Up.{up_edits, up_step, up_commit, next_epoch}
+use Rattle.cell_state.specs.State.{MasterState, master_of}
 use Rattle.cell_core.specs.Step.{is_past_end}
 use Rattle.over_core.proofs.cells.next_master.Goals as goal
 
 -- where the next epoch's rows are sound, what a coming up commits is that epoch
 refused : (fault : Fault) (read new : Store) (rows : Rows) (lease now : ℕ) → is_past_end now ≡ false → next_epoch read.cell read.rows ≡ Ok rows → IsRefused fault (up_edits read.rows) read new → IsRefused fault (up_commit (up_step read.cell read.rows lease now) read.rows) read new
 refused fault read new rows lease now early ok h = rw (early, ok) h
+
+-- and that master comes up
+came : (read : Store) (rows : Rows) (lease now : ℕ) (master : MasterState) → is_past_end now ≡ false → next_epoch read.cell read.rows ≡ Ok rows → master ≡ master_of rows lease now → up_step read.cell read.rows lease now ≡ Ok master
+came read rows lease now master early ok is = rw (early, ok) (ap Ok (sym is))
 
 pub returns-then-now-ge-MOMENT_LIMIT-clause-fault : goal.returns-then-now-ge-MOMENT_LIMIT-clause-fault
 returns-then-now-ge-MOMENT_LIMIT-clause-fault g c = search rules
@@ -22,7 +27,14 @@ returns-in-Ok-clause-kept g c =
     up_stands (g.R.Records.store c.next_rows.new.records) (g.R.Records.store c.commit_epoch.new.records) c.in_ok-rows.rows c.in_ok-master.master c.args.lease c.args.now c.in_ok-rows.ensures.sound c.in_ok-rows.ensures.next c.in_ok-rows.ensures.sessions c.in_ok-rows.ensures.locks c.in_ok-rows.ensures.names c.in_ok-master.ensures c.in-Ok.ensures
 
 pub returns-in-Ok-clause-ok : goal.returns-in-Ok-clause-ok
-returns-in-Ok-clause-ok g c = search rules
+returns-in-Ok-clause-ok g c =
+    let early : is_past_end c.args.now ≡ false = search rules in
+    record {
+      read = g.R.Records.store c.next_rows.new.records;
+      was_read = search rules;
+      came = came (g.R.Records.store c.next_rows.new.records) c.in_ok-rows.rows c.args.lease c.args.now c.in_ok-master.master early c.in_ok-rows.ensures.ok c.in_ok-master.ensures;
+      committed = search rules;
+    }
 
 pub returns-in-Err-clause-fault : goal.returns-in-Err-clause-fault
 returns-in-Err-clause-fault g c =

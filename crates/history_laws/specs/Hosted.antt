@@ -1,0 +1,121 @@
+-- A master that a program hosts behind a stream of frames is such a part: what it does by a frame is deeds of the master, at the frame's moment.
+use Rattle.std.specs.Prelude.{◌≡◌, ℕ, true, List, [], ◌∷◌, ◌++◌, map, Option, Some, None, Result, Ok, Err}
+use Rattle.node_core.specs.declared.lines.Line.{Line}
+use Rattle.node_core.specs.declared.lines.Line.TheVariants as lines
+use Rattle.tags_cell.specs.Numbers.{is_client_number}
+use Rattle.tags_cell.specs.Messages.{request_client}
+use Rattle.tags_cell.specs.declared.messages.outs.Out.{Out}
+use Rattle.over_core.specs.declared.swept.Swept.{Swept}
+use Rattle.world_core.specs.declared.mail.Message.TheVariants.{ToClient}
+use Rattle.world_core.specs.declared.mail.Message.{Message}
+use Rattle.world_core.specs.Messages.{request_at, out_at}
+use Rattle.world_core.specs.Made.{AreInOrder}
+use Rattle.tags_cell.specs.declared.messages.requests.Request.{Request}
+use Rattle.wire_core.specs.declared.faults.WireFault.{WireFault}
+use Rattle.wire_core.specs.Forms.{read_whole}
+use Rattle.wire_core.specs.Requests.{request}
+use Rattle.wire_core.specs.Outs.{out_message}
+use Rattle.serve_cell.specs.declared.frames.Frame.{Frame}
+use Rattle.serve_cell.specs.declared.frames.Frame.TheVariants as frames
+use Rattle.serve_cell.specs.declared.settling.Settled.{Settled}
+use Rattle.serve_cell.specs.declared.answers.Answered.{Answered}
+use Rattle.serve_cell.specs.declared.answers.Answered.TheVariants as answers
+use Rattle.serve_cell.specs.declared.seats.Reply.{Reply}
+use Rattle.serve_cell.specs.declared.seats.Reply.TheVariants as replies
+use Rattle.serve_cell.specs.Seats.{Hosted, Does as DoesFrame}
+use Rattle.watch_cell.specs.declared.events.Event.{Event}
+use Rattle.watch_cell.specs.declared.events.Event.TheVariants as events
+use Rattle.watch_cell.specs.Views.{WatchedState}
+use Rattle.watch_cell.specs.Trail.{step_of}
+use Rattle.history_laws.specs.Parts.{Parts, Deed}
+use Rattle.history_laws.specs.Histories.{Clocks, Entry, Does, History}
+
+-- ---- what is told of a frame
+
+abbrev pub swept_lines : List Swept → List Line
+swept_lines [] = []
+swept_lines (swept ∷ rest) = swept.lines ++ swept_lines rest
+
+abbrev pub swept_outs : List Swept → List Out
+swept_outs [] = []
+swept_outs (swept ∷ rest) = swept.outs ++ swept_outs rest
+
+abbrev pub settled_lines : Settled → List Line
+settled_lines settled = swept_lines settled.round.sweeps ++ swept_lines settled.beats.sweeps
+
+abbrev pub settled_outs : Settled → List Out
+settled_outs settled = swept_outs settled.round.sweeps ++ swept_outs settled.beats.sweeps
+
+-- the lines of the steps that were made
+abbrev pub reply_lines : Reply → List Line
+reply_lines (replies.Came epoch settled) = lines.Up epoch ∷ settled_lines settled
+reply_lines (replies.Answered (answers.Taken taken settled)) = taken.lines ++ settled_lines settled
+reply_lines (replies.Swept settled) = settled_lines settled
+reply_lines replies.Gone = lines.Down ∷ []
+reply_lines _ = []
+
+-- the messages that are handed out
+abbrev pub reply_outs : Reply → List Out
+reply_outs (replies.Came epoch settled) = settled_outs settled
+reply_outs (replies.Answered (answers.Taken taken settled)) = taken.outs ++ settled_outs settled
+reply_outs (replies.Swept settled) = settled_outs settled
+reply_outs _ = []
+
+-- ---- what is hosted, among the parts
+
+-- it is the master of these parts, over their rows
+pub record IsHostedIn (p : Parts) (host : Hosted) : Type 0 where
+  pub master : p.master ≡ host.master
+  pub rows : p.rows ≡ host.store.rows
+  pub cell : p.cell ≡ host.store.cell
+
+-- a message in a frame was told before, by a client; a frame that has a master come up is given by one whose rows are in the order of their keys
+abbrev pub IsPossibleFrame : Parts → Result Frame WireFault → Type 0
+IsPossibleFrame p (Ok (frames.Message now message)) = (at : ℕ) × (request_at p.told at ≡ Some message) × (is_client_number (request_client message) ≡ true)
+IsPossibleFrame p (Ok (frames.Up now)) = AreInOrder p.rows
+IsPossibleFrame p _ = Unit {0}
+
+-- the moment that a frame says is what the master's clock shows
+abbrev pub IsAtMoment : Clocks → Result Frame WireFault → Type 0
+IsAtMoment clocks (Ok (frames.Up now)) = clocks.master ≡ now
+IsAtMoment clocks (Ok (frames.Message now message)) = clocks.master ≡ now
+IsAtMoment clocks (Ok (frames.Tick now)) = clocks.master ≡ now
+IsAtMoment clocks _ = Unit {0}
+
+-- deeds at one moment
+abbrev pub at_moment : Clocks → List Deed → List Entry
+at_moment clocks deeds = map (λ deed. record { clocks = clocks; deed = deed }) deeds
+
+-- behind a frame: the same parts, but for what is hosted and what is told
+abbrev pub behind_frame : Parts → Hosted → List Out → Parts
+behind_frame p host outs = record p { rows = host.store.rows; master = host.master; told = p.told ++ map ToClient outs }
+
+-- what a hosted master does by a frame are deeds at the frame's moment, which print and tell just what the frame is answered
+abbrev pub FramesAreDeeds : Type 0
+FramesAreDeeds =
+    (p : Parts) (clocks : Clocks) (sent : Result Frame WireFault) (old new : Hosted) (reply : Reply)
+    → IsHostedIn p old → IsPossibleFrame p sent → IsAtMoment clocks sent → new.store.doubt ≡ 0 → DoesFrame p.lease sent old reply new
+    → ((deeds : List Deed) × History p (at_moment clocks deeds) (reply_lines reply) (behind_frame p new (reply_outs reply))) × IsHostedIn (behind_frame p new (reply_outs reply)) new
+
+-- ---- bytes
+
+-- a message that was told travels by bytes that are read as it, as the contract of who wrote them says; whoever reads them then takes that message
+abbrev pub BytesCarryMessages : Type 0
+BytesCarryMessages =
+    (told : List Message) (at : ℕ) (bytes : List ℕ)
+    → ((sent taken : Request) → request_at told at ≡ Some sent → read_whole request bytes ≡ Ok sent → read_whole request bytes ≡ Ok taken → request_at told at ≡ Some taken)
+    × ((sent taken : Out) → out_at told at ≡ Some sent → read_whole out_message bytes ≡ Ok sent → read_whole out_message bytes ≡ Ok taken → out_at told at ≡ Some taken)
+
+-- ---- a master that threads share
+
+-- a message that it is given was told before, by a client; and the moment is what the master's clock shows
+abbrev pub IsPossibleEvent : Parts → Clocks → Event → Type 0
+IsPossibleEvent p clocks (events.Take now message) = (clocks.master ≡ now) × (at : ℕ) × (request_at p.told at ≡ Some message) × (is_client_number (request_client message) ≡ true)
+IsPossibleEvent p clocks (events.Sweep now) = clocks.master ≡ now
+
+-- each entry of a watch's trail is a deed of its master
+abbrev pub TrailsAreDeeds : Type 0
+TrailsAreDeeds =
+    (p : Parts) (clocks : Clocks) (old new : WatchedState) (event : Event) (reply : Swept)
+    → p.master ≡ Some old.master → p.rows ≡ old.rows → IsPossibleEvent p clocks event → step_of old event ≡ Ok (new, reply)
+    → (deed : Deed) × Does p clocks deed (record p { rows = new.rows; master = Some new.master; told = p.told ++ map ToClient reply.outs }) reply.lines

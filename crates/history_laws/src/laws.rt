@@ -1,0 +1,52 @@
+//! Parts that run apart are a world.
+ghost use Rattle.history_laws.specs.Laws.{HistoriesAreRuns, HistoriesHold, CachesShowTheRows, CachesAnswerTheRows};
+ghost use Rattle.history_laws.specs.Hosted.{FramesAreDeeds, BytesCarryMessages, TrailsAreDeeds};
+ghost use Rattle.history_laws.specs.Example.{TwoProgramsArePossible, NothingComesOfNobody};
+
+/// What a master and clients do that run apart, with messages that are lost, late or repeated, masters that go without a word
+/// and others that come up over the rows, is what one world does in some run, with the same lines, messages and rows.
+pub fn histories_are_runs()
+    ensures { HistoriesAreRuns }
+{}
+
+/// So all that holds of the runs of a world holds of them.
+pub fn histories_hold()
+    ensures { HistoriesHold }
+{}
+
+/// Whatever a client serves from its cache is what the master's rows hold of that name at that moment.
+pub fn caches_show_the_rows()
+    ensures { CachesShowTheRows }
+{}
+
+/// A history of two clients and two masters, with a message that is lost, one that comes twice, and one that comes late, can be.
+pub fn two_programs_are_possible()
+    ensures { TwoProgramsArePossible }
+{}
+
+/// One in which a part takes a message that nobody told can't.
+pub fn nothing_comes_of_nobody()
+    ensures { NothingComesOfNobody }
+{}
+
+/// A master that a program hosts behind a stream of frames is such a part: what it does by a frame are deeds of the master, at the
+/// moment that the frame says, and they print and tell just what the frame is answered.
+pub fn frames_are_deeds()
+    ensures { FramesAreDeeds }
+{}
+
+/// Where messages travel as bytes, whoever reads the bytes of one takes the message that was told.
+pub fn bytes_carry_messages()
+    ensures { BytesCarryMessages }
+{}
+
+/// Whatever the cache of a client would answer, at any moment by the client's clock and without a step, is what the rows hold then: so
+/// a hit in another language, or by a viewer, is.
+pub fn caches_answer_the_rows()
+    ensures { CachesAnswerTheRows }
+{}
+
+/// A master that threads share is such a part: each entry of its trail is a deed.
+pub fn trails_are_deeds()
+    ensures { TrailsAreDeeds }
+{}
