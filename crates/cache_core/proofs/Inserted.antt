@@ -45,7 +45,7 @@ module _ {K X : Type 0} (eq : K → K → Bool) where
       ]) refl
 
   -- what holds of each key holds after one is taken away
-  all_removed : (P : K → Type 0) (test : K → Bool) (es : List (K × X)) → AllByRecursion P (keys_of es) → AllByRecursion P (keys_of (remove_entry test es))
+  pub all_removed : (P : K → Type 0) (test : K → Bool) (es : List (K × X)) → AllByRecursion P (keys_of es) → AllByRecursion P (keys_of (remove_entry test es))
   all_removed P test [] all = tt
   all_removed P test (e ∷ es) all =
       elim (test e.0) as (λ b. AllByRecursion P (keys_of (cond b es (e ∷ remove_entry test es)))) [ true ↦ all.1 | false ↦ (all.0, all_removed P test es all.1) ]

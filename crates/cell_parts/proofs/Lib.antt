@@ -2,6 +2,7 @@ pub mod Found
 pub mod PlacedHandles
 mod OpenOn
 mod OwnedHandles
+mod Seats
 mod NamedNodes
 pub mod Appended
 mod Noted

@@ -51,7 +51,7 @@ handle_total = then_total (on_total (λ (k : HandleKey). k.client) nat_cmp_total
 pub place_total : IsTotalOrder place_order
 place_total = then_total (then_total (on_total (λ (p : Place). p.instance) nat_cmp_total) (on_total (λ (p : Place). p.client) nat_cmp_total)) (on_total (λ (p : Place). p.number) nat_cmp_total)
 
-same_number : (n : ℕ) → nat_cmp n n ≡ Equal
+pub same_number : (n : ℕ) → nat_cmp n n ≡ Equal
 same_number n = tied_itself nat_cmp_total n
 
 pub same_handle : (k : HandleKey) → handle_order k k ≡ Equal
@@ -92,6 +92,9 @@ pub placed_more : (entries : List (HandleKey × HandleState)) (places : List (Pl
 placed_more entries places key Closed placed = placed
 placed_more entries places key (Open new) placed = λ q noted h.
     found_apart place_order exact_place same_place places (place_of new.handle.instance key) key q (place_of noted.handle.instance q) (placed q noted h) (λ e. sym (place_tells noted.handle.instance new.handle.instance q key e).1)
+
+pub placed_kept : (entries : List (HandleKey × HandleState)) (places more : List (Place × HandleKey)) (key : HandleKey) (state : HandleState) → more ≡ with_place places key state → ArePlaced entries places → ArePlaced entries more
+placed_kept entries places more key state m placed = let Q : List (Place × HandleKey) → Type 0 = λ ps. ArePlaced entries ps in subst Q (sym m) (placed_more entries places key state placed)
 
 is_there : (places : List (Place × HandleKey)) (key : HandleKey) (state : HandleState) (noted : NotedHandle) → state ≡ Open noted → lookup (There (place_of noted.handle.instance key)) (with_place places key state) ≡ Some key
 is_there places key state noted e =
@@ -206,19 +209,19 @@ first_place instance = record { instance = instance; client = 0; number = 0 }
 abbrev pub places_on : ℕ → List (Place × HandleKey) → List (Place × HandleKey)
 places_on instance places = entries_between place_order (Included (first_place instance)) (Excluded (first_place (instance + 1))) places
 
-zero_first : (a b : Ordering) → is_le a ≡ true → is_le b ≡ true → is_le (ordering_then a b) ≡ true
+pub zero_first : (a b : Ordering) → is_le a ≡ true → is_le b ≡ true → is_le (ordering_then a b) ≡ true
 zero_first Less b h k = refl
 zero_first Equal b h k = k
 zero_first Greater b h k = h
 
-from_zero : (n : ℕ) → is_le (nat_cmp 0 n) ≡ true
+pub from_zero : (n : ℕ) → is_le (nat_cmp 0 n) ≡ true
 from_zero n =
     (elim (nat_lt 0 n) as (λ b. nat_lt 0 n ≡ b → is_le (cond b Less (cond (nat_eq 0 n) Equal Greater)) ≡ true) [
       | true ↦ (λ e. refl)
       | false ↦ (λ e. let q : nat_eq 0 n ≡ true = grind (arith, nat_tests) in rw q refl)
     ]) refl
 
-next_greater : (n : ℕ) → nat_cmp (n + 1) n ≡ Greater
+pub next_greater : (n : ℕ) → nat_cmp (n + 1) n ≡ Greater
 next_greater n = grind (arith, nat_tests)
 
 pub on_instance : (instance : ℕ) (key : HandleKey) → range_contains place_order (Included (first_place instance)) (Excluded (first_place (instance + 1))) (place_of instance key) ≡ true

@@ -11,6 +11,7 @@ pub mod Handles
 pub mod Keys
 pub mod Claims
 pub mod OpenHandles
+pub mod Listeners
 pub mod EphemeralNames
 pub mod Notes
 pub mod Answered

@@ -1,7 +1,6 @@
 -- What is noted of a handle.
 use Rattle.std.specs.Prelude.{ℕ, List}
 use Rattle.tags_cell.specs.declared.handles.Handle.{Handle}
-use Rattle.tags_cell.specs.declared.messages.calls.Open.{Open}
 use Rattle.cell_parts.specs.declared.handles.Note.{Note}
 use Rattle.cell_parts.specs.Keys.{key_of}
 use Rattle.cell_parts.specs.declared.handles.HandleState.TheVariants as states

@@ -6,6 +6,7 @@ mod calls;
 mod candidates;
 mod ephemerals;
 mod handles;
+mod listeners;
 mod nodes;
 mod notices;
 mod open_handles;
@@ -18,6 +19,7 @@ pub use calls::{
     bytes_of, create_fault, delay_of, denied, denied_without, is_leave, node_fault, set_answer,
 };
 pub use handles::{HandleKey, HandleState, Note, OpenHandle, claim_of, owner_of};
+pub use listeners::Subject;
 pub use nodes::{Nodes, is_ephemeral};
 pub use notices::{Notice, Telling, event_of, instance_of};
 pub use open_handles::Handles;

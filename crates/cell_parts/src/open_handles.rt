@@ -1,15 +1,18 @@
 //! What a master knows of handles, and which are open on a node.
-ghost use Rattle.std.specs.Prelude.{◌≡◌, ◌+◌, [], true, false, IfOk, OnOk, OnErr, length};
+ghost use Rattle.std.specs.Prelude.{◌≡◌, ◌+◌, [], true, false, Some, IfOk, OnOk, OnErr, length};
 ghost use Rattle.std.specs.Option.{option_copied};
 ghost use Rattle.std.specs.List.{list_any};
 ghost use Rattle.std.specs.List.Sorted.{IsStrictlySortedBy};
 ghost use Rattle.std.specs.Map.{keys_of};
 ghost use Rattle.std.specs.BTreeMap.{insert_entry};
 ghost use Rattle.plain.specs.Tables.{with_former};
+ghost use Rattle.cell_parts.specs.declared.handles.HandleState.{HandleState as StateValue};
 ghost use Rattle.cell_parts.specs.Keys.{handle_order};
+ghost use Rattle.cell_parts.specs.Listeners.{HasSeats, HasAsking};
 ghost use Rattle.cell_parts.specs.OpenHandles.{place_of, with_place, state_at, ArePlaced, IsPlaced, IsNotOpenOn, AreAmong, HasPlaced, HasAll, HasOpenOn, HasHoldersOn, HasOwner, HasOwners, IsOwn, is_open_in, is_known_open};
 
 use crate::handles::{HandleKey, HandleState};
+use crate::listeners::{Listeners, Subject};
 use lock_core::{Hold, Lock, Owner};
 use plain::Table;
 use session_core::Sessions;
@@ -55,7 +58,9 @@ pub struct Handles {
     states: Table<HandleKey, HandleState>,
     // The place of each open handle, and of some that are closed.
     places: Table<Place, HandleKey>,
-    // Whether each open handle has its place.
+    // The seats of those that asked to be told of events.
+    listeners: Listeners,
+    // Whether each open handle has its place and its seats.
     complete: bool,
     // Whether each open handle is noted under its own key.
     own_keys: bool,
@@ -66,12 +71,13 @@ impl Model for Handles {
     ghost use Rattle.cell_parts.specs.declared.handles.HandleKey.{HandleKey};
     ghost use Rattle.cell_parts.specs.declared.handles.HandleState.{HandleState};
     ghost use Rattle.cell_parts.specs.OpenHandles.{ArePlaced, AreOwn};
+    ghost use Rattle.cell_parts.specs.Listeners.{AreSeated};
 
     ghost Value = { List (HandleKey × HandleState) };
 
     ghost view = { λ h. h.states };
 
-    ghost invariant = { λ h. (h.complete ≡ true → ArePlaced h.states h.places) × (h.own_keys ≡ true → AreOwn h.states) };
+    ghost invariant = { λ h. (h.complete ≡ true → ArePlaced h.states h.places × AreSeated h.states h.listeners) × (h.own_keys ≡ true → AreOwn h.states) };
 }
 
 impl Handles {
@@ -82,6 +88,7 @@ impl Handles {
         Handles {
             states: Table::new(alloc),
             places: Table::new(alloc),
+            listeners: Listeners::new(alloc),
             complete: true,
             own_keys: true,
         }
@@ -121,6 +128,7 @@ impl Handles {
         ensures err { OnErr result (self.new ≡ self.old) }
     {
         add_place(&mut self.places, &key, &state)?;
+        self.listeners.add(&key, &state)?;
         self.own_keys = stays_own(self.own_keys, &key, &state);
         self.states.put(key, state)
     }
@@ -130,7 +138,7 @@ impl Handles {
         ensures { self.new ≡ with_former handle_order self.old key.now former }
     {
         let _count = self.states.as_map().len();
-        if !is_placed(&self.places, key, &former) {
+        if !is_found(&self.places, &self.listeners, key, &former) {
             self.complete = false;
         }
         self.own_keys = stays_own_again(self.own_keys, key, &former);
@@ -150,6 +158,7 @@ impl Handles {
         }
         let _count = self.places.as_map().len();
         self.places.remove(&Place::of(instance, key));
+        self.listeners.remove(key, instance);
     }
 
     /// Whether a handle of a live session is open on an instance.
@@ -180,6 +189,24 @@ impl Handles {
         };
         if self.complete {
             add_placed(&self.places, instance, next, keys)
+        } else {
+            add_all(&self.states, keys)
+        }
+    }
+
+    /// Adds the keys of the handles that are open on an instance and asked to be told of this, and maybe of others, whose
+    /// states are looked up. Costs one look-up for each that asked.
+    pub fn add_asking(
+        &self,
+        subject: Subject,
+        instance: u64,
+        keys: &mut Table<HandleKey, ()>,
+    ) -> Result<(), AllocError>
+        ensures kept { OnOk result (AreAmong keys.old keys.new) }
+        ensures found { OnOk result (HasAsking self.now subject instance keys.new) }
+    {
+        if self.complete {
+            self.listeners.add_keys(subject, instance, keys)
         } else {
             add_all(&self.states, keys)
         }
@@ -230,6 +257,27 @@ fn is_placed(places: &Table<Place, HandleKey>, key: &HandleKey, state: &Option<H
     match places.get(&Place::of(noted.instance(), key)) {
         Some(found) => found.is(key),
         None => false,
+    }
+}
+
+// Whether a handle has its place and its seats, where it is open.
+fn is_found(
+    places: &Table<Place, HandleKey>,
+    listeners: &Listeners,
+    key: &HandleKey,
+    state: &Option<HandleState>,
+) -> bool
+    ensures { result ≡ true → IsPlaced places.now key.now state.now × ((there : StateValue) → state.now ≡ Some there → HasSeats listeners.now key.now there) }
+{
+    is_placed(places, key, state) && is_seated(listeners, key, state)
+}
+
+fn is_seated(listeners: &Listeners, key: &HandleKey, state: &Option<HandleState>) -> bool
+    ensures { result ≡ true → (there : StateValue) → state.now ≡ Some there → HasSeats listeners.now key.now there }
+{
+    match state {
+        Some(state) => listeners.has(key, state),
+        None => true,
     }
 }
 

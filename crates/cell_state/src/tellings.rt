@@ -2,12 +2,13 @@
 ghost use Rattle.std.specs.Prelude.{◌≡◌, IfOk, OnOk, is_some};
 ghost use Rattle.std.specs.Option.{option_map};
 ghost use Rattle.cell_parts.specs.Events.{instance_of, event_of};
+ghost use Rattle.cell_parts.specs.Listeners.{HasAsking};
 ghost use Rattle.cell_parts.specs.OpenHandles.{AreAmong};
 ghost use Rattle.cell_state.specs.Notices.{event_here, event_on, event_for, is_noted, telling_by, tellings_to, with_telling, with_tellings};
 ghost use Rattle.cell_state.specs.Concerned.{HasTold, HasConcerned, telling_at};
 
 use crate::masters::Master;
-use cell_parts::{HandleKey, HandleState, Note, Notice, Telling, event_of, instance_of};
+use cell_parts::{HandleKey, HandleState, Note, Notice, Subject, Telling, event_of, instance_of};
 use node_core::Event;
 use plain::{Items, Table};
 use std::alloc::AllocError;
@@ -15,8 +16,9 @@ use tags_cell::Handle;
 
 impl Master {
     /// The events that a step's notices are to the clients of open handles, in the order of the handles: by what each
-    /// was opened for, the first notice that concerns it, and none for the handle that the step itself notes. Only the
-    /// handles on the nodes of the notices are looked at, and of a conflict only those that hold the lock.
+    /// was opened for, the first notice that concerns it, and none for the handle that the step itself notes. Only those
+    /// handles are looked at that asked to be told of such an event on the node, of a conflict those that hold the lock,
+    /// and where a node is gone all that are open on it.
     pub fn tellings(
         &self,
         note: &Option<Note>,
@@ -76,7 +78,7 @@ impl Master {
         Ok(keys)
     }
 
-    // A conflict is told to holders of the lock alone, whoever else has the node open.
+    // A conflict is told to holders of the lock alone, the end of a node to each, and all else to those who asked for it.
     fn add_concerned(
         &self,
         notice: &Notice,
@@ -87,8 +89,24 @@ impl Master {
     {
         match notice {
             Notice::Conflict(instance) => self.add_holders(*instance, keys),
-            _ => self.handles().add_open_on(instance_of(notice), keys),
+            Notice::Invalid(instance) => self.handles().add_open_on(*instance, keys),
+            Notice::Contents(instance, _) => {
+                self.handles()
+                    .add_asking(Subject::Contents, *instance, keys)
+            }
+            Notice::Locked(instance) => self.handles().add_asking(Subject::Lock, *instance, keys),
+            Notice::ChildAdded(instance, _) => self.add_viewers(*instance, keys),
+            Notice::ChildRemoved(instance, _) => self.add_viewers(*instance, keys),
+            Notice::ChildModified(instance, _) => self.add_viewers(*instance, keys),
         }
+    }
+
+    // Those who asked to be told of the children of a directory.
+    fn add_viewers(&self, instance: u64, keys: &mut Table<HandleKey, ()>) -> Result<(), AllocError>
+        ensures kept { OnOk result (AreAmong keys.old keys.new) }
+        ensures found { OnOk result (HasAsking self.now.handles Subject.Children instance keys.new) }
+    {
+        self.handles().add_asking(Subject::Children, instance, keys)
     }
 
     // Nobody holds a lock that isn't there.

@@ -20,7 +20,7 @@ in_order entries locks same sorted =
     let P : LockTable → Type 0 = λ l. IsStrictlySortedBy nat_cmp (keys_of l) in
     subst P same sorted
 
-above : (key other : ℕ) (next : List ℕ) → AllByRecursion (λ y. nat_cmp key y ≡ Less) next → has_key next other ≡ true → key < other
+pub above : (key other : ℕ) (next : List ℕ) → AllByRecursion (λ y. nat_cmp key y ≡ Less) next → has_key next other ≡ true → key < other
 above key other [] h there = absurd (cc)
 above key other (x ∷ next) h there =
     (elim (is_at (nat_cmp other) x) as (λ b. is_at (nat_cmp other) x ≡ b → (b || list_any (is_at (nat_cmp other)) next) ≡ true → key < other) [
@@ -29,7 +29,7 @@ above key other (x ∷ next) h there =
     ]) refl there
 
 -- an instance up to one that lies below all others
-none_up_to : (k : ℕ) (es : LockTable) → AllByRecursion (λ y. nat_cmp k y ≡ Less) (keys_of es) → (q : ℕ) → q ≤ k → lookup (is_at (nat_cmp q)) es ≡ None
+pub none_up_to : (k : ℕ) (es : LockTable) → AllByRecursion (λ y. nat_cmp k y ≡ Less) (keys_of es) → (q : ℕ) → q ≤ k → lookup (is_at (nat_cmp q)) es ≡ None
 none_up_to k [] h q le = refl
 none_up_to k (e ∷ es) h q le =
     let over : k < e.0 = below k e.0 h.0 in

@@ -1,6 +1,7 @@
 //! The locks of a cell's nodes: who holds them, who waits, and what becomes of them (Burrows 2006, section 2.4).
 #![tactic(auto)]
 
+mod claimants;
 mod claims;
 mod laws;
 mod leavers;

@@ -3,6 +3,7 @@ ghost use Rattle.std.specs.Prelude.{◌≡◌, unwrap_or};
 ghost use Rattle.lock_core.specs.State.{lock_of};
 ghost use Rattle.lock_core.specs.Locks.{AreNoted, lock_at, is_due, due, first_due, opens_at};
 
+use crate::claimants::{Claimants, note_each};
 use crate::states::Lock;
 use crate::tables::Locks;
 use plain::Table;
@@ -11,12 +12,26 @@ use timer_core::Timers;
 
 impl Locks {
     /// Finds the locks that are due by `now`, so that from then on `due` looks at these alone. To be called with each moment;
-    /// elsewhere it does no harm. Takes no memory that it can't do without: where there is none `due` looks at all locks.
+    /// elsewhere it does no harm. Takes no memory that it can't do without: where there is none `due` looks at all locks. Where
+    /// memory was wanting for who claims a lock, `lapse` looks at all locks until the first call of this that has memory, which
+    /// walks over all of them once.
     pub fn note_moment(&mut self, now: u64)
         ensures { self.new ≡ self.old }
     {
+        self.note_claimants();
         self.openings.turn(now);
         self.put_openings_off(now);
+    }
+
+    // Where memory was wanting for who holds some lock or waits for it, notes that of all locks anew.
+    fn note_claimants(&mut self)
+        ensures { self.new ≡ self.old }
+    {
+        if !self.claimants.is_lost() {
+            return;
+        }
+        self.claimants = Claimants::new(self.alloc);
+        note_each(&mut self.claimants, &self.locks);
     }
 
     fn put_openings_off(&mut self, now: u64)

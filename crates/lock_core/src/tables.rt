@@ -9,8 +9,10 @@ ghost use Rattle.plain.specs.Results.{Gives};
 ghost use Rattle.plain.specs.Tables.{with_former};
 ghost use Rattle.lock_core.specs.State.{lock_of};
 ghost use Rattle.lock_core.specs.Turns.{tried, acquired, released, closed_by, reopened};
+ghost use Rattle.lock_core.specs.Claimants.{lapses_among};
 ghost use Rattle.lock_core.specs.Locks.{AreLegal, lock_at, lapses, after_lapses, sequencer_of, checked, with_lock, with_holder, with_closing};
 
+use crate::claimants::{Claimants, note_again};
 use crate::claims::{Claim, Owner};
 use crate::moments::opening;
 use crate::partings::Parting;
@@ -20,6 +22,7 @@ use names_cell::Name;
 use node_core::Fault;
 use plain::{Items, Table};
 use std::alloc::{AllocError, Global};
+use std::collections::BTreeSet;
 use std::marker::Model;
 use tags_cell::{Ordinal, Sequencer};
 use timer_core::Timers;
@@ -34,16 +37,19 @@ pub struct Locks {
     pub(crate) locks: Table<u64, Lock>,
     // From when on each is due.
     pub(crate) openings: Timers,
+    // Who may hold each or wait for it.
+    pub(crate) claimants: Claimants,
 }
 
 impl Model for Locks {
     ghost use Rattle.lock_core.specs.Locks.{LockTable, AreLegal, AreNoted};
+    ghost use Rattle.lock_core.specs.Claimants.{AreListed};
 
     ghost Value = { LockTable };
 
     ghost view = { λ l. l.locks };
 
-    ghost invariant = { λ l. AreLegal l.locks × AreNoted l.openings l.locks };
+    ghost invariant = { λ l. AreLegal l.locks × AreNoted l.openings l.locks × AreListed l.claimants l.locks };
 }
 
 impl Locks {
@@ -55,6 +61,7 @@ impl Locks {
             alloc,
             locks: Table::new(alloc),
             openings: Timers::new(alloc),
+            claimants: Claimants::new(alloc),
         }
     }
 
@@ -131,9 +138,49 @@ impl Locks {
         }
     }
 
-    /// The end of a client's session: what becomes of each lock that it held or awaited, by ascending instance. It
-    /// walks over all locks.
+    /// The end of a client's session: what becomes of each lock that it held or awaited, by ascending instance. It looks at
+    /// these, and at each lock with more than 16 holders or more than 16 who wait; at all locks where memory was wanting.
     pub fn lapse(&self, parting: Parting, client: u64, now: u64) -> Result<Items<Lapse>, AllocError>
+        ensures { IfOk result (λ ended. ended ≡ lapses parting self.now client now) }
+    {
+        // The order of the instances is told by this call.
+        let _ordered = self.locks.as_map().len();
+        match self.claimants.of_client(self.alloc, client)? {
+            Some(instances) => {
+                let _sorted = instances.len();
+                self.lapse_among(&instances, parting, client, now)
+            }
+            None => self.lapse_of_all(parting, client, now),
+        }
+    }
+
+    // What becomes of those of these locks that concern the client.
+    fn lapse_among(
+        &self,
+        instances: &BTreeSet<u64>,
+        parting: Parting,
+        client: u64,
+        now: u64,
+    ) -> Result<Items<Lapse>, AllocError>
+        ensures { IfOk result (λ ended. ended ≡ lapses_among parting self.now client now instances.now.keys) }
+    {
+        let mut ended = Items::new(self.alloc);
+        for instance in instances.iter() {
+            if let Some(lock) = self.locks.get(instance) {
+                if lock.concerns(client) {
+                    ended.push(lock.lapse(parting, *instance, client, now)?)?;
+                }
+            }
+        }
+        Ok(ended)
+    }
+
+    fn lapse_of_all(
+        &self,
+        parting: Parting,
+        client: u64,
+        now: u64,
+    ) -> Result<Items<Lapse>, AllocError>
         ensures { IfOk result (λ ended. ended ≡ lapses parting self.now client now) }
     {
         let mut ended = Items::new(self.alloc);
@@ -187,6 +234,7 @@ impl Locks {
         let after = lock.opens_at();
         let former = self.locks.put(instance, lock)?;
         self.openings.change(instance, opening(&former), after);
+        note_again(&mut self.claimants, &self.locks, instance, former.as_ref());
         Ok(former)
     }
 
@@ -210,6 +258,7 @@ impl Locks {
         match self.locks.replace(&instance, lock) {
             Ok(former) => {
                 self.openings.change(instance, former.opens_at(), after);
+                note_again(&mut self.claimants, &self.locks, instance, Some(&former));
                 drop(former);
             }
             Err(back) => drop(back),
@@ -246,6 +295,7 @@ impl Locks {
         let _ordered = self.locks.as_map().len();
         let former = self.locks.remove(&instance);
         self.openings.change(instance, opening(&former), u64::MAX);
+        note_again(&mut self.claimants, &self.locks, instance, former.as_ref());
         former
     }
 

@@ -1,5 +1,5 @@
 -- What is known of all sessions at once, as each step leaves them.
-use Rattle.std.proofs.Common.{◌≡◌, ◌≢◌, ℕ, nat_eq, ◌<◌, ◌≤◌, ◌+◌, ◌-◌, ◌/◌, List, [], ◌∷◌, Bool, true, false, cond, Option, Some, None, refl, sym, ap, ◌∙◌, arith, subst}
+use Rattle.std.proofs.Common.{◌≡◌, ◌≢◌, ℕ, nat_eq, ◌<◌, ◌≤◌, ◌+◌, ◌-◌, ◌/◌, List, [], ◌∷◌, Bool, true, false, cond, Option, Some, None, refl, sym, ap, ◌∙◌, ◌⊎◌, ⊎_elim, inl, inr, arith, subst}
 use Rattle.std.specs.Prelude.{not, ◌&&◌, ◌||◌, nat_le, max, min, All}
 use Rattle.std.specs.Option.{option_map, option_map_or}
 use Rattle.std.specs.List.{list_all, list_any}
@@ -20,6 +20,7 @@ use Rattle.timer_core.specs.Timers.{TimerState, never, has_key, wakes}
 use Rattle.session_core.specs.declared.bounds.Bounds.{Bounds}
 use Rattle.session_core.specs.declared.bounds.Moments.{Moments}
 use Rattle.session_core.specs.Quiet.{end_moment, due_moment, answer_moment, moments_of, IsNoted, AreNoted, is_client_unheard, HaveAtMost}
+use Rattle.plain.proofs.Keys.{same_key}
 use Rattle.session_core.proofs.OneClient.{lookup_set, lookup_set_apart, lookup_put, lookup_put_apart}
 
 -- ---- what is noted, as sessions come, change and go
@@ -86,7 +87,38 @@ noted_without {K} lease ends answers client old new h is = record {
 pub noted_more : {K : Type 0} (lease : ℕ) (ends answers ends' answers' : TimerState) (entries : List (ℕ × Session K)) → AreNoted K lease ends answers entries → ((k : ℕ) (n : Moments) → IsNoted ends answers k n → IsNoted ends' answers' k n) → AreNoted K lease ends' answers' entries
 noted_more {K} lease ends answers ends' answers' entries h kept = record { each = λ k s found. kept k (moments_of lease s) (h.each k s found) }
 
--- one session is put off to its own moment
+-- ---- all are noted, one behind the other
+
+-- each session is noted, or is one of those that are left
+pub record AreLeft (K : Type 0) (lease : ℕ) (ends answers : TimerState) (left all : List (ℕ × Session K)) : Type 0 where
+  pub each : (k : ℕ) (s : Session K) → lookup (is_at (nat_cmp k)) all ≡ Some s → (lookup (is_at (nat_cmp k)) left ≡ Some s) ⊎ IsNoted ends answers k (moments_of lease s)
+
+pub all_left : {K : Type 0} (lease : ℕ) (ends answers : TimerState) (left all : List (ℕ × Session K)) → left ≡ all → AreLeft K lease ends answers left all
+all_left lease ends answers left all same = record { each = λ k s found. inl (ap (lookup (is_at (nat_cmp k))) same ∙ found) }
+
+pub one_less : {K : Type 0} (lease : ℕ) (ends answers ends' answers' : TimerState) (left next all : List (ℕ × Session K)) (client : ℕ) (session : Session K) (m : Moments) → AreLeft K lease ends answers left all → left ≡ (client, session) ∷ next → m ≡ moments_of lease session → IsNoted ends' answers' client m → ((k : ℕ) (n : Moments) → IsNoted ends answers k n → IsNoted ends' answers' k n) → AreLeft K lease ends' answers' next all
+one_less {K} lease ends answers ends' answers' left next all client session m h steps is own kept = record {
+  each = λ k s found. ⊎_elim (λ there. here k s (sym (ap (lookup (is_at (nat_cmp k))) steps) ∙ there)) (λ noted. inr (kept k (moments_of lease s) noted)) (h.each k s found);
+}
+  where
+    here : (k : ℕ) (s : Session K) → lookup (is_at (nat_cmp k)) ((client, session) ∷ next) ≡ Some s → (lookup (is_at (nat_cmp k)) next ≡ Some s) ⊎ IsNoted ends' answers' k (moments_of lease s)
+    here k s there =
+        (elim (is_at (nat_cmp k) client) as (λ b. is_at (nat_cmp k) client ≡ b → cond b (Some session) (lookup (is_at (nat_cmp k)) next) ≡ Some s → (lookup (is_at (nat_cmp k)) next ≡ Some s) ⊎ IsNoted ends' answers' k (moments_of lease s)) [
+          | true ↦ (λ at found. inr (noted_as lease ends' answers' client k session s m is (some_same session s _ refl found) (same_key k client at) own))
+          | false ↦ (λ differs found. inl found)
+        ]) refl there
+
+pub none_left : {K : Type 0} (lease : ℕ) (ends answers : TimerState) (left all : List (ℕ × Session K)) → AreLeft K lease ends answers left all → left ≡ [] → AreNoted K lease ends answers all
+none_left {K} lease ends answers left all h steps = record {
+  each = λ k s found.
+      ⊎_elim (λ there. absurd (none_there k s (sym (ap (lookup (is_at (nat_cmp k))) steps) ∙ there))) (λ noted. noted) (h.each k s found);
+}
+  where
+    none_there : (k : ℕ) (s : Session K) → lookup (is_at (nat_cmp k)) [] ≡ Some s → ⊥
+    none_there k s e = absurd (cc)
+
+-- ---- one session is put off to its own moment
+
 pub noted_end : {K : Type 0} (lease : ℕ) (ends answers ends' : TimerState) (client moment : ℕ) (entries : List (ℕ × Session K)) → AreNoted K lease ends answers entries → moment ≡ option_map_or end_moment (lookup (is_at (nat_cmp client)) entries) never → wakes ends' client moment ≡ true → ((k m : ℕ) → nat_eq k client ≡ false → wakes ends k m ≡ true → wakes ends' k m ≡ true) → AreNoted K lease ends' answers entries
 noted_end {K} lease ends answers ends' client moment entries h is own others = record {
   each = λ k s found.
@@ -171,6 +203,12 @@ pub kept_turned : {K : Type 0} (lease : ℕ) (bounds new_bounds : Bounds) (entri
 kept_turned {K} lease bounds new_bounds entries h same kept =
     let P : ℕ → Type 0 = λ most. HaveAtMost K most entries in
     (h.0, h.1, noted_more lease bounds.ends bounds.answers new_bounds.ends new_bounds.answers entries h.2 kept, subst P (sym same) h.3)
+
+-- all are noted anew, and then looked for
+pub kept_again : {K : Type 0} (lease : ℕ) (bounds noted turned : Bounds) (entries : List (ℕ × Session K)) → IsKept K lease bounds entries → noted.most_events ≡ bounds.most_events → AreNoted K lease noted.ends noted.answers entries → turned.most_events ≡ noted.most_events → ((k : ℕ) (n : Moments) → IsNoted noted.ends noted.answers k n → IsNoted turned.ends turned.answers k n) → IsKept K lease turned entries
+kept_again {K} lease bounds noted turned entries h same there again kept =
+    let P : ℕ → Type 0 = λ most. HaveAtMost K most entries in
+    kept_turned lease noted turned entries (h.0, h.1, there, subst P (sym same) h.3) again kept
 
 -- ---- below that number no session's events are at their end
 

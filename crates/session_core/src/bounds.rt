@@ -48,6 +48,16 @@ impl Bounds {
         self.answers.set(client, moments.answer);
     }
 
+    // A session has these moments.
+    pub(crate) fn note(&mut self, client: u64, moments: Moments)
+        ensures events { self.new.most_events ≡ self.old.most_events }
+        ensures own { IsNoted self.new.ends self.new.answers client moments }
+        ensures kept { (k : ℕ) (m : Moments) → IsNoted self.old.ends self.old.answers k m → IsNoted self.new.ends self.new.answers k m }
+    {
+        self.ends.set(client, moments.end);
+        self.answers.set(client, moments.answer);
+    }
+
     // A session with these moments has other ones, and so many events.
     pub(crate) fn change(&mut self, client: u64, before: Moments, after: Moments, events: u64)
         ensures events { self.new.most_events ≡ max self.old.most_events events }
@@ -64,6 +74,11 @@ impl Bounds {
         let end = self.ends.first_moment().unwrap_or(u64::MAX);
         let answer = self.answers.first_moment().unwrap_or(u64::MAX);
         end.min(answer)
+    }
+
+    // Whether those are known for whom something may be to be done now, behind `turn`: not where memory was wanting.
+    pub(crate) fn are_known(&self, now: u64) -> bool {
+        self.ends.soon(now).is_some() && self.answers.soon(now).is_some()
     }
 
     // Finds those for whom something may be to be done now.

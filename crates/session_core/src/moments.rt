@@ -1,21 +1,28 @@
 //! When something is to be done for sessions by themselves.
-ghost use Rattle.std.specs.Prelude.{◌≡◌};
+ghost use Rattle.std.specs.Prelude.{◌≡◌, ◌≤◌};
 ghost use Rattle.std.specs.Option.{option_map_or};
+ghost use Rattle.lease_core.specs.Lease.{longest_lease};
 ghost use Rattle.timer_core.specs.Timers.{never};
-ghost use Rattle.session_core.specs.Quiet.{end_moment, answer_moment, is_client_unheard};
+ghost use Rattle.session_core.specs.Quiet.{end_moment, answer_moment, is_client_unheard, AreNoted};
 
+use crate::bounds::Bounds;
+use crate::records::Session;
 use crate::sessions::Sessions;
+use std::collections::BTreeMap;
+use timer_core::Timers;
 
 impl<K> Sessions<K> {
     ghost use Rattle.session_core.specs.Sessions.{lowest, passes, session_of};
 
     /// Finds the sessions that expire and the Beats that fall due by `now`, so that from then on `expired` and `due` look at
     /// these alone. To be called with each moment; elsewhere it does no harm. Takes no memory that it can't do without: where
-    /// there is none `expired` and `due` look at all sessions.
+    /// there is none `expired` and `due` look at all sessions, until the first call behind that has memory. That one walks over
+    /// all of them once.
     pub fn note_moment(&mut self, now: u64)
         ensures { self.new ≡ self.old }
     {
         self.bounds.turn(now);
+        self.note_lost(now);
         self.put_ends_off(now);
         self.put_answers_off(now);
     }
@@ -24,6 +31,19 @@ impl<K> Sessions<K> {
     /// never. It says where to look first: whether something is to be done there is for `expired` and `due` to tell.
     pub fn next_moment(&self) -> u64 {
         self.bounds.next_moment()
+    }
+
+    // Where memory was wanting for some session's moments, notes those of all sessions anew.
+    fn note_lost(&mut self, now: u64)
+        ensures { self.new ≡ self.old }
+    {
+        if self.bounds.are_known(now) {
+            return;
+        }
+        self.bounds.ends = Timers::new(self.alloc);
+        self.bounds.answers = Timers::new(self.alloc);
+        note_all(&mut self.bounds, self.lease, &self.map);
+        self.bounds.turn(now);
     }
 
     fn put_ends_off(&mut self, now: u64)
@@ -128,5 +148,16 @@ impl<K> Sessions<K> {
             }
         }
         None
+    }
+}
+
+// Notes the moments of each session.
+fn note_all<K>(bounds: &mut Bounds, lease: u64, sessions: &BTreeMap<u64, Session<K>>)
+    requires { lease ≤ longest_lease }
+    ensures events { bounds.new.most_events ≡ bounds.old.most_events }
+    ensures noted { AreNoted K lease bounds.new.ends bounds.new.answers sessions.now.entries }
+{
+    for (client, session) in sessions.iter() {
+        bounds.note(*client, session.moments(lease));
     }
 }

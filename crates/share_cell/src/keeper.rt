@@ -116,7 +116,7 @@ impl Keeper {
     ghost use Rattle.share_cell.specs.Keeping.{IsShown, KeeperState, Publishes, unless_last};
 
     /// A keeper that is not late, and its viewers, 1 to 64. The client, which has no session yet, comes back where there is no
-    /// memory. Both copies have room for all entries that a cache may hold.
+    /// memory. Both copies have room for all entries that a cache may hold, but for their places in the order of installing.
     pub fn new<R: Wait>(
         rt: &R,
         alloc: Global,

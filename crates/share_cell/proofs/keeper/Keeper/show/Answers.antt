@@ -1,4 +1,4 @@
-use Rattle.std.proofs.Common.{rules, ◌≢◌, None, fold, length-append, ◌≡◌, ◌+◌, ◌<◌, [], ◌∷◌, ◌++◌, length, drop, refl, sym, ap, ◌∙◌, subst, arith}
+use Rattle.std.proofs.Common.{rules, ◌≢◌, None, fold, length-append, ◌≡◌, ◌+◌, ◌<◌, [], ◌∷◌, ◌++◌, length, drop, refl, sym, ap, ◌∙◌, subst, arith, inr}
 use Rattle.cache_core.specs.Changes.{applied_all}
 use Rattle.left_right.specs.Sides.{view}
 use Rattle.share_cell.specs.Owed.{newest, ops_of, AllPlaced}
@@ -79,3 +79,27 @@ invariant_of-keeper-in-Err-done g c =
       room = k.room;
       on_time = λ none. absurd (is_late none);
     }
+
+pub overflow_add-keeper : goal.overflow_add-keeper
+overflow_add-keeper g c =
+    let k = c.args.self in
+    let is_late : k.late ≢ None = search rules in
+    let bound = k.room is_late in
+    omega (arith, bound)
+
+pub returns-in-Ok-clause-shown : goal.returns-in-Ok-clause-shown
+returns-in-Ok-clause-shown g c =
+    let k = c.args.self in let w = c.hand_over.new.writer in let p = c.publish_as-writer.result.0 in
+    let pending = drop w.behind w.log.items in
+    let told = rw c.in-Ok.is at c.publish_as-writer.ensures in
+    let added : view p.desk.place ≡ view w.desk.place ++ p.desk.shown.value.cache ∷ [] = told.rule in
+    let is : p.desk.shown.value ≡ fold stepped w.desk.shown.value pending = told.values.0 in
+    let rest : c.hand_over.new.rest.items ≡ [] = search rules in
+    let desk = c.hand_over.ensures.desk in
+    let known : view w.desk.place ≡ view k.writer.desk.place = ap (λ d. view d.place) desk in
+    let owed : applied_all w.desk.shown.value.cache (ops_of pending ++ c.hand_over.new.rest.items) ≡ k.client.cache =
+    ap (λ d. applied_all d.shown.value.cache (ops_of pending ++ c.hand_over.new.rest.items)) desk ∙ ap (applied_all k.writer.desk.shown.value.cache) c.hand_over.ensures.ops ∙ k.owed in
+    let same : p.desk.shown.value.cache ≡ k.client.cache = brought_up w.desk.shown.value p.desk.shown.value pending c.hand_over.new.rest.items k.client.cache owed rest is in
+    let one_more : view p.desk.place ≡ view k.writer.desk.place ++ k.client.cache ∷ [] =
+    added ∙ ap (λ v. v ++ p.desk.shown.value.cache ∷ []) known ∙ ap (λ x. view k.writer.desk.place ++ x ∷ []) same in
+    (refl, refl, is_shown k.late _ _ _ (search rules) ((view k.writer.desk.place, one_more), inr one_more))
