@@ -1,8 +1,8 @@
 -- The types of the columns, and when two of them are equal.
-use Rattle.std.proofs.Common.{◌≡◌, ℕ, ◌+◌, zero, suc, ℤ, Bool, true, false, not, ◌&&◌, ◌||◌, List, [], ◌∷◌, drop, add-one, Option, Some, None, refl, sym, ap, ◌∙◌, true≢false}
+use Rattle.std.proofs.Common.{◌≡◌, ℕ, ◌+◌, zero, suc, ℤ, Bool, true, false, not, ◌&&◌, ◌||◌, List, [], ◌∷◌, drop, add-one, Option, Some, None, Ordering, Less, Equal, Greater, refl, sym, ap, ◌∙◌, true≢false}
 use Rattle.std.specs.Prelude.{bytes_eq, unwrap_or, if◌then◌else◌}
 use Rattle.std.specs.List.{list_all}
-use Rattle.std.specs.Ordering.{is_eq, int_eq, nat_cmp}
+use Rattle.std.specs.Ordering.{is_eq, is_ne, int_eq, nat_cmp}
 use Rattle.std.specs.Cmp.Lexicographic.{slice_cmp}
 use Rattle.std.proofs.Common.{arith}
 use Rattle.std.specs.FinMap.{int_cmp-IsAntisymmetric}
@@ -19,7 +19,7 @@ use Rattle.sqlite.specs.Kind.{Kind}
 use Rattle.sqlite.specs.Kind.TheVariants as kind
 use Rattle.sqlite_schema.specs.declared.schema.Column.{Column}
 use Rattle.sqlite_schema.specs.Names.{is_key}
-use Rattle.sqlite_schema.specs.Rules.{equal, is_of, has_affinity, suits, are_typed, are_present}
+use Rattle.sqlite_schema.specs.Rules.{equal, differ, is_of, has_affinity, suits, are_typed, are_present}
 use Rattle.sqlite.specs.Edit.{id_in}
 use Rattle.rows_sql.proofs.Truths.{equal_is}
 use Rattle.rows_sql.specs.OurSchema.{meta, nodes, sessions, locks, children}
@@ -30,9 +30,18 @@ pub told : (b : Bool) → unwrap_or (truth (from_truth (Some b))) false ≡ b
 told true = refl
 told false = refl
 
+other : (o : Ordering) → is_ne o ≡ not (is_eq o)
+other Less = refl
+other Equal = refl
+other Greater = refl
+
 pub equal-Int : (a b : ℤ) → equal Binary (Int a) (Int b) ≡ int_eq a b
 unfolding binary
 equal-Int a b = told _ ∙ ap is_eq (value_cmp-Int a b)
+
+pub differ-Int : (a b : ℤ) → differ (Int a) (Int b) ≡ not (int_eq a b)
+unfolding binary
+differ-Int a b = told _ ∙ ap is_ne (value_cmp-Int a b) ∙ other _
 
 pub same_bytes : (s t : List ℕ) → is_eq (slice_cmp nat_cmp s t) ≡ bytes_eq s t
 same_bytes [] [] = refl

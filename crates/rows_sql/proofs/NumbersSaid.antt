@@ -1,8 +1,10 @@
 -- What the tables say once a number of the cell was set.
-use Rattle.std.proofs.Common.{◌≡◌, ℕ, ℤ, pos, Bool, true, ◌&&◌, List, [], ◌∷◌, map, Option, Some, refl, sym, ap, ◌∙◌, cond, subst}
+use Rattle.std.proofs.Common.{◌≡◌, ℕ, ℤ, pos, Bool, true, false, not, ◌&&◌, List, [], ◌∷◌, map, Option, Some, refl, sym, ap, ◌∙◌, cond, subst}
+use Rattle.std.specs.FinMap.{int_cmp-IsAntisymmetric}
 use Rattle.std.specs.Ordering.{int_eq}
-use Rattle.std.proofs.lemmas.Bool.{and_parts}
-use Rattle.std.proofs.Common.{inl}
+use Rattle.std.proofs.lemmas.Bool.{and_parts, cases_Bool}
+use Rattle.std.proofs.Common.{inl, inr}
+use Rattle.sqlite_value.specs.declared.value.Value.TheVariants.{Int}
 use Rattle.sqlite_value.specs.declared.value.ValueRef.{ValueRef}
 use Rattle.sqlite_value.specs.Order.{Row, column}
 use Rattle.sqlite.specs.Values.{bound}
@@ -27,8 +29,9 @@ use Rattle.rows_sql.specs.Carrying.{set_version_text, SetsVersion}
 use Rattle.rows_sql.specs.Ongoing.{IsStore, RanInside, Changed}
 use Rattle.rows_sql.proofs.Query.{passes}
 use Rattle.rows_sql.proofs.Trees.{renewed}
-use Rattle.rows_sql.proofs.Stores.{metas_say}
-use Rattle.rows_sql.proofs.SetNumbers.{terms, epoch_project, next_project, version_project, params, with_epoch, with_next, with_version, goes_is, set_epoch_done, set_next_done, set_version_done}
+use Rattle.rows_sql.proofs.Truths.{equal_is}
+use Rattle.rows_sql.proofs.Stores.{metas_say, meta_rows}
+use Rattle.rows_sql.proofs.SetNumbers.{terms, next_terms, epoch_project, next_project, version_project, params, with_epoch, with_next, with_version, goes_is, next_goes_is, set_epoch_done, set_next_done, set_version_done}
 
 one_mapped : {A B : Type 0} (f : A → B) (xs : List A) (y : B) → map f xs ≡ y ∷ [] → (x : A) × (xs ≡ x ∷ []) × (f x ≡ y)
 one_mapped f [] y e = absurd cc
@@ -42,6 +45,18 @@ epoch_from _ _ _ _ _ m n h = absurd cc
 next_from : (b : Bool) (o p : Option ℕ) (s c : Option (List ℕ)) (m : Meta) (n : ℕ) → meta_from b o p s c ≡ Some m → (b ≡ true) × (meta_from b o (Some n) s c ≡ Some (record m { next_instance = n }))
 next_from true (Some x) (Some y) (Some s) (Some c) m n h = (refl, let is : record { cell = c; secret = s; epoch = x; next_instance = y } ≡ m = cc in ap (λ (k : Meta). Some (record k { next_instance = n })) is)
 next_from _ _ _ _ _ m n h = absurd cc
+
+next_same : (b : Bool) (o p : Option ℕ) (s c : Option (List ℕ)) (m : Meta) (n : ℕ) → p ≡ Some n → meta_from b o p s c ≡ Some m → m ≡ record m { next_instance = n }
+next_same true (Some x) (Some y) (Some s) (Some c) m n said h =
+    let is : record { cell = c; secret = s; epoch = x; next_instance = y } ≡ m = cc in
+    let same : y ≡ n = cc in
+    sym is ∙ ap (λ k. record { cell = c; secret = s; epoch = x; next_instance = k }) same ∙ ap (λ (k : Meta). record k { next_instance = n }) is
+next_same _ _ _ _ _ m n said h = absurd cc
+
+says_it : (a e : Bool) → a ≡ true → (a && not e) ≡ false → e ≡ true
+says_it true true h none = refl
+says_it true false h none = absurd cc
+says_it false e h none = absurd cc
 
 version_from : (b c : Bool) (o p : Option ℕ) (s k : Option (List ℕ)) (m : Meta) (n : ℕ) → meta_from (b && c) o p s k ≡ Some m → ((b && c) ≡ true) × (meta_from (b && true) (Some n) p s k ≡ Some (record m { epoch = n }))
 version_from true true (Some x) (Some y) (Some s) (Some c) m n h = (refl, let is : record { cell = c; secret = s; epoch = x; next_instance = y } ≡ m = cc in ap (λ (k : Meta). Some (record k { epoch = n })) is)
@@ -62,6 +77,29 @@ module _ (old : Database) (store : IsStore old) (before now : Version) (n : ℤ)
       let goes : passes 0 terms project (params n) one.0 ≡ true = goes_is n old store project one.0 there ∙ (and_parts _ _ became.0).0 in
       ap (λ xs. map (meta_as now) (map meta_shown (map (renewed (passes 0 terms project (params n)) becomes) xs))) one.1
       ∙ ap (λ b. meta_as now (meta_shown (cond b (becomes one.0) one.0)) ∷ []) goes ∙ ap (λ o. o ∷ []) became.1
+
+-- the row says the next instance, or is the one that is set
+module _ (old : Database) (store : IsStore old) (n : ℤ) (m after : Meta) where
+  abbrev goes : Row → Bool
+  goes = passes 0 next_terms next_project (params n)
+
+  next_says : ((r : Row) → Has (old.trees 0) r → meta_as Second (meta_shown r) ≡ Some m → (is_row Second r ≡ true) × (meta_as Second (meta_shown (with_next n r)) ≡ Some after))
+      → ((r : Row) → meta_as Second (meta_shown r) ≡ Some m → column r 6 ≡ Int n → m ≡ after)
+      → map (meta_as Second) (map meta_shown (old.trees 0)) ≡ Some m ∷ []
+      → map (meta_as Second) (map meta_shown (map (renewed goes (with_next n)) (old.trees 0))) ≡ Some after ∷ []
+  next_says changes stays said =
+      let one = one_mapped (λ r. meta_as Second (meta_shown r)) (old.trees 0) (Some m) (sym (map-map (meta_as Second) meta_shown (old.trees 0)) ∙ said) in
+      let there : Has (old.trees 0) one.0 = subst (λ xs. Has xs one.0) (sym one.1) (inl refl) in
+      let became = changes one.0 there one.2 in
+      let found = (and_parts _ _ became.0).0 in
+      let either : meta_as Second (meta_shown (renewed goes (with_next n) one.0)) ≡ Some after = elim (cases_Bool (goes one.0)) [
+        | inl t ↦ ap (λ b. meta_as Second (meta_shown (cond b (with_next n one.0) one.0))) t ∙ became.1
+        | inr f ↦
+            let same = says_it _ _ found (sym (next_goes_is n old store next_project one.0 there) ∙ f) in
+            let is : column one.0 6 ≡ Int n = (meta_rows old store one.0 there).next_instance ∙ ap Int (int_cmp-IsAntisymmetric _ _ (equal_is _ same)) in
+            ap (λ b. meta_as Second (meta_shown (cond b (with_next n one.0) one.0))) f ∙ one.2 ∙ ap (λ k. Some k) (stays one.0 one.2 is)
+      ] in
+      ap (λ xs. map (meta_as Second) (map meta_shown (map (renewed goes (with_next n)) xs))) one.1 ∙ ap (λ o. o ∷ []) either
 
 pub epoch_done : (v : ValueRef) (n : ℕ) → IsNumber v n → (old new : State) → RanInside set_epoch_text (bound (v ∷ [])) old new → Changed (Epoch n ∷ []) old new
 epoch_done v n is old new run =
@@ -86,10 +124,11 @@ next_done v n is old new run =
     record {
       store = λ store. (done store).store;
       says = λ store rows h. metas_say old.now new.now _ Second rows (children_of rows.nodes) h (done store) Second (record rows { next_instance = n }) refl refl refl
-          (set_says old.now store Second Second e next_project (with_next e) (meta_of rows) (record (meta_of rows) { next_instance = n })
+          (next_says old.now store e (meta_of rows) (record (meta_of rows) { next_instance = n })
           (λ x there said.
           let s = next_from (is_row Second x) (count_in (column x 5)) (count_in (column x 6)) (secret_in (column x 4)) (component_in (column x 3)) (meta_of rows) n said in
           (s.0, ap (λ o. meta_from (is_row Second x) (count_in (column x 5)) o (secret_in (column x 4)) (component_in (column x 3))) is.2 ∙ s.1))
+          (λ x said same. next_same (is_row Second x) (count_in (column x 5)) (count_in (column x 6)) (secret_in (column x 4)) (component_in (column x 3)) (meta_of rows) n (ap count_in same ∙ is.2) said)
           h.meta);
     }
 

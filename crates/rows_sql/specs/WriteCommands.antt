@@ -4,7 +4,7 @@ use Rattle.sqlite.specs.Collation.TheVariants.{Binary}
 use Rattle.sqlite.specs.declared.types.Value.TheVariants.{Null, Int}
 use Rattle.sqlite.specs.Term.{Term, lit, col, op2}
 use Rattle.sqlite_sql.specs.declared.ops.BinaryOp.TheVariants.{Compare}
-use Rattle.sqlite_sql.specs.declared.ops.CompareOp.TheVariants.{Eq}
+use Rattle.sqlite_sql.specs.declared.ops.CompareOp.TheVariants.{Eq, Ne}
 use Rattle.sqlite.specs.Command.{Command}
 use Rattle.sqlite.specs.Command.TheVariants.{InsertOr, Update, Delete}
 use Rattle.sqlite.specs.Source.TheVariants.{Values}
@@ -14,11 +14,14 @@ use Rattle.rows_sql.specs.Commands.{over}
 abbrev pub is : Term → Term → Term
 is a b = op2 (Compare Eq Binary) a b
 
+abbrev pub isnt : Term → Term → Term
+isnt a b = op2 (Compare Ne Binary) a b
+
 abbrev pub set_epoch_command : Command
 set_epoch_command = Update 0 (record { lets = []; body = over 0 (is (col 1 0) (lit (Int (pos 1))) ∷ []) (col 1 0 ∷ col 1 0 ∷ lit Null ∷ col 1 2 ∷ col 1 3 ∷ col 1 4 ∷ col 0 0 ∷ col 1 6 ∷ []) })
 
 abbrev pub set_next_instance_command : Command
-set_next_instance_command = Update 0 (record { lets = []; body = over 0 (is (col 1 0) (lit (Int (pos 1))) ∷ []) (col 1 0 ∷ col 1 0 ∷ lit Null ∷ col 1 2 ∷ col 1 3 ∷ col 1 4 ∷ col 1 5 ∷ col 0 0 ∷ []) })
+set_next_instance_command = Update 0 (record { lets = []; body = over 0 (is (col 1 0) (lit (Int (pos 1))) ∷ isnt (col 1 6) (col 0 0) ∷ []) (col 1 0 ∷ col 1 0 ∷ lit Null ∷ col 1 2 ∷ col 1 3 ∷ col 1 4 ∷ col 1 5 ∷ col 0 0 ∷ []) })
 
 abbrev pub put_node_command : Command
 put_node_command = InsertOr 1 Abort (Values (lit Null ∷ col 0 0 ∷ col 0 1 ∷ col 0 2 ∷ col 0 3 ∷ col 0 4 ∷ col 0 5 ∷ lit (Int (pos 0)) ∷ col 0 6 ∷ col 0 7 ∷ col 0 8 ∷ col 0 9 ∷ []) 12) (record {

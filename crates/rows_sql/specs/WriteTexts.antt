@@ -5,7 +5,7 @@ abbrev pub set_epoch_text : List ℕ
 set_epoch_text = codes "UPDATE meta SET epoch = ?1 WHERE id = 1"
 
 abbrev pub set_next_instance_text : List ℕ
-set_next_instance_text = codes "UPDATE meta SET next_instance = ?1 WHERE id = 1"
+set_next_instance_text = codes "UPDATE meta SET next_instance = ?1 WHERE id = 1 AND next_instance <> ?1"
 
 abbrev pub put_node_text : List ℕ
 put_node_text = codes "INSERT INTO nodes (name, instance, kind, life, content_gen, acl_gen, lock_gen, acl_read, acl_write, acl_change, content) VALUES (?1, ?2, ?3, ?4, ?5, ?6, 0, ?7, ?8, ?9, ?10) ON CONFLICT (name) DO UPDATE SET instance = excluded.instance, kind = excluded.kind, life = excluded.life, content_gen = excluded.content_gen, acl_gen = excluded.acl_gen, acl_read = excluded.acl_read, acl_write = excluded.acl_write, acl_change = excluded.acl_change, content = excluded.content"

@@ -6,6 +6,7 @@ use Rattle.node_core.specs.declared.lines.Line.{Line}
 use Rattle.node_core.specs.declared.lines.Line.TheVariants as lines
 use Rattle.rows_cell.specs.Rows.{map_of}
 use Rattle.rows_cell.specs.Sound.{is_live_in}
+use Rattle.rows_cell.specs.Stores.{Store}
 use Rattle.world_core.specs.declared.steps.Step.{Step}
 use Rattle.world_core.specs.World.{WorldView, IsUndoubted}
 use Rattle.world_laws.specs.Runs.{AnyRun, map_at, after_lines, epoch_at, live_at, applied, Rises}
@@ -139,3 +140,11 @@ status_at (Err stop) = status_of stop
 -- what it printed before is written whole; or that can't be written
 abbrev pub EndsWith : ℕ → (Result (Unit {0}) Stop → List Line → Type 0) → Option (List ℕ) → Option (List ℕ) → Type 0
 EndsWith status P before after = (ended : Result (Unit {0}) Stop) × (status ≡ status_at ended) × EndsIn ended (P ended) before after
+
+-- records of a type in which none is ever in doubt
+abbrev pub IsNeverInDoubt : {R : Type 0} → (R → Store) → Type 0
+IsNeverInDoubt {R} store = (records : R) → (store records).doubt ≡ 0
+
+-- a script ended so on a world: to some world, and all laws of runs hold between
+abbrev pub RunsSurely : ℕ → Option (List ℕ) → WorldView → Option (List ℕ) → Option (List ℕ) → Type 0
+RunsSurely status text old before after = (new : WorldView) × EndsWith status (EndsSurely text old new) before after

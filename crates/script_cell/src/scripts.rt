@@ -2,7 +2,7 @@
 ghost use Rattle.std.specs.Prelude.{◌≡◌, ◌≤◌, ◌∷◌, [], Some, length, OnOk, IfOk, IfErr};
 ghost use Rattle.std.specs.Io.KnownBytes.{Keeps};
 ghost use Rattle.world_core.specs.World.{WorldView, IsUndoubted, opened};
-ghost use Rattle.script_cell.specs.Ran.{Ends, EndsWell, EndsSurely, EndsIn, EndsAs, EndsWith, Breaks, BreaksLine, StopsReading, Writes, Obeys};
+ghost use Rattle.script_cell.specs.Ran.{Ends, EndsWell, EndsSurely, EndsIn, EndsAs, EndsWith, IsNeverInDoubt, RunsSurely, Breaks, BreaksLine, StopsReading, Writes, Obeys};
 ghost use Rattle.script_cell.specs.Scripts.{Wrote, IsOfScript, DoesLine, told};
 ghost use Rattle.script_cell.specs.Settling.{played, Settles, TakesTurn, PlaysMade, PlaysRefused, turn_step, is_waiting, is_idle};
 ghost use Rattle.script_cell.specs.Stops.{IsStatus};
@@ -39,9 +39,13 @@ pub fn script<R: Records + Drop, I: Read + Drop, W: Write>(
     ensures written { result ≡ 0 → Wrote (IsOfScript (I.remaining reader) (opened (R.store records) settings.now.lease)) (W.contents writer.old) (W.contents writer.new) }
     // Whatever the end, as of `script_on`: the world that the steps left is gone, and the records with it.
     ensures ran { (new : WorldView) × EndsWith result (EndsWell (I.remaining reader) (opened (R.store records) settings.now.lease) new) (W.contents writer.old) (W.contents writer.new) }
+    // Over records that are never in doubt, as lists: all laws hold, and no more is asked.
+    ensures sure { IsNeverInDoubt R.store → RunsSurely result (I.remaining reader) (opened (R.store records) settings.now.lease) (W.contents writer.old) (W.contents writer.new) }
 {
     let mut world = World::new(alloc, records, settings);
-    script_on(alloc, &mut world, reader, writer, errors, false)
+    let status = script_on(alloc, &mut world, reader, writer, errors, false);
+    drop(world.close());
+    status
 }
 
 /// The same on a world that is there. Behind the script it stands as the steps left it, and can be closed. Where it is

@@ -40,7 +40,7 @@ pub(crate) fn set_epoch<S: Alter>(tx: &mut Transaction<'_, S>, epoch: u64) -> Re
     run(tx, "UPDATE meta SET epoch = ?1 WHERE id = 1", &[epoch])
 }
 
-/// Sets the instance of the next node.
+/// Sets the instance of the next node. Where it is that already no row is found, and no page is written.
 pub(crate) fn set_next_instance<S: Alter>(
     tx: &mut Transaction<'_, S>,
     next: u64,
@@ -53,7 +53,7 @@ pub(crate) fn set_next_instance<S: Alter>(
     let next = number(next)?;
     run(
         tx,
-        "UPDATE meta SET next_instance = ?1 WHERE id = 1",
+        "UPDATE meta SET next_instance = ?1 WHERE id = 1 AND next_instance <> ?1",
         &[next],
     )
 }
