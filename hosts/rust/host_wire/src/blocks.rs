@@ -25,26 +25,45 @@ pub fn write_block(stream: &mut impl Write, block: &[u8]) -> io::Result<()> {
 ///
 /// `InvalidInput` for 2^32 bytes or more.
 pub fn framed(block: &[u8]) -> io::Result<Vec<u8>> {
-    let length = u32::try_from(block.len()).map_err(|_| io::Error::from(ErrorKind::InvalidInput))?;
     let mut bytes = Vec::with_capacity(block.len() + 4);
-    bytes.extend_from_slice(&length.to_be_bytes());
-    bytes.extend_from_slice(block);
+    put_block(&mut bytes, block)?;
     Ok(bytes)
+}
+
+/// Puts a block and its length behind others.
+///
+/// # Errors
+///
+/// `InvalidInput` for 2^32 bytes or more, of which nothing is put there.
+pub fn put_block(out: &mut Vec<u8>, block: &[u8]) -> io::Result<()> {
+    let length = u32::try_from(block.len()).map_err(|_| io::Error::from(ErrorKind::InvalidInput))?;
+    out.extend_from_slice(&length.to_be_bytes());
+    out.extend_from_slice(block);
+    Ok(())
 }
 
 /// The blocks that come in a stream. What was read of a block stays where a read times out, so that the next call goes on there.
 #[derive(Debug)]
 pub struct Blocks {
     limit: usize,
+    least: usize,
+    // (what was read and not yet taken stands from the begin to the end)
     bytes: Vec<u8>,
     begin: usize,
+    end: usize,
 }
 
 impl Blocks {
     /// No byte yet; a block has at most so many.
     #[must_use]
     pub fn new(limit: usize) -> Blocks {
-        Blocks { limit, bytes: Vec::new(), begin: 0 }
+        Blocks { limit, least: READ_SIZES.0, bytes: Vec::new(), begin: 0, end: 0 }
+    }
+
+    /// The same of a stream that carries much: as many bytes are read at once as may be, and room for these is kept.
+    #[must_use]
+    pub fn wide(limit: usize) -> Blocks {
+        Blocks { least: READ_SIZES.1, ..Blocks::new(limit) }
     }
 
     /// From here on a block has at most so many bytes.
@@ -60,11 +79,17 @@ impl Blocks {
     /// `UnexpectedEof` where the stream ends within one.
     pub fn next(&mut self, stream: &mut impl Read) -> io::Result<Option<Vec<u8>>> {
         loop {
-            if let Some(block) = self.take_block()? {
-                return Ok(Some(block));
+            if let Some(block) = self.take()? {
+                return Ok(Some(block.to_vec()));
             }
-            if self.fill(stream)? == 0 {
-                return self.ended();
+            let read = loop {
+                match stream.read(self.room()) {
+                    Err(error) if error.kind() == ErrorKind::Interrupted => {}
+                    read => break read?,
+                }
+            };
+            if !self.came(read)? {
+                return Ok(None);
             }
         }
     }
@@ -76,66 +101,67 @@ impl Blocks {
     /// As of `next`.
     pub async fn next_of(&mut self, stream: &mut (impl AsyncRead + Unpin)) -> io::Result<Option<Vec<u8>>> {
         loop {
-            if let Some(block) = self.take_block()? {
-                return Ok(Some(block));
+            if let Some(block) = self.take()? {
+                return Ok(Some(block.to_vec()));
             }
-            self.make_room();
-            if stream.read_buf(&mut self.bytes).await? == 0 {
-                return self.ended();
+            if !self.fill_of(stream).await? {
+                return Ok(None);
             }
         }
     }
 
-    // Lets go of what was taken, and makes room for what is next to come: for more where more came.
-    fn make_room(&mut self) {
-        self.bytes.drain(..self.begin);
-        self.begin = 0;
-        if self.bytes.is_empty() && self.bytes.capacity() > KEPT {
-            self.bytes.shrink_to(READ_SIZES.0);
-        }
-        self.bytes.reserve(self.bytes.len().clamp(READ_SIZES.0, READ_SIZES.1));
+    /// Waits for one read of the stream, for `take`; whether the stream goes on. Where that is given up nothing is lost.
+    ///
+    /// # Errors
+    ///
+    /// What the read answers; `UnexpectedEof` where the stream ends within a block.
+    pub async fn fill_of(&mut self, stream: &mut (impl AsyncRead + Unpin)) -> io::Result<bool> {
+        let read = stream.read(self.room()).await?;
+        self.came(read)
     }
 
-    fn ended(&self) -> io::Result<Option<Vec<u8>>> {
-        if self.begin == self.bytes.len() {
-            return Ok(None);
-        }
-        Err(ErrorKind::UnexpectedEof.into())
-    }
-
-    // The block that stands in front, where it is whole.
-    fn take_block(&mut self) -> io::Result<Option<Vec<u8>>> {
-        let held = &self.bytes[self.begin..];
-        let Some((head, rest)) = held.split_first_chunk::<4>() else {
+    /// The next block of what was read; None where it isn't whole yet.
+    ///
+    /// # Errors
+    ///
+    /// `InvalidData` for a block above the limit.
+    pub fn take(&mut self) -> io::Result<Option<&[u8]>> {
+        let Some((head, rest)) = self.bytes[self.begin..self.end].split_first_chunk::<4>() else {
             return Ok(None);
         };
         let length = u32::from_be_bytes(*head) as usize;
         if length > self.limit {
             return Err(ErrorKind::InvalidData.into());
         }
-        let Some(block) = rest.get(..length) else {
-            return Ok(None);
-        };
-        let block = block.to_vec();
-        self.begin += 4 + length;
-        Ok(Some(block))
+        let block = rest.get(..length);
+        if block.is_some() {
+            self.begin += 4 + length;
+        }
+        Ok(block)
     }
 
-    // Reads once, and says how many bytes came.
-    fn fill(&mut self, stream: &mut impl Read) -> io::Result<usize> {
-        self.bytes.drain(..self.begin);
-        self.begin = 0;
-        let mut room = [0; READ_SIZES.1];
-        loop {
-            match stream.read(&mut room) {
-                Err(error) if error.kind() == ErrorKind::Interrupted => {}
-                Err(error) => return Err(error),
-                Ok(count) => {
-                    self.bytes.extend_from_slice(&room[..count]);
-                    return Ok(count);
-                }
-            }
+    // So many bytes were read into the room; whether the stream goes on.
+    fn came(&mut self, read: usize) -> io::Result<bool> {
+        self.end += read;
+        if read == 0 && self.begin != self.end {
+            return Err(ErrorKind::UnexpectedEof.into());
         }
+        Ok(read > 0)
+    }
+
+    // Lets go of what was taken, and has room for what is next to come: for more where more came. (Only new room is set to zero.)
+    fn room(&mut self) -> &mut [u8] {
+        self.bytes.copy_within(self.begin..self.end, 0);
+        (self.begin, self.end) = (0, self.end - self.begin);
+        if self.end == 0 && self.bytes.len() > self.least.max(KEPT) {
+            self.bytes.truncate(self.least);
+            self.bytes.shrink_to_fit();
+        }
+        let wanted = self.end + self.end.clamp(self.least, READ_SIZES.1);
+        if self.bytes.len() < wanted {
+            self.bytes.resize(wanted, 0);
+        }
+        &mut self.bytes[self.end..]
     }
 }
 

@@ -3,7 +3,6 @@
 use crate::fields::Fields;
 use crate::messages::VERSION;
 use crate::messages::of_client::CALL;
-use crate::messages::of_master::{REFUSED, REPLY};
 
 /// The kinds of calls, as `docs/FORMATS.md` numbers them.
 const OPEN: u8 = 0;
@@ -106,17 +105,6 @@ fn of_handle<'a>(kind: u8, fields: &mut Fields<'a>) -> Option<(&'a str, Act)> {
     Some((name, act))
 }
 
-/// Of which client and number a message of a master ends the call; None of one that ends none.
-#[must_use]
-pub fn ended_call(message: &[u8]) -> Option<(u64, u64)> {
-    let mut fields = Fields(message);
-    if !matches!(fields.take(2)?, [VERSION, REPLY | REFUSED]) {
-        return None;
-    }
-    let (client, _epoch, number) = (fields.word()?, fields.word()?, fields.word()?);
-    Some((client, number))
-}
-
 #[cfg(test)]
 mod tests {
     use super::*;
@@ -159,11 +147,5 @@ mod tests {
             assert_eq!(found.as_ref().map(|deed| (deed.name, deed.act)), *wanted, "{message:?}");
             assert!(found.is_none_or(|deed| (deed.client, deed.epoch, deed.number) == (7, 2, 5)));
         }
-    }
-
-    #[test]
-    fn ends_of_calls_are_read() {
-        assert_eq!(ended_call(&crate::write_store_refused(7, 2, 5)), Some((7, 5)));
-        assert_eq!(ended_call(b"\x01\x01"), None);
     }
 }

@@ -13,16 +13,18 @@ mod heads;
 pub mod messages;
 mod names;
 mod notices;
+mod said;
 mod shown;
 
 pub use addresses::{Address, NoAddress};
-pub use blocks::{Blocks, framed, write_block};
-pub use deeds::{Act, Deed, ended_call};
+pub use blocks::{Blocks, framed, put_block, write_block};
+pub use deeds::{Act, Deed};
 pub use fields::Fields;
 pub use greetings::{GREETING_LIMIT, Hello, Malformed, TurnedAway, Welcome};
 pub use heads::{Head, is_component};
 pub use names::common_name;
 pub use notices::{Notice, write_store_refused};
+pub use said::{Answer, Said};
 pub use shown::{LockShown, NodeShown, SessionShown, Shown, Status, WaitShown};
 
 /// The longest block that a client sends, in bytes: a frame that carries it to the master has at most 1,048,576, ten of them

@@ -44,14 +44,6 @@ pub fn number_of_client(message: &[u8]) -> Option<u64> {
     fields.word()
 }
 
-/// The number of the client's message that a master's message of these bytes answers.
-#[must_use]
-pub fn number_of_master(message: &[u8]) -> Option<u64> {
-    let mut fields = Fields(message);
-    fields.take(18)?;
-    fields.word()
-}
-
 #[cfg(test)]
 mod tests {
     use super::*;
@@ -64,9 +56,6 @@ mod tests {
             (number_of_client(&start), Some(5)),
             (number_of_client(&words(of_client::BEAT, &[7, 2, 6, 3, 1])), Some(6)),
             (number_of_client(&words(of_client::CALL, &[7, 2])), None),
-            (number_of_master(&words(of_master::STARTED, &[7, 2, 5, 12_000])), Some(5)),
-            (number_of_master(&words(of_master::REFUSED, &[7, 2, 6])), Some(6)),
-            (number_of_master(&words(of_master::REFUSED, &[7, 2])), None),
         ];
         for (found, wanted) in rows {
             assert_eq!(found, wanted);

@@ -1,6 +1,6 @@
 //! Whatever bytes come: they are read as what they are, or as nothing.
 
-use host_wire::{Blocks, Deed, Head, Hello, Notice, TurnedAway, Welcome, common_name, ended_call, framed, is_component};
+use host_wire::{Blocks, Deed, Head, Hello, Notice, Said, TurnedAway, Welcome, common_name, framed, is_component};
 use proptest::collection::vec;
 use proptest::prelude::*;
 
@@ -24,7 +24,7 @@ proptest! {
             prop_assert_eq!(Head::read(&bytes).map(|head| head.client), Some(deed.client));
         }
         prop_assert_eq!(Notice::read(&bytes).is_some(), bytes.len() >= 10 && bytes[..2] == [2, 4]);
-        prop_assert!(ended_call(&bytes).is_none() || bytes.len() >= 26);
+        prop_assert!(Said::read(&bytes).is_none() || bytes.len() > 26);
         prop_assert!(common_name(&bytes).is_none());
     }
 

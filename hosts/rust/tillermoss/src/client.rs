@@ -1,7 +1,7 @@
 //! A client that keeps its session by itself.
 
 use crate::calls::{Call, Create, Opening};
-use crate::core::{Core, End, Reply, Standing, State, Tried};
+use crate::core::{Core, End, Mark, Reply, Standing, State, Tried};
 use crate::errors::Error;
 use crate::events::{Event, Events};
 use crate::keeper::{Keeper, greet_any};
@@ -10,6 +10,7 @@ use crate::lines::{Answer, Shown};
 use crate::nodes::{LockMode, Mode, Stat, View};
 use crate::reaching::Reach;
 use crate::refusals::Refusal;
+use crate::viewer::Viewer;
 use host_wire::{Hello, Welcome};
 use std::path::PathBuf;
 use std::sync::Arc;
@@ -343,7 +344,7 @@ impl Client {
     }
 
     // The number of a handle of this client.
-    fn own(&self, handle: Handle) -> Result<u64, Error> {
+    pub(crate) fn own(&self, handle: Handle) -> Result<u64, Error> {
         if handle.client == self.number { Ok(handle.number) } else { Err(Refusal::BadHandle.into()) }
     }
 
@@ -540,6 +541,41 @@ impl Client {
                 Ok(false)
             }
         }
+    }
+
+    /// A reader for one thread, which takes no lock where the cache answers.
+    ///
+    /// ```
+    /// # trials::with_client(|client| {
+    /// let file = client.create("/ls/c/f", b"hello")?;
+    /// assert_eq!(client.viewer().read(file)?, b"hello");
+    /// # Ok(()) });
+    /// ```
+    #[must_use]
+    pub fn viewer(&self) -> Viewer<&Client> {
+        Viewer::of(self)
+    }
+
+    // As `read_into`, with word of how long that is what the cache answers.
+    pub(crate) fn read_marked(&self, handle: Handle, room: &mut Vec<u8>) -> Result<Mark, Error> {
+        let number = self.own(handle)?;
+        let mut mark = Mark::NEVER;
+        let reply = self.ask(true, |state| {
+            let tried = state.read_into(number, room)?;
+            if matches!(tried, Tried::Served) {
+                mark = state.mark();
+            }
+            Ok(tried)
+        })?;
+        if let Some(reply) = reply {
+            *room = reply.content;
+        }
+        Ok(mark)
+    }
+
+    // Whether it has begun no step since, and its lease still ran at this moment before.
+    pub(crate) fn stands_as(&self, mark: Mark, now: u64) -> bool {
+        self.core.stands_as(mark, now)
     }
 
     /// The numbers of a node.

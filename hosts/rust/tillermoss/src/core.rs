@@ -9,8 +9,9 @@ use crate::lines::{Answer, Line, Shown};
 use crate::refusals::Refusal;
 use host_wire::messages::number_of_client;
 use host_wire::{Notice, TurnedAway};
+use std::sync::atomic::{AtomicU64, Ordering};
 use std::sync::mpsc::{Receiver, Sender, channel};
-use std::sync::{Condvar, Mutex, MutexGuard, PoisonError};
+use std::sync::{Arc, Condvar, Mutex, MutexGuard, PoisonError};
 use std::time::Duration;
 use tokio::sync::mpsc::UnboundedSender;
 
@@ -66,6 +67,18 @@ pub enum Tried {
     NotNow(Refusal),
 }
 
+/// What the cache answered holds, while the client makes no further step and its lease runs.
+#[derive(Clone, Copy, Debug, PartialEq, Eq)]
+pub struct Mark {
+    turn: u64,
+    leased_until: u64,
+}
+
+impl Mark {
+    /// That of an answer which holds for no moment.
+    pub const NEVER: Mark = Mark { turn: 0, leased_until: 0 };
+}
+
 /// Who is told of the events of a handle.
 #[derive(Debug)]
 struct Watcher {
@@ -78,6 +91,7 @@ struct Watcher {
 #[derive(Debug)]
 pub struct State {
     library: Library,
+    turns: Arc<AtomicU64>,
     outgoing: Option<UnboundedSender<Vec<u8>>>,
     notice: Option<Notice>,
     waiter: Option<Sender<Result<Reply, Error>>>,
@@ -92,13 +106,17 @@ pub struct State {
 pub struct Core {
     state: Mutex<State>,
     changed: Condvar,
+    // How many steps the client has begun. Each is counted before it is made, and so before its message is sent.
+    turns: Arc<AtomicU64>,
 }
 
 impl Core {
     /// That of a client of the library that has done nothing yet.
     pub fn new(library: Library) -> Core {
+        let turns = Arc::new(AtomicU64::new(1));
         let state = State {
             library,
+            turns: Arc::clone(&turns),
             outgoing: None,
             notice: None,
             waiter: None,
@@ -107,7 +125,12 @@ impl Core {
             standing: Standing::Unstarted,
             end: None,
         };
-        Core { state: Mutex::new(state), changed: Condvar::new() }
+        Core { state: Mutex::new(state), changed: Condvar::new(), turns }
+    }
+
+    /// Whether the client has begun no step since this mark was made, and its lease still ran at this moment before. Takes no lock.
+    pub fn stands_as(&self, mark: Mark, now: u64) -> bool {
+        now < mark.leased_until && self.turns.load(Ordering::SeqCst) == mark.turn
     }
 
     /// The state, for one caller at a time.
@@ -158,7 +181,18 @@ impl State {
         self.outgoing = Some(outgoing);
     }
 
+    // A step of the client begins: what it answered before needs no longer be so.
+    fn turn(&self) {
+        self.turns.fetch_add(1, Ordering::SeqCst);
+    }
+
+    /// The mark of what the cache answers now.
+    pub fn mark(&mut self) -> Mark {
+        Mark { turn: self.turns.load(Ordering::SeqCst), leased_until: self.library.leased_until() }
+    }
+
     fn end(&mut self, end: End) {
+        self.turn();
         self.end.get_or_insert(end);
         self.waiter = None;
         self.watchers.clear();
@@ -179,6 +213,7 @@ impl State {
 
     /// Sends a Start or a Beat, which notes the time; gives its number, and the moment until which the client trusts its lease.
     pub fn beat(&mut self) -> (Option<u64>, u64) {
+        self.turn();
         let status = self.library.beat(clock::now());
         self.learn(status);
         let message = if status == Status::Send { self.library.message() } else { None };
@@ -200,6 +235,7 @@ impl State {
             self.notice = Some(notice).filter(|notice| !notice.is_of_new_master()).or(self.notice.take());
             return;
         }
+        self.turn();
         let status = self.library.give(clock::now(), message);
         self.learn(status);
         if self.standing == Standing::Unstarted && self.library.leased_until() > 0 {
@@ -215,6 +251,7 @@ impl State {
         if self.library.hit(clock::now(), handle, room) {
             return Ok(Tried::Served);
         }
+        self.turn();
         let status = self.library.read(clock::now(), handle, room);
         if status == Status::Served {
             return Ok(Tried::Served);
@@ -228,6 +265,7 @@ impl State {
         if let Some(fault) = self.fault() {
             return Err(fault);
         }
+        self.turn();
         let status = self.library.ask(clock::now(), &call.write());
         let own = self.learn(status);
         self.tried(status, own, watcher)
@@ -260,6 +298,7 @@ impl State {
 
     /// Poisons a handle.
     pub fn poison(&mut self, handle: u64) -> Result<(), Error> {
+        self.turn();
         let status = self.library.poison(clock::now(), handle);
         self.learn(status);
         match status {

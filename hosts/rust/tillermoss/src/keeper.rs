@@ -4,9 +4,7 @@ use crate::clock;
 use crate::core::{Core, End};
 use crate::errors::Error;
 use crate::reaching::{Reach, Stream};
-use host_wire::messages::number_of_master;
-use host_wire::messages::of_master::{ALIVE, NOTICE, REFUSED, STARTED};
-use host_wire::{ANSWER_LIMIT, Blocks, Hello, Notice, TurnedAway, Welcome, framed};
+use host_wire::{ANSWER_LIMIT, Answer, Blocks, Hello, Notice, Said, TurnedAway, Welcome, framed};
 use std::io::{self, ErrorKind};
 use std::sync::Arc;
 use std::time::{Duration, Instant};
@@ -35,13 +33,6 @@ const SILENCE: u64 = 3_000;
 
 /// So many milliseconds a master has kept a Beat where the next one is sent once more in the middle.
 const LONG: u64 = 20_000;
-
-/// The length in bytes of an Alive that has neither invalidations nor events.
-const EMPTY_ALIVE: usize = 42;
-
-/// Where a message of a master that refuses one says why, and the byte of the refusal 28, that another master is up.
-const REFUSAL_AT: usize = 26;
-const OLD_EPOCH: u8 = 27;
 
 /// A connection that is bound to a client, with what was read of it behind the welcome.
 pub struct Connection {
@@ -133,13 +124,18 @@ impl Schedule {
     // A message came. Behind the answer to the last Beat the next one goes: at once where there is something to acknowledge. Where another
     // master is up the last one is lost.
     fn give(&mut self, now: u64, message: &[u8]) {
-        let is_answer = self.number.is_some() && number_of_master(message) == self.number;
+        let Some(said) = Said::read(message) else {
+            if Notice::read(message).is_some_and(|notice| notice.is_of_new_master()) {
+                self.due = now;
+            }
+            return;
+        };
+        let is_answer = self.number == Some(said.number);
         let paced = now.max(self.sent.saturating_add(PACE));
-        self.due = match message.get(1) {
-            Some(&ALIVE) if is_answer && message.len() > EMPTY_ALIVE => now,
-            Some(&(STARTED | ALIVE | REFUSED)) if is_answer => self.due.min(paced),
-            Some(&REFUSED) if message.get(REFUSAL_AT) == Some(&OLD_EPOCH) => self.due.min(paced),
-            Some(&NOTICE) if Notice::read(message).is_some_and(|notice| notice.is_of_new_master()) => now,
+        self.due = match said.answer {
+            Answer::Reply(_) => return,
+            Answer::Alive(_, true) if is_answer => now,
+            _ if is_answer || said.is_of_old_epoch() => self.due.min(paced),
             _ => return,
         };
         if is_answer {
@@ -268,12 +264,21 @@ async fn write_all(mut write: impl AsyncWrite + Unpin, mut waiting: UnboundedRec
 #[cfg(test)]
 mod tests {
     use super::*;
+    use host_wire::messages::VERSION;
+    use host_wire::messages::of_master::{ALIVE, REFUSED, REPLY, STARTED};
 
-    fn message(kind: u8, number: u8, length: usize) -> Vec<u8> {
-        let mut message = vec![0; length];
-        message[..2].copy_from_slice(&[2, kind]);
-        message[25] = number;
-        message
+    fn message(kind: u8, number: u8, rest: &[u8]) -> Vec<u8> {
+        let words = [7, 2, u64::from(number)].into_iter().flat_map(u64::to_be_bytes);
+        [VERSION, kind].into_iter().chain(words).chain(rest.iter().copied()).collect()
+    }
+
+    // An Alive, which comes with so many invalidations, as far as it is read.
+    fn alive(number: u8, invalidations: u8) -> Vec<u8> {
+        message(ALIVE, number, &[&[0; 11], &[invalidations][..], &[0; 4]].concat())
+    }
+
+    fn refused(number: u8, refusal: u8) -> Vec<u8> {
+        message(REFUSED, number, &[refusal - 1])
     }
 
     #[test]
@@ -306,7 +311,7 @@ mod tests {
             schedule = schedule.sent(schedule.due, (Some(number), 0));
         }
         assert_eq!(dues, [200, 600, 1400, 3000, 6200, 12_600, 22_600, 32_600]);
-        schedule.give(40_000, &message(ALIVE, 8, EMPTY_ALIVE));
+        schedule.give(40_000, &alive(8, 0));
         assert_eq!((schedule.usual, schedule.sent(40_020, (Some(9), 0)).due), (40_000, 40_220));
     }
 
@@ -318,7 +323,7 @@ mod tests {
             assert_eq!(schedule.silent_from(), silent_from, "{leased_until}");
             schedule = schedule.sent(schedule.due, (Some(8), leased_until));
             assert_eq!(schedule.silent_from(), silent_from, "{leased_until}");
-            schedule.give(6000, &message(ALIVE, 8, EMPTY_ALIVE));
+            schedule.give(6000, &alive(8, 0));
             assert_eq!(schedule.silent_from(), u64::MAX, "{leased_until}");
         }
         assert_eq!(Schedule::new().silent_from(), u64::MAX);
@@ -326,22 +331,20 @@ mod tests {
 
     #[test]
     fn the_next_beat_goes_behind_an_answer() {
-        let mut refused = message(REFUSED, 6, 35);
-        refused[REFUSAL_AT] = OLD_EPOCH;
         let notice = |number| Notice { number, reason: String::new() }.write();
         let rows = [
-            (1005, message(ALIVE, 7, EMPTY_ALIVE), 1020, true),
-            (1050, message(ALIVE, 7, EMPTY_ALIVE), 1050, true),
-            (1005, message(ALIVE, 7, EMPTY_ALIVE + 1), 1005, true),
-            (1005, message(STARTED, 7, 34), 1020, true),
-            (1005, message(REFUSED, 7, 30), 1020, true),
-            (1005, refused, 1020, false),
+            (1005, alive(7, 0), 1020, true),
+            (1050, alive(7, 0), 1050, true),
+            (1005, alive(7, 1), 1005, true),
+            (1005, message(STARTED, 7, &[0; 8]), 1020, true),
+            (1005, refused(7, 1), 1020, true),
+            (1005, refused(6, 28), 1020, false),
             (1005, notice(0), 1005, false),
             (1005, notice(7), 5000, false),
-            (1005, message(REFUSED, 6, 30), 5000, false),
-            (1005, message(STARTED, 6, 34), 5000, false),
-            (1005, message(ALIVE, 6, EMPTY_ALIVE + 1), 5000, false),
-            (1005, message(2, 7, 30), 5000, false),
+            (1005, refused(6, 1), 5000, false),
+            (1005, message(STARTED, 6, &[0; 8]), 5000, false),
+            (1005, alive(6, 1), 5000, false),
+            (1005, message(REPLY, 7, &[0; 2]), 5000, false),
         ];
         for (now, message, due, is_answered) in rows {
             let mut schedule = Schedule::new().sent(1000, (Some(7), 5000));

@@ -31,6 +31,7 @@ mod lines;
 mod nodes;
 mod reaching;
 mod refusals;
+mod viewer;
 
 pub use admin::Admin;
 pub use calls::{Create, Life, Opening};
@@ -87,3 +88,4 @@ pub use host_wire::TurnedAway;
 pub use nodes::{Kind, LockMode, Mode, Right, Stat, View};
 pub use reaching::own_principal;
 pub use refusals::Refusal;
+pub use viewer::Viewer;

@@ -251,7 +251,7 @@ impl Hall {
         let welcome = Welcome { client, token: bound.token };
         let outgoing = Arc::new(Outgoing::new(&bound.principal));
         let (read, write) = tokio::io::split(stream);
-        let binding = self.routes.bind(client, outgoing.clone(), Welcome::write(&Ok(welcome)));
+        let binding = self.routes.bind(client, outgoing.clone(), &Welcome::write(&Ok(welcome)));
         let writer = outgoing.clone();
         tokio::spawn(async move { writer.write_all(write).await });
         let end = tokio::select! {
@@ -323,8 +323,8 @@ impl Hall {
         };
         self.metrics.limited();
         info!(client = bound.client, principal = &*bound.principal, %reason, name = deed.name, "a call was refused by a limit");
-        outgoing.send(Notice { number: deed.number, reason }.write());
-        outgoing.send(write_store_refused(deed.client, deed.epoch, deed.number));
+        outgoing.send(&Notice { number: deed.number, reason }.write());
+        outgoing.send(&write_store_refused(deed.client, deed.epoch, deed.number));
         false
     }
 }

@@ -78,6 +78,11 @@ impl Lines {
         })
     }
 
+    /// Whether one waits.
+    pub fn has_some(&self) -> bool {
+        !self.principals.lock().unwrap_or_else(PoisonError::into_inner).turns.is_empty()
+    }
+
     /// Waits until one more waits.
     pub async fn filled(&self) {
         self.filled.notified().await;

@@ -14,6 +14,7 @@ mod numbers;
 mod options;
 mod outgoing;
 mod picture;
+mod printed;
 mod pulse;
 mod rates;
 mod restoring;

@@ -4,18 +4,20 @@ use crate::connections::Hall;
 use crate::etcd::Rows;
 use crate::etcd::pipes::Kept;
 use crate::lines::Message;
+use crate::outgoing::Outgoing;
+use crate::printed::Printed;
 use crate::pulse::Pulse;
 use crate::settings::Settings;
 use crate::store::{self, Identity};
 use crate::told::{Frame, Next, Told};
 use anyhow::{Context, Result, bail};
-use host_wire::messages::of_master::{ALIVE, REPLY, STARTED};
-use host_wire::messages::{REFUSAL, VERSION};
-use host_wire::{ANSWER_LIMIT, Blocks, Fields, ended_call, framed};
+use host_wire::{ANSWER_LIMIT, Answer, Blocks, Said};
 use std::collections::VecDeque;
 use std::error::Error;
 use std::fmt::{self, Display, Formatter};
+use std::future::pending;
 use std::io;
+use std::mem;
 use std::os::unix::process::CommandExt;
 use std::path::{Path, PathBuf};
 use std::process::{ExitStatus, Stdio};
@@ -96,15 +98,24 @@ struct Sent {
     is_refused: bool,
 }
 
+/// The stream to the master: frames that wait together are written together. It ends behind the last one.
+#[derive(Debug)]
+struct Input {
+    stream: Option<ChildStdin>,
+    waiting: Vec<u8>,
+    is_over: bool,
+}
+
 /// A master that is up. Its moments are milliseconds since it was started; they stand still while the machine sleeps, so that no
 /// session ends because nobody could be heard of.
 #[derive(Debug)]
 pub struct Master {
     hall: Arc<Hall>,
     child: Child,
+    input: Input,
     output: ChildStdout,
     blocks: Blocks,
-    frames: mpsc::Sender<Vec<u8>>,
+    woken: Vec<Arc<Outgoing>>,
     identity: Option<Identity>,
     rows: Option<(Rows, Kept)>,
     begun: Instant,
@@ -122,21 +133,35 @@ impl Making {
         let settings = self.settings.write()?;
         let kept = self.rows.as_ref().map(|rows| anyhow::Ok((rows.clone(), rows.keep()?))).transpose()?;
         let mut child = self.spawn(settings.path(), kept.as_ref().map(|(_, kept)| kept.folder()))?;
-        let (Some(input), Some(output)) = (child.stdin.take(), child.stdout.take()) else {
+        let (Some(stream), Some(mut output)) = (child.stdin.take(), child.stdout.take()) else {
             bail!("the master has no streams");
         };
-        let (frames, written) = mpsc::channel(AT_ONCE + 1);
-        tokio::spawn(write_all(input, written));
-        frames.send(Frame::Up(0).write()).await?;
-        let (begun, mut output, mut blocks) = (Instant::now(), output, Blocks::new(ANSWER_LIMIT));
+        let mut input = Input { stream: Some(stream), waiting: Vec::new(), is_over: false };
+        Frame::Up(0).put(&mut input.waiting)?;
+        input.write().await;
+        let (begun, mut blocks) = (Instant::now(), Blocks::wide(ANSWER_LIMIT));
         let coming = come_up(hall, &mut output, &mut blocks);
         let next = timeout(COMING_UP, coming).await.unwrap_or_else(|_| bail!("it took too long"));
         let next = next.context("the master didn't come up")?;
         let identity = if kept.is_none() { Some(Identity::of(&self.store)?) } else { None };
         let (hall, pulse) = (hall.clone(), Pulse::new(0, next));
         let alone_until = is_alone.then(|| begun + ALONE);
-        let (sent, bytes_sent, copying) = (VecDeque::new(), 0, None);
-        Ok(Master { hall, child, output, blocks, frames, identity, rows: kept, begun, pulse, sent, bytes_sent, alone_until, copying })
+        Ok(Master {
+            hall,
+            child,
+            input,
+            output,
+            blocks,
+            woken: Vec::new(),
+            identity,
+            rows: kept,
+            begun,
+            pulse,
+            sent: VecDeque::new(),
+            bytes_sent: 0,
+            alone_until,
+            copying: None,
+        })
     }
 
     // In a process group of its own, so that what is typed at a terminal doesn't end it before its server.
@@ -152,21 +177,17 @@ impl Making {
     }
 }
 
-// Writes frames until none comes any more: then the stream ends, too. Those that wait together are written together.
-async fn write_all(mut input: ChildStdin, mut frames: mpsc::Receiver<Vec<u8>>) {
-    while let Some(frame) = frames.recv().await {
-        let mut bytes = Vec::new();
-        let mut next = Some(frame);
-        while let Some(frame) = next {
-            let Ok(frame) = framed(&frame) else {
-                return;
-            };
-            bytes.extend(frame);
-            next = frames.try_recv().ok();
-        }
+impl Input {
+    // Writes of what waits; where nothing does it waits for ever.
+    async fn write(&mut self) {
+        let Some(stream) = self.stream.as_mut().filter(|_| !self.waiting.is_empty()) else {
+            return pending().await;
+        };
+        let written = stream.write(&self.waiting).await;
+        self.waiting.drain(..written.as_ref().map_or(0, |count| *count));
         // (where the master is gone its reader tells it)
-        if input.write_all(&bytes).await.is_err() || input.flush().await.is_err() {
-            return;
+        if written.is_err() || (self.is_over && self.waiting.is_empty()) {
+            self.stream = None;
         }
     }
 }
@@ -180,13 +201,13 @@ async fn come_up(hall: &Hall, output: &mut ChildStdout, blocks: &mut Blocks) -> 
             Told::End(next) if is_up => return Ok(next),
             Told::End(_) => bail!("it told nothing"),
             Told::Line(line) => {
-                follow(hall, &line, None);
-                is_up |= line.starts_with("up ");
-                if is_refused(&line) {
-                    return Err(StoreRefused(line).into());
-                }
-                if line.starts_with("refused ") {
-                    bail!("{line}");
+                let printed = Printed::read(line);
+                follow(hall, line, printed, None);
+                match printed {
+                    Printed::Up(_) => is_up = true,
+                    Printed::Refused(_) if printed.is_store_refused() => return Err(StoreRefused(line.to_owned()).into()),
+                    Printed::Refused(_) => bail!("{line}"),
+                    _ => {}
                 }
             }
             Told::Message(..) => {}
@@ -207,33 +228,27 @@ impl Display for StoreRefused {
 
 impl Error for StoreRefused {}
 
-// Whether a line tells that the store refused.
-fn is_refused(line: &str) -> bool {
-    ["refused 15 ", "refused 16 "].iter().any(|words| line.starts_with(words))
-}
-
 // What a line tells is noted and, where an operator wants to know it, logged.
-fn follow(hall: &Hall, line: &str, from: Option<&(u64, Arc<str>)>) {
+fn follow(hall: &Hall, line: &str, printed: Printed<'_>, from: Option<&(u64, Arc<str>)>) {
     trace!(target: "tillermossd::master", line);
-    let principal = from.map(|(_, principal)| principal);
-    let mut words = line.split(' ');
-    let (first, second) = (words.next().unwrap_or_default(), words.next().unwrap_or_default());
-    match first {
-        "up" => info!(epoch = second, "a master is up"),
-        "recovered" => info!("the master has recovered"),
-        "refused" => {
-            hall.metrics.refused(second.parse().unwrap_or_default());
-            let client = from.map(|(client, _)| *client);
-            let principal = principal.map(|principal| &**principal);
-            debug!(client, principal, reason = line, "a message or a sweep was refused");
+    let mut principal = from.map(|(_, principal)| principal.clone());
+    let named = principal.as_deref();
+    match printed {
+        Printed::Up(epoch) => info!(%epoch, "a master is up"),
+        Printed::Recovered => info!("the master has recovered"),
+        Printed::Refused(_) => {
+            debug!(client = from.map(|(client, _)| *client), principal = named, reason = line, "a message or a sweep was refused");
         }
-        "started" | "ended" => debug!(client = second, principal = principal.map(|principal| &**principal), "a session {first}"),
+        Printed::Started(client) => {
+            debug!(%client, principal = named, "a session started");
+            // (it may begin later than its Start came, where the store refused meanwhile)
+            principal = hall.routes.principal(client).or(principal);
+        }
+        Printed::Ended(client) => debug!(%client, principal = named, "a session ended"),
         _ => {}
     }
-    // (a session may begin later than its Start came, where the store refused meanwhile)
-    let starter = second.parse().ok().filter(|_| first == "started").and_then(|client| hall.routes.principal(client));
-    hall.picture().follow(line, starter.as_ref().or(principal));
-    hall.metrics.follow(first);
+    hall.picture().follow(printed, principal.as_ref());
+    hall.metrics.follow(&printed);
 }
 
 impl Master {
@@ -269,7 +284,11 @@ impl Master {
             let rest = self.rest();
             tokio::select! {
                 biased;
-                block = self.blocks.next_of(&mut self.output) => self.hear(&block?.context("it ended")?)?,
+                () = self.input.write() => {}
+                came = self.blocks.fill_of(&mut self.output) => {
+                    came?.then_some(()).context("it ended")?;
+                    self.hear_all()?;
+                }
                 order = orders.recv() => match order {
                     Some(Order::Copy(reply)) => self.copying = Some(reply),
                     Some(Order::Down) | None => return self.stop().await,
@@ -287,8 +306,7 @@ impl Master {
     }
 
     fn has_room(&self) -> bool {
-        let is_group = self.sent.len() < AT_ONCE && self.bytes_sent < BYTES_AT_ONCE && !self.is_alone();
-        self.copying.is_none() && (self.sent.is_empty() || is_group)
+        self.copying.is_none() && (self.sent.is_empty() || (self.sent.len() < AT_ONCE && self.bytes_sent < BYTES_AT_ONCE))
     }
 
     fn is_alone(&self) -> bool {
@@ -308,31 +326,34 @@ impl Master {
         }
     }
 
-    // Sends what there is to send; why nothing more may be sent. The clock is read behind the arrival of a message.
+    // Sends what there is to send, as far as there is room; why nothing more may be sent.
     fn fill(&mut self) -> Result<Option<String>> {
-        while self.has_room() {
+        let is_due = self.sent.is_empty() && self.pulse.rest(self.now()).is_some_and(|rest| rest.is_zero());
+        if !self.has_room() || !(is_due || self.hall.lines.has_some()) {
+            return Ok(None);
+        }
+        if let Some(fault) = self.identity.as_ref().and_then(Identity::fault) {
+            return Ok(Some(fault));
+        }
+        let is_alone = self.is_alone();
+        while self.has_room() && (self.sent.is_empty() || !is_alone) {
             let message = self.hall.lines.take();
-            let is_due = self.sent.is_empty() && self.pulse.rest(self.now()).is_some_and(|rest| rest.is_zero());
-            if message.is_none() && !is_due {
+            if message.is_none() && !(is_due && self.sent.is_empty()) {
                 break;
-            }
-            if let Some(fault) = self.identity.as_ref().and_then(Identity::fault) {
-                return Ok(Some(fault));
             }
             self.send(message)?;
         }
         Ok(None)
     }
 
+    // (the clock is read behind the arrival of a message)
     fn send(&mut self, message: Option<Message>) -> Result<()> {
         let moment = self.now();
         let frame = match &message {
             Some(message) => Frame::Message(moment, &message.bytes),
             None => Frame::Tick(moment),
         };
-        let frame = frame.write();
-        let bytes = frame.len();
-        self.frames.try_send(frame).context("it takes no frames")?;
+        let bytes = frame.put(&mut self.input.waiting)?;
         self.bytes_sent += bytes;
         self.pulse.send(moment);
         self.hall.metrics.sent(message.is_some());
@@ -348,59 +369,79 @@ impl Master {
         self.rows.as_ref().map_or(Ok(()), |(rows, _)| rows.mastership.check())
     }
 
+    // All that was read of what the master tells; then each connection for which something came is woken once.
+    fn hear_all(&mut self) -> Result<()> {
+        let mut blocks = mem::replace(&mut self.blocks, Blocks::new(ANSWER_LIMIT));
+        let heard = self.hear_each(&mut blocks);
+        self.blocks = blocks;
+        self.woken.drain(..).for_each(|outgoing| outgoing.wake());
+        heard
+    }
+
+    fn hear_each(&mut self, blocks: &mut Blocks) -> Result<()> {
+        while let Some(block) = blocks.take()? {
+            self.hear(block)?;
+        }
+        Ok(())
+    }
+
     // What the master tells. Of one whose mastership has ended nothing is passed on: what it told before was done before.
     fn hear(&mut self, block: &[u8]) -> Result<()> {
         self.check_mastership()?;
         match Told::read(block)? {
             Told::Message(client, message) => self.pass(client, message),
-            Told::Line(line) => {
-                let front = self.sent.front_mut();
-                let is_commit = ["applied", "started", "ended", "locked", "freed", "lapsed"].iter().any(|word| line.starts_with(word));
-                let is_refused = is_refused(&line);
-                let from = front.and_then(|sent| {
-                    sent.has_committed |= is_commit;
-                    sent.is_refused |= is_refused;
-                    sent.client.as_ref()
-                });
-                follow(&self.hall, &line, from);
-                if is_commit || is_refused {
-                    self.hall.note_store(is_refused, &line);
-                }
-            }
+            Told::Line(line) => self.note(line),
             Told::Bad(reason) => warn!(reason, "the master took no frame of what was sent"),
-            Told::End(next) => {
-                let sent = self.sent.pop_front();
-                let is_refused = sent.as_ref().is_some_and(|sent| sent.is_refused);
-                self.pulse.answer(next, is_refused);
-                if is_refused {
-                    self.alone_until = Some(Instant::now() + ALONE);
-                }
-                if let Some(sent) = sent {
-                    self.bytes_sent -= sent.bytes;
-                    self.hall.metrics.answered(sent.at.elapsed(), sent.has_committed);
-                }
-                if self.rows.as_ref().is_some_and(|(_, kept)| kept.has_ended()) {
-                    bail!("no commit of it is kept any more");
-                }
-            }
+            Told::End(next) => return self.end(next),
         }
         Ok(())
     }
 
-    // A message goes to its client.
-    fn pass(&self, client: u64, message: Vec<u8>) {
-        let mut picture = self.hall.picture();
-        if let Some(span) = lease(&message) {
-            picture.lease(client, span);
+    // A line, of the frame whose turn it is.
+    fn note(&mut self, line: &str) {
+        let printed = Printed::read(line);
+        let (is_commit, is_refused) = (printed.is_commit(), printed.is_store_refused());
+        let from = self.sent.front_mut().and_then(|sent| {
+            sent.has_committed |= is_commit;
+            sent.is_refused |= is_refused;
+            sent.client.as_ref()
+        });
+        follow(&self.hall, line, printed, from);
+        if is_commit || is_refused {
+            self.hall.note_store(is_refused, line);
         }
-        if let Some((client, number)) = ended_call(&message) {
-            picture.answer(client, Some(number));
+    }
+
+    // All was told of a frame.
+    fn end(&mut self, next: Next) -> Result<()> {
+        let sent = self.sent.pop_front();
+        let is_refused = sent.as_ref().is_some_and(|sent| sent.is_refused);
+        self.pulse.answer(next, is_refused);
+        if is_refused {
+            self.alone_until = Some(Instant::now() + ALONE);
         }
-        if let Some(number) = refusal(&message) {
-            self.hall.metrics.refused(number);
+        if let Some(sent) = sent {
+            self.bytes_sent -= sent.bytes;
+            self.hall.metrics.answered(sent.at.elapsed(), sent.has_committed);
         }
-        drop(picture);
-        self.hall.routes.send(client, message);
+        if self.rows.as_ref().is_some_and(|(_, kept)| kept.has_ended()) {
+            bail!("no commit of it is kept any more");
+        }
+        Ok(())
+    }
+
+    // A message goes to its client, once all was heard that came with it.
+    fn pass(&mut self, client: u64, message: &[u8]) {
+        if let Some(Said { client, number, answer }) = Said::read(message) {
+            match answer {
+                Answer::Started(span) | Answer::Alive(span, _) => self.hall.picture().lease(client, span),
+                Answer::Reply(_) | Answer::Refused(_) => self.hall.picture().answer(client, Some(number)),
+            }
+            if let Answer::Reply(Some(refusal)) = answer {
+                self.hall.metrics.refused(refusal);
+            }
+        }
+        self.woken.extend(self.hall.routes.put(client, message));
     }
 
     // A copy is taken once no frame is out: nothing is written meanwhile.
@@ -421,11 +462,18 @@ impl Master {
 
     // It goes in order: its store is closed.
     async fn stop(&mut self) -> Result<Ending> {
-        self.frames.send(Frame::Down.write()).await.context("it takes no frames")?;
-        let (closed, _) = mpsc::channel(1);
-        self.frames = closed;
-        while let Some(block) = timeout(PATIENCE, self.blocks.next_of(&mut self.output)).await.context("it doesn't go")?? {
-            self.hear(&block)?;
+        Frame::Down.put(&mut self.input.waiting)?;
+        self.input.is_over = true;
+        loop {
+            tokio::select! {
+                () = self.input.write() => {}
+                came = timeout(PATIENCE, self.blocks.fill_of(&mut self.output)) => {
+                    if !came.context("it doesn't go")?? {
+                        break;
+                    }
+                    self.hear_all()?;
+                }
+            }
         }
         match timeout(PATIENCE, self.child.wait()).await {
             Ok(status) => Ok(Ending::Asked(status?)),
@@ -435,30 +483,4 @@ impl Master {
             }
         }
     }
-}
-
-// For how long a message gives its client a lease.
-fn lease(message: &[u8]) -> Option<Duration> {
-    let mut fields = Fields(message);
-    if !matches!(fields.take(2)?, [VERSION, STARTED | ALIVE]) {
-        return None;
-    }
-    fields.take(24)?;
-    fields.word().map(Duration::from_millis)
-}
-
-// The number of the refusal that is the result of a call.
-fn refusal(message: &[u8]) -> Option<u8> {
-    let mut fields = Fields(message);
-    if fields.take(2)? != [VERSION, REPLY] {
-        return None;
-    }
-    fields.take(24)?;
-    if fields.byte()? == 1 {
-        fields.word()?;
-    }
-    if fields.byte()? != REFUSAL {
-        return None;
-    }
-    fields.byte()?.checked_add(1)
 }

@@ -1,5 +1,6 @@
 //! What is counted, as Prometheus reads it.
 
+use crate::printed::Printed;
 use prometheus::{
     Gauge, Histogram, IntCounter, IntCounterVec, IntGauge, IntGaugeVec, Registry, TextEncoder, histogram_opts, opts,
     register_gauge_with_registry, register_histogram_with_registry, register_int_counter_vec_with_registry,
@@ -89,14 +90,15 @@ impl Metrics {
         }
     }
 
-    /// A line that begins with this word was told.
-    pub fn follow(&self, word: &str) {
-        match word {
-            "recovered" => self.recoveries.inc(),
-            "applied" | "started" | "ended" | "granted" | "acked" | "expired" | "locked" | "freed" | "lapsed" => {
-                self.events.with_label_values(&[word]).inc();
-            }
+    /// What the master printed.
+    pub fn follow(&self, printed: &Printed<'_>) {
+        match printed {
+            Printed::Recovered => self.recoveries.inc(),
+            Printed::Refused(number) => self.refused(*number),
             _ => {}
+        }
+        if let Some(event) = printed.event() {
+            self.events.with_label_values(&[event]).inc();
         }
     }
 

@@ -1,7 +1,7 @@
 //! What goes out over a connection.
 
-use host_wire::framed;
-use std::collections::VecDeque;
+use host_wire::put_block;
+use std::mem;
 use std::sync::{Arc, Mutex, MutexGuard, PoisonError};
 use std::time::Duration;
 use tokio::io::{AsyncWrite, AsyncWriteExt};
@@ -11,10 +11,14 @@ use tokio::time::timeout;
 /// So many bytes may wait for a client that doesn't read, and one more message.
 const ROOM: usize = 1 << 20;
 
-/// So long may one write to a client last.
+/// So long may one write to a client last, which has so many bytes at most.
 const PATIENCE: Duration = Duration::from_secs(10);
+const PIECE: usize = 1 << 16;
 
-/// The messages to one connection, which a task writes.
+/// So many bytes of room are kept where nothing is to be written.
+const KEPT: usize = 4096;
+
+/// The messages to one connection, which a task writes: those that wait together in one write.
 #[derive(Debug)]
 pub struct Outgoing {
     /// For whom its client acts.
@@ -24,10 +28,11 @@ pub struct Outgoing {
     ended: Notify,
 }
 
+// The blocks that wait, and how many bytes are being written.
 #[derive(Debug, Default)]
 struct State {
-    waiting: VecDeque<Vec<u8>>,
-    bytes: usize,
+    waiting: Vec<u8>,
+    writing: usize,
     cut: Option<&'static str>,
 }
 
@@ -44,15 +49,27 @@ impl Outgoing {
     }
 
     /// Sends a message; or cuts the connection off, where the client doesn't keep up: it asks anew when it comes back.
-    pub fn send(&self, block: Vec<u8>) {
-        let mut state = self.state();
-        if state.bytes > ROOM {
-            drop(state);
-            self.cut("it doesn't read what it is sent");
-            return;
+    pub fn send(&self, block: &[u8]) {
+        if self.put(block) {
+            self.wake();
         }
-        state.bytes += block.len();
-        state.waiting.push_back(block);
+    }
+
+    /// The same of a message that goes once `wake` is called; whether that is still to be done.
+    pub fn put(&self, block: &[u8]) -> bool {
+        let mut state = self.state();
+        let is_first = state.waiting.is_empty();
+        // (a message of a master has fewer than 2^32 bytes: its frame has, too)
+        if state.waiting.len() + state.writing <= ROOM && put_block(&mut state.waiting, block).is_ok() {
+            return is_first;
+        }
+        drop(state);
+        self.cut("it doesn't read what it is sent");
+        false
+    }
+
+    /// What waits is written.
+    pub fn wake(&self) {
         self.filled.notify_one();
     }
 
@@ -60,7 +77,7 @@ impl Outgoing {
     pub fn cut(&self, why: &'static str) {
         let mut state = self.state();
         state.cut.get_or_insert(why);
-        state.waiting.clear();
+        state.waiting = Vec::new();
         self.filled.notify_one();
         self.ended.notify_one();
     }
@@ -75,15 +92,20 @@ impl Outgoing {
         }
     }
 
-    async fn next(&self) -> Option<Vec<u8>> {
+    // Takes all that waits, in the place of what was written; false where it is cut off.
+    async fn next(&self, bytes: &mut Vec<u8>) -> bool {
+        bytes.clear();
+        bytes.shrink_to(KEPT);
         loop {
             {
                 let mut state = self.state();
                 if state.cut.is_some() {
-                    return None;
+                    return false;
                 }
-                if let Some(block) = state.waiting.pop_front() {
-                    return Some(block);
+                if !state.waiting.is_empty() {
+                    mem::swap(bytes, &mut state.waiting);
+                    state.writing = bytes.len();
+                    return true;
                 }
             }
             self.filled.notified().await;
@@ -92,40 +114,92 @@ impl Outgoing {
 
     /// Writes what comes, until it is cut off.
     pub async fn write_all(&self, mut stream: impl AsyncWrite + Unpin) {
-        while let Some(block) = self.next().await {
-            // (a message of a master has fewer than 2^32 bytes: its frame has, too)
-            let Ok(bytes) = framed(&block) else {
-                break;
-            };
-            match timeout(PATIENCE, stream.write_all(&bytes)).await {
-                Ok(Ok(())) => self.state().bytes -= block.len(),
-                Ok(Err(_)) => self.cut("it is gone"),
-                Err(_) => self.cut("it doesn't read what it is sent"),
+        let mut bytes = Vec::new();
+        while self.next(&mut bytes).await {
+            if let Err(why) = self.write(&mut stream, &bytes).await {
+                self.cut(why);
             }
         }
         // (one that is gone already is shut down)
         let _ = timeout(PATIENCE, stream.shutdown()).await;
+    }
+
+    async fn write(&self, stream: &mut (impl AsyncWrite + Unpin), bytes: &[u8]) -> Result<(), &'static str> {
+        for piece in bytes.chunks(PIECE) {
+            let written = timeout(PATIENCE, stream.write_all(piece)).await.map_err(|_| "it doesn't read what it is sent")?;
+            written.map_err(|_| "it is gone")?;
+            self.state().writing -= piece.len();
+        }
+        Ok(())
     }
 }
 
 #[cfg(test)]
 mod tests {
     use super::*;
+    use std::io;
+    use std::pin::Pin;
+    use std::task::{Context, Poll};
+
+    /// A stream that notes what each write has.
+    #[derive(Clone, Default)]
+    struct Noted(Arc<Mutex<Vec<Vec<u8>>>>);
+
+    impl AsyncWrite for Noted {
+        fn poll_write(self: Pin<&mut Self>, _: &mut Context<'_>, bytes: &[u8]) -> Poll<io::Result<usize>> {
+            self.0.lock().unwrap().push(bytes.to_vec());
+            Poll::Ready(Ok(bytes.len()))
+        }
+
+        fn poll_flush(self: Pin<&mut Self>, _: &mut Context<'_>) -> Poll<io::Result<()>> {
+            Poll::Ready(Ok(()))
+        }
+
+        fn poll_shutdown(self: Pin<&mut Self>, _: &mut Context<'_>) -> Poll<io::Result<()>> {
+            Poll::Ready(Ok(()))
+        }
+    }
+
+    #[tokio::test]
+    async fn what_waits_together_is_one_write() {
+        let (outgoing, noted) = (Arc::new(Outgoing::new(&"ann".into())), Noted::default());
+        let (writer, stream) = (outgoing.clone(), noted.clone());
+        let writing = tokio::spawn(async move { writer.write_all(stream).await });
+        tokio::task::yield_now().await;
+        assert!(outgoing.put(b"a"));
+        assert!(!outgoing.put(b""));
+        tokio::task::yield_now().await;
+        assert!(!outgoing.put(b"bc"));
+        outgoing.wake();
+        while noted.0.lock().unwrap().is_empty() {
+            tokio::task::yield_now().await;
+        }
+        outgoing.send(&[7; PIECE]);
+        while noted.0.lock().unwrap().len() < 3 {
+            tokio::task::yield_now().await;
+        }
+        outgoing.cut("the end");
+        writing.await.unwrap();
+        let large = [b"\0\x01\0\0".to_vec(), vec![7; PIECE]].concat();
+        let (piece, rest) = large.split_at(PIECE);
+        assert_eq!(*noted.0.lock().unwrap(), [b"\0\0\0\x01a\0\0\0\0\0\0\0\x02bc", piece, rest]);
+        assert_eq!(outgoing.state().writing, 0);
+    }
 
     #[test]
     fn a_client_that_does_not_read_is_cut_off() {
         let rows: &[(&[usize], bool)] = &[
-            (&[10, ROOM - 10], false),
-            (&[10, ROOM - 10, ROOM], false),
+            (&[10, ROOM - 18], false),
+            (&[10, ROOM - 18, ROOM], false),
             (&[10 * ROOM], false),
             (&[10, 10 * ROOM], false),
-            (&[ROOM + 1, 1], true),
-            (&[10, ROOM, 1], true),
+            (&[ROOM - 3, 1], true),
+            (&[10, ROOM - 17, 1], true),
         ];
         for (lengths, wanted) in rows {
             let outgoing = Outgoing::new(&"ann".into());
             for length in *lengths {
-                outgoing.send(vec![0; *length]);
+                outgoing.send(&vec![0; *length]);
             }
             assert_eq!(outgoing.state().cut.is_some(), *wanted, "{lengths:?}");
         }

@@ -1,6 +1,7 @@
 //! What the cell looks like from outside: its nodes, sessions, locks and rights, and who waits for what. It is made of the store's
 //! rows before a master is started, and then follows what the master tells and what goes past the server.
 
+use crate::printed::{Locked, Printed, Put};
 use crate::settings::Limits;
 use anyhow::Result;
 use host_wire::{Act, Deed};
@@ -182,33 +183,26 @@ impl Picture {
         }
     }
 
-    /// Follows a line of the master; `principal` is that of the client whose message it answers.
-    pub fn follow(&mut self, line: &str, principal: Option<&Arc<str>>) {
-        let words: Vec<&str> = line.split(' ').collect();
-        // (a line of another form tells nothing that is shown)
-        let _ = self.follow_words(&words, principal);
-    }
-
-    fn follow_words(&mut self, words: &[&str], principal: Option<&Arc<str>>) -> Option<()> {
-        let number = |at: usize| words.get(at)?.parse::<u64>().ok();
-        match *words.first()? {
-            "up" => self.begin(number(1)?),
-            "recovered" => self.is_recovering = false,
-            "started" => {
+    /// Follows what the master printed; `principal` is that of the client whose message it answers.
+    pub fn follow(&mut self, printed: Printed<'_>, principal: Option<&Arc<str>>) {
+        match printed {
+            Printed::Up(epoch) => self.begin(epoch),
+            Printed::Recovered => self.is_recovering = false,
+            Printed::Started(client) => {
                 let principal = principal.cloned().unwrap_or_else(|| "".into());
-                self.sessions.insert(number(1)?, Session { principal, lease: None });
+                self.sessions.insert(client, Session { principal, lease: None });
             }
-            "ended" => self.end(number(1)?),
-            "applied" => self.apply(number(1)?, words.get(3..)?, principal)?,
-            "granted" => self.grant(number(1)?, number(2)?, words.get(3)?),
-            "acked" | "expired" => self.end_right(number(1)?),
-            "locked" => self.lock(number(1)?, number(2)?, words.get(3)? == &"s", number(4)?),
-            "freed" => self.free(number(1)?, number(2)?, false),
-            "lapsed" => self.free(number(1)?, number(2)?, true),
-            "reopened" => _ = self.locks.remove(&number(1)?),
-            _ => {}
+            Printed::Ended(client) => self.end(client),
+            Printed::Put(client, node) => self.apply(client, node, principal),
+            Printed::Gone(name) => self.forget(name),
+            Printed::Granted(right, client, name) => self.grant(right, client, name),
+            Printed::Acked(right) | Printed::Expired(right) => self.end_right(right),
+            Printed::Locked(locked) => self.lock(locked),
+            Printed::Freed(client, instance) => self.free(client, instance, false),
+            Printed::Lapsed(client, instance) => self.free(client, instance, true),
+            Printed::Reopened(instance) => _ = self.locks.remove(&instance),
+            Printed::Refused(_) | Printed::Other => {}
         }
-        Some(())
     }
 
     // Another master knows of no rights, and of no calls that wait; it waits for the sessions that it found.
@@ -227,25 +221,19 @@ impl Picture {
         self.answer(client, None);
     }
 
-    fn apply(&mut self, client: u64, words: &[&str], principal: Option<&Arc<str>>) -> Option<()> {
-        let name = *words.get(1)?;
-        if words.first() == Some(&"gone") {
-            if let Some(node) = self.nodes.get(name) {
-                self.locks.remove(&node.instance);
-            }
-            self.take(name);
-            return Some(());
+    fn forget(&mut self, name: &str) {
+        if let Some(node) = self.nodes.get(name) {
+            self.locks.remove(&node.instance);
         }
-        let number = |at: usize| words.get(at)?.parse::<u64>().ok();
-        let is_file = words.get(2)? == &"file";
-        let (instance, generation) = (number(3)?, number(4)?);
-        let length = if is_file { number(10)? } else { 0 };
-        let is_ephemeral = words.get(9)? == &"ephemeral";
+        self.take(name);
+    }
+
+    fn apply(&mut self, client: u64, put: Put<'_>, principal: Option<&Arc<str>>) {
+        let Put { name, instance, is_file, is_ephemeral, generation, length } = put;
         let old = self.nodes.get(name).filter(|old| (old.instance, old.generation) == (instance, generation));
         let caller = || self.sessions.get(&client).map(|session| session.principal.clone()).or(principal.cloned());
         let writer = old.map_or_else(caller, |old| old.writer.clone());
         self.put(name.to_owned(), Node { instance, is_file, is_ephemeral, generation, length, writer });
-        Some(())
     }
 
     fn grant(&mut self, right: u64, client: u64, name: &str) {
@@ -265,11 +253,11 @@ impl Picture {
         }
     }
 
-    fn lock(&mut self, client: u64, instance: u64, is_shared: bool, generation: u64) {
-        let lock = self.locks.entry(instance).or_default();
-        lock.is_shared = is_shared;
-        lock.generation = generation;
-        lock.holders.push(client);
+    fn lock(&mut self, locked: Locked) {
+        let lock = self.locks.entry(locked.instance).or_default();
+        lock.is_shared = locked.is_shared;
+        lock.generation = locked.generation;
+        lock.holders.push(locked.client);
     }
 
     fn free(&mut self, client: u64, instance: u64, has_lapsed: bool) {
@@ -368,7 +356,7 @@ mod tests {
     fn cell(lines: &[&str]) -> Picture {
         let mut picture = Picture::default();
         for line in lines {
-            picture.follow(line, Some(&"ann".into()));
+            picture.follow(Printed::read(line), Some(&"ann".into()));
         }
         picture
     }
@@ -400,7 +388,7 @@ mod tests {
         ];
         for (line, nodes, sessions, rights, locks) in rows {
             let mut picture = cell(LINES);
-            picture.follow(line, None);
+            picture.follow(Printed::read(line), None);
             let found = (picture.nodes.len(), picture.sessions.len(), picture.rights(), picture.locks.len());
             assert_eq!(found, (*nodes, *sessions, *rights, *locks), "{line}");
         }

@@ -21,7 +21,7 @@ impl Routes {
 
     /// From here on the client is reached so, and this is what it gets first; an earlier connection of it is cut off. Gives the
     /// number of this binding. Who got that is bound, before any that connects later.
-    pub fn bind(&self, client: u64, outgoing: Arc<Outgoing>, first: Vec<u8>) -> u64 {
+    pub fn bind(&self, client: u64, outgoing: Arc<Outgoing>, first: &[u8]) -> u64 {
         let mut table = self.table();
         outgoing.send(first);
         table.bound += 1;
@@ -43,7 +43,7 @@ impl Routes {
     /// Sends a block to all clients that have a connection.
     pub fn send_to_all(&self, block: &[u8]) {
         for (_, outgoing) in self.table().open.values() {
-            outgoing.send(block.to_vec());
+            outgoing.send(block);
         }
     }
 
@@ -57,11 +57,12 @@ impl Routes {
         self.table().open.get(&client).map(|(_, outgoing)| outgoing.principal.clone())
     }
 
-    /// Sends a message to a client. One that has no connection doesn't get it, as if it were lost.
-    pub fn send(&self, client: u64, message: Vec<u8>) {
-        if let Some((_, outgoing)) = self.table().open.get(&client) {
-            outgoing.send(message);
-        }
+    /// Puts a message behind those that wait for a client; gives its connection where that is to be woken. A client that has no
+    /// connection doesn't get it, as if it were lost.
+    pub fn put(&self, client: u64, message: &[u8]) -> Option<Arc<Outgoing>> {
+        let table = self.table();
+        let (_, outgoing) = table.open.get(&client)?;
+        outgoing.put(message).then(|| outgoing.clone())
     }
 }
 
@@ -74,7 +75,7 @@ mod tests {
     fn bound(routes: &Routes, client: u64, first: &[u8]) -> (u64, DuplexStream) {
         let (stream, other) = duplex(1024);
         let outgoing = Arc::new(Outgoing::new(&"ann".into()));
-        let binding = routes.bind(client, outgoing.clone(), first.to_vec());
+        let binding = routes.bind(client, outgoing.clone(), first);
         tokio::spawn(async move { outgoing.write_all(other).await });
         (binding, stream)
     }
@@ -90,9 +91,12 @@ mod tests {
         assert!(!routes.is_bound(7, first));
         routes.unbind(7, first);
         assert!(routes.is_bound(7, second));
-        routes.send(8, b"lost".to_vec());
-        routes.send(7, b"here".to_vec());
+        assert!(routes.put(8, b"lost").is_none());
+        let woken = routes.put(7, b"here").unwrap();
+        assert!(routes.put(7, b"too").is_none());
+        woken.wake();
         assert_eq!(blocks.next_of(&mut new).await.unwrap(), Some(b"here".to_vec()));
+        assert_eq!(blocks.next_of(&mut new).await.unwrap(), Some(b"too".to_vec()));
         routes.send_to_all(b"all");
         assert_eq!(blocks.next_of(&mut new).await.unwrap(), Some(b"all".to_vec()));
         assert_eq!(Blocks::new(9).next_of(&mut old).await.unwrap(), None);

@@ -1,7 +1,7 @@
 //! The frames between the server and its master, as `docs/FORMATS.md` lays them out.
 
-use host_wire::Fields;
 use host_wire::messages::VERSION;
+use host_wire::{Fields, put_block};
 use std::io::{self, ErrorKind};
 
 /// What a server sends to its master.
@@ -18,18 +18,20 @@ pub enum Frame<'a> {
 }
 
 impl Frame<'_> {
-    /// The bytes of the block, without its length.
-    pub fn write(self) -> Vec<u8> {
+    /// Puts the bytes of its block, with its length, behind others; how many they are.
+    pub fn put(self, out: &mut Vec<u8>) -> io::Result<usize> {
         let (kind, moment, message): (u8, Option<u64>, &[u8]) = match self {
             Frame::Up(moment) => (0, Some(moment), &[]),
             Frame::Message(moment, message) => (1, Some(moment), message),
             Frame::Tick(moment) => (2, Some(moment), &[]),
             Frame::Down => (3, None, &[]),
         };
-        let mut out = vec![VERSION, kind];
-        out.extend(moment.map(u64::to_be_bytes).into_iter().flatten());
-        out.extend_from_slice(message);
-        out
+        let mut block = Vec::with_capacity(10 + message.len());
+        block.extend_from_slice(&[VERSION, kind]);
+        block.extend(moment.map(u64::to_be_bytes).into_iter().flatten());
+        block.extend_from_slice(message);
+        put_block(out, &block)?;
+        Ok(4 + block.len())
     }
 }
 
@@ -45,32 +47,32 @@ pub enum Next {
 }
 
 /// What a master tells.
-#[derive(Clone, Debug, PartialEq, Eq)]
-pub enum Told {
+#[derive(Clone, Copy, Debug, PartialEq, Eq)]
+pub enum Told<'a> {
     /// A line that a step printed.
-    Line(String),
+    Line(&'a str),
     /// The bytes of a message, for this client.
-    Message(u64, Vec<u8>),
+    Message(u64, &'a [u8]),
     /// A frame was none, for the reason of this number.
     Bad(u8),
     /// All that is told of a frame stands before.
     End(Next),
 }
 
-impl Told {
+impl<'a> Told<'a> {
     /// What is told by these bytes of a block.
-    pub fn read(bytes: &[u8]) -> io::Result<Told> {
+    pub fn read(bytes: &'a [u8]) -> io::Result<Told<'a>> {
         Told::fields(bytes).ok_or_else(|| io::Error::new(ErrorKind::InvalidData, "what the master tells isn't understood"))
     }
 
-    fn fields(bytes: &[u8]) -> Option<Told> {
+    fn fields(bytes: &'a [u8]) -> Option<Told<'a>> {
         let mut fields = Fields(bytes);
         if fields.byte()? != VERSION {
             return None;
         }
         let told = match fields.byte()? {
-            0 => Told::Line(fields.text()?.to_owned()),
-            1 => return Some(Told::Message(fields.word()?, fields.0.to_vec())),
+            0 => Told::Line(fields.text()?),
+            1 => return Some(Told::Message(fields.word()?, fields.0)),
             2 => Told::Bad(fields.byte()?),
             3 => Told::End(next(&mut fields)?),
             _ => return None,
@@ -97,21 +99,23 @@ mod tests {
     #[test]
     fn frames_have_their_bytes() {
         let rows: &[(Frame, &[u8])] = &[
-            (Frame::Up(1000), b"\x02\0\0\0\0\0\0\0\x03\xe8"),
-            (Frame::Message(1, b"\x02\x01m"), b"\x02\x01\0\0\0\0\0\0\0\x01\x02\x01m"),
-            (Frame::Tick(2), b"\x02\x02\0\0\0\0\0\0\0\x02"),
-            (Frame::Down, b"\x02\x03"),
+            (Frame::Up(1000), b"\0\0\0\x0a\x02\0\0\0\0\0\0\0\x03\xe8"),
+            (Frame::Message(1, b"\x02\x01m"), b"\0\0\0\x0d\x02\x01\0\0\0\0\0\0\0\x01\x02\x01m"),
+            (Frame::Tick(2), b"\0\0\0\x0a\x02\x02\0\0\0\0\0\0\0\x02"),
+            (Frame::Down, b"\0\0\0\x02\x02\x03"),
         ];
         for (frame, wanted) in rows {
-            assert_eq!(frame.write(), *wanted);
+            let mut out = b"before".to_vec();
+            assert_eq!(frame.put(&mut out).unwrap(), wanted.len());
+            assert_eq!(out, [b"before", *wanted].concat());
         }
     }
 
     #[test]
     fn what_is_told_is_read() {
         let rows: &[(&[u8], Option<Told>)] = &[
-            (b"\x02\0\0\0\0\x04up 1", Some(Told::Line("up 1".to_owned()))),
-            (b"\x02\x01\0\0\0\0\0\0\0\x07\x01\x02", Some(Told::Message(7, vec![1, 2]))),
+            (b"\x02\0\0\0\0\x04up 1", Some(Told::Line("up 1"))),
+            (b"\x02\x01\0\0\0\0\0\0\0\x07\x01\x02", Some(Told::Message(7, &[1, 2]))),
             (b"\x02\x02\x05", Some(Told::Bad(5))),
             (b"\x02\x03", Some(Told::End(Next::Untold))),
             (b"\x02\x03\0", Some(Told::End(Next::Nothing))),

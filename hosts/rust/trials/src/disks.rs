@@ -8,8 +8,9 @@ use std::thread;
 use std::time::{Duration, Instant};
 use tillermoss::{Client, Error, Options, Refusal};
 
-/// So much is written at once.
-const CONTENT: [u8; 8192] = [b'a'; 8192];
+/// So many bytes are written at once, first and at most, and so many more each time: so the store grows as long as there is room.
+const CONTENT: (usize, usize) = (8192, 262_144);
+const MORE: usize = 64;
 
 /// So long writers write before the disk is full, and behind that.
 const BEFORE: Duration = Duration::from_secs(2);
@@ -42,7 +43,8 @@ fn write_on(address: &str, number: usize, is_over: &AtomicBool) -> Result<(usize
     let file = client.create(&format!("/ls/c/w{number}"), b"")?;
     let (mut written, mut unknown) = (0, 0);
     while !is_over.load(Ordering::Relaxed) {
-        match client.set(file, &CONTENT, None) {
+        let content = vec![b'a'; (CONTENT.0 + MORE * written).min(CONTENT.1)];
+        match client.set(file, &content, None) {
             Ok(()) => written += 1,
             Err(Error::Refused(Refusal::Unknown)) => unknown += 1,
             Err(_) if client.is_lost() => return Ok((written, unknown, true)),

@@ -1,6 +1,8 @@
 //! The calls of a client, each with a server.
 
 use std::path::PathBuf;
+use std::sync::atomic::{AtomicU64, Ordering};
+use std::thread;
 use std::time::{Duration, Instant};
 use tillermoss::{Client, Create, Error, Event, Events, Handle, Kind, Life, LockMode, Mode, Opening, Options, Refusal, Right};
 use trials::{Kill, Plain, Server, ask, call, folder, handle, open_call, read_call};
@@ -113,6 +115,67 @@ fn a_read_is_served_until_another_writes() {
     assert_eq!(refusal(client.read(file)), Some(Refusal::Poisoned));
     client.close(file).unwrap();
     assert_eq!(refusal(client.read(file)), Some(Refusal::BadHandle));
+}
+
+// (each of four threads reads by a viewer of its own, while another client writes numbers that rise: what is read is never below the last
+// one that was acknowledged before)
+#[test]
+fn viewers_show_no_content_behind_a_write() {
+    let cell = Cell::new("viewers");
+    let (reader, writer) = (cell.client("ann"), cell.client("ann"));
+    let written = writer.create("/ls/c/f", &0u64.to_be_bytes()).unwrap();
+    let read = reader.open("/ls/c/f", Mode::READ).unwrap();
+    let acknowledged = AtomicU64::new(0);
+    let counts = thread::scope(|scope| {
+        let readers: Vec<_> = (0..4)
+            .map(|_| {
+                let (mut viewer, acknowledged) = (reader.viewer(), &acknowledged);
+                scope.spawn(move || {
+                    let mut count = 0u64;
+                    loop {
+                        let least = acknowledged.load(Ordering::SeqCst);
+                        let shown = u64::from_be_bytes(viewer.read(read).unwrap().try_into().unwrap());
+                        assert!(shown >= least, "{shown} where {least} is written");
+                        count += 1;
+                        if shown == 300 {
+                            return count;
+                        }
+                    }
+                })
+            })
+            .collect();
+        for number in 1..=300u64 {
+            writer.set(written, &number.to_be_bytes(), None).unwrap();
+            acknowledged.store(number, Ordering::SeqCst);
+        }
+        readers.into_iter().map(|reader| reader.join().unwrap()).collect::<Vec<_>>()
+    });
+    assert!(counts.iter().sum::<u64>() > 1200, "{counts:?}");
+    let mut viewer = reader.viewer();
+    reader.close(read).unwrap();
+    assert_eq!(refusal(viewer.read(read)), Some(Refusal::BadHandle));
+    assert_eq!(refusal(viewer.read(written)), Some(Refusal::BadHandle));
+}
+
+// (what a viewer kept isn't shown any more, once the lease has ended without an answer)
+#[test]
+fn a_viewer_trusts_a_lease_no_longer_than_its_client() {
+    let mut cell = Cell::new("viewer_lease");
+    let client =
+        Client::connect(&Options { patience: Duration::from_millis(100), ..Options::new(&cell.server.address.to_string(), "ann") })
+            .unwrap();
+    let file = client.create("/ls/c/f", b"hello").unwrap();
+    let mut viewer = client.viewer();
+    viewer.read(file).unwrap();
+    assert_eq!(viewer.read(file).unwrap(), b"hello");
+    cell.server.kill(Kill::Server).unwrap();
+    assert_eq!(viewer.read(file).unwrap(), b"hello");
+    let begun = Instant::now();
+    while viewer.read(file).is_ok() {
+        assert!(begun.elapsed() < Duration::from_secs(20));
+        thread::sleep(Duration::from_millis(20));
+    }
+    assert_eq!(refusal(viewer.read(file)), Some(Refusal::InJeopardy));
 }
 
 #[test]

@@ -1,11 +1,12 @@
 //! Measures a read out of the cache, and writes over TCP to a store in a file: with a server of its own, on a quiet machine.
 
+use std::hint::black_box;
 use std::thread;
 use std::time::Instant;
-use tillermoss::{Client, Error, Options};
+use tillermoss::{Client, Error, Handle, Options};
 use trials::{Kill, Server, folder};
 
-const READS: u32 = 1_000_000;
+const READS: u32 = 10_000_000;
 const WRITES: u32 = 1000;
 const CLIENTS: u32 = 8;
 
@@ -26,6 +27,11 @@ fn main() -> Result<(), Error> {
     let nanoseconds = begun.elapsed().as_nanos() / u128::from(READS);
     println!("a read of 64 bytes {nanoseconds} ns, {served} of {READS} served by the cache");
 
+    for viewers in [1, 2, 4] {
+        let nanoseconds = read_by_viewers(&client, file, viewers)?;
+        println!("a read by a viewer, beside {} others, {nanoseconds:.1} ns", viewers - 1);
+    }
+
     let alone = client.create("/ls/c/g", b"")?;
     let begun = Instant::now();
     for turn in 0..WRITES {
@@ -42,6 +48,21 @@ fn main() -> Result<(), Error> {
     println!("{:.0} writes a second by {CLIENTS} clients", f64::from(CLIENTS * WRITES) / begun.elapsed().as_secs_f64());
     server.kill(Kill::InOrder)?;
     Ok(std::fs::remove_dir_all(folder)?)
+}
+
+// In threads of their own: what each read takes one of them.
+fn read_by_viewers(client: &Client, file: Handle, viewers: u32) -> Result<f64, Error> {
+    let begun = Instant::now();
+    thread::scope(|scope| {
+        let reading: Vec<_> = (0..viewers)
+            .map(|_| {
+                let mut viewer = client.viewer();
+                scope.spawn(move || (0..READS).try_for_each(|_| viewer.read(file).map(|content| assert_eq!(black_box(content).len(), 64))))
+            })
+            .collect();
+        reading.into_iter().try_for_each(|reading| reading.join().unwrap_or(Err(Error::Closed)))
+    })?;
+    Ok(begun.elapsed().as_secs_f64() * 1e9 / f64::from(READS))
 }
 
 // To a file of its own.

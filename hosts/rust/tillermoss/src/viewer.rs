@@ -1,0 +1,94 @@
+//! Reads out of a client's cache that take no lock.
+
+use crate::client::{Client, Handle};
+use crate::clock;
+use crate::core::Mark;
+use crate::errors::Error;
+use std::collections::HashMap;
+use std::ops::Deref;
+
+/// What a viewer knows of a file: its content, and for how long that is what the cache answers.
+#[derive(Debug)]
+struct Kept {
+    mark: Mark,
+    content: Vec<u8>,
+}
+
+/// Reads the files of a client for one thread, as [`Client::read_into`] does: what its cache answers without a lock and without a
+/// copy, so threads that read don't wait for one another. Each thread has a viewer of its own.
+///
+/// A viewer keeps what the cache answered, until the client does anything at all: a client's next message leaves behind that. So a
+/// content that is written by anybody is written when no viewer shows the former one any more, as with the cache itself. Where
+/// the client has done something since, or the lease has ended, the viewer asks the client again.
+///
+/// It keeps a content for each handle that it was asked for, until it is dropped.
+///
+/// ```
+/// # trials::with_client(|client| {
+/// let file = client.create("/ls/c/f", b"hello")?;
+/// std::thread::scope(|scope| {
+///     for _ in 0..4 {
+///         let mut viewer = client.viewer();
+///         scope.spawn(move || assert_eq!(viewer.read(file).unwrap(), b"hello"));
+///     }
+/// });
+/// # Ok(()) });
+/// ```
+#[derive(Debug)]
+pub struct Viewer<C: Deref<Target = Client>> {
+    client: C,
+    kept: HashMap<u64, Kept>,
+}
+
+impl<C: Deref<Target = Client>> Viewer<C> {
+    /// One of this client, which it holds: by an [`Arc`](std::sync::Arc) a thread may have it that outlives its maker.
+    ///
+    /// ```
+    /// # use tillermoss::*;
+    /// # use std::sync::Arc;
+    /// # let server = trials::server_of_its_own();
+    /// # let address = server.address.as_str();
+    /// let client = Arc::new(Client::connect(&Options::new(address, "ann"))?);
+    /// let file = client.create("/ls/c/f", b"hello")?;
+    /// let mut viewer = Viewer::of(Arc::clone(&client));
+    /// let reader = std::thread::spawn(move || viewer.read(file).map(<[u8]>::to_vec));
+    /// assert_eq!(reader.join().unwrap()?, b"hello");
+    /// # Ok::<(), Error>(())
+    /// ```
+    #[must_use]
+    pub fn of(client: C) -> Viewer<C> {
+        Viewer { client, kept: HashMap::new() }
+    }
+
+    /// The content of a file, as [`Client::read_into`] reads it.
+    ///
+    /// ```
+    /// # trials::with_client(|client| {
+    /// let file = client.create("/ls/c/f", b"hello")?;
+    /// let mut viewer = client.viewer();
+    /// assert_eq!(viewer.read(file)?, b"hello");
+    /// client.set(file, b"hi", None)?;
+    /// assert_eq!(viewer.read(file)?, b"hi");
+    /// # Ok(()) });
+    /// ```
+    ///
+    /// # Errors
+    ///
+    /// As `Client::read`.
+    pub fn read(&mut self, handle: Handle) -> Result<&[u8], Error> {
+        let number = self.client.own(handle)?;
+        // (the clock first: at that moment the client stood as it does when its turns are read)
+        let now = clock::now();
+        if !self.kept.get(&number).is_some_and(|kept| self.client.stands_as(kept.mark, now)) {
+            self.read_again(handle, number)?;
+        }
+        Ok(&self.kept[&number].content)
+    }
+
+    fn read_again(&mut self, handle: Handle, number: u64) -> Result<(), Error> {
+        let mut content = self.kept.remove(&number).map(|kept| kept.content).unwrap_or_default();
+        let mark = self.client.read_marked(handle, &mut content)?;
+        self.kept.insert(number, Kept { mark, content });
+        Ok(())
+    }
+}
