@@ -1,5 +1,5 @@
 // Changes of one node in a SQLite file by the C library, with the statements of a cell's store: each puts the node and its name
-// under its parent, and sets the next instance, in a transaction of its own, with a log that is synced at each commit.
+// under its parent, and sets the next instance where it is another, in a transaction of its own, with a log that is synced at each commit.
 // Usage: commits FILE COUNT (FILE :memory: for memory). Prints commits a second.
 #include <sqlite3.h>
 #include <stdio.h>
@@ -43,7 +43,7 @@ int main(int argc, char **argv) {
     done(sqlite3_prepare_v2(db,
              "INSERT INTO children (parent, child) VALUES (?1, ?2) ON CONFLICT (parent, child) DO NOTHING", -1, &child, 0),
          SQLITE_OK, db);
-    done(sqlite3_prepare_v2(db, "UPDATE meta SET next_instance = ?1 WHERE id = 1", -1, &next, 0), SQLITE_OK, db);
+    done(sqlite3_prepare_v2(db, "UPDATE meta SET next_instance = ?1 WHERE id = 1 AND next_instance <> ?1", -1, &next, 0), SQLITE_OK, db);
     struct timespec start, end;
     clock_gettime(CLOCK_MONOTONIC, &start);
     for (long i = 1; i <= count; i++) {
