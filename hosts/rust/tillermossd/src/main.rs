@@ -23,6 +23,7 @@ mod serving;
 mod settings;
 mod showing;
 mod standby;
+mod starts;
 mod store;
 mod tls;
 mod told;

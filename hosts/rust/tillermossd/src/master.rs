@@ -8,10 +8,11 @@ use crate::outgoing::Outgoing;
 use crate::printed::Printed;
 use crate::pulse::Pulse;
 use crate::settings::Settings;
+use crate::starts::Starts;
 use crate::store::{self, Identity};
 use crate::told::{Frame, Next, Told};
 use anyhow::{Context, Result, bail};
-use host_wire::{ANSWER_LIMIT, Answer, Blocks, Said};
+use host_wire::{ANSWER_LIMIT, Answer, Blocks, Head, Said};
 use std::collections::VecDeque;
 use std::error::Error;
 use std::fmt::{self, Display, Formatter};
@@ -116,6 +117,7 @@ pub struct Master {
     output: ChildStdout,
     blocks: Blocks,
     woken: Vec<Arc<Outgoing>>,
+    starts: Starts,
     identity: Option<Identity>,
     rows: Option<(Rows, Kept)>,
     begun: Instant,
@@ -153,6 +155,7 @@ impl Making {
             output,
             blocks,
             woken: Vec::new(),
+            starts: Starts::default(),
             identity,
             rows: kept,
             begun,
@@ -341,9 +344,23 @@ impl Master {
             if message.is_none() && !(is_due && self.sent.is_empty()) {
                 break;
             }
+            if message.as_ref().is_some_and(|message| self.is_one_too_many(message)) {
+                continue;
+            }
             self.send(message)?;
         }
         Ok(None)
+    }
+
+    // A Start of a client that has begun its session too often already: it is let go, as if it got lost.
+    fn is_one_too_many(&self, message: &Message) -> bool {
+        let is_start = || Head::read(&message.bytes).is_some_and(|head| head.principal.is_some());
+        let is_too_many = self.starts.is_worn_out(message.client) && is_start();
+        if is_too_many {
+            self.hall.metrics.let_go();
+            debug!(client = message.client, principal = &*message.principal, "a Start of a session that has begun often was let go");
+        }
+        is_too_many
     }
 
     // (the clock is read behind the arrival of a message)
@@ -407,6 +424,9 @@ impl Master {
             sent.client.as_ref()
         });
         follow(&self.hall, line, printed, from);
+        if let Printed::Ended(client) = printed {
+            self.starts.forget(client);
+        }
         if is_commit || is_refused {
             self.hall.note_store(is_refused, line);
         }
@@ -433,6 +453,9 @@ impl Master {
     // A message goes to its client, once all was heard that came with it.
     fn pass(&mut self, client: u64, message: &[u8]) {
         if let Some(Said { client, number, answer }) = Said::read(message) {
+            if matches!(answer, Answer::Started(_)) {
+                self.starts.tell(client);
+            }
             match answer {
                 Answer::Started(span) | Answer::Alive(span, _) => self.hall.picture().lease(client, span),
                 Answer::Reply(_) | Answer::Refused(_) => self.hall.picture().answer(client, Some(number)),

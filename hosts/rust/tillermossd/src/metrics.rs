@@ -27,6 +27,7 @@ pub struct Metrics {
     cut: IntCounterVec,
     limited: IntCounter,
     slowed: IntCounter,
+    starts_let_go: IntCounter,
     connections: IntGaugeVec,
     cell: IntGaugeVec,
     oldest: Gauge,
@@ -68,6 +69,7 @@ impl Metrics {
             cut: register_int_counter_vec_with_registry!(by("connections_cut_total", "Connections cut off."), &["reason"], r)?,
             limited: register_int_counter_with_registry!(by("calls_limited_total", "Calls that a limit refused."), r)?,
             slowed: register_int_counter_with_registry!(by("messages_slowed_total", "Messages that came too fast."), r)?,
+            starts_let_go: register_int_counter_with_registry!(by("starts_let_go_total", "Starts of sessions that had begun often."), r)?,
             connections: register_int_gauge_vec_with_registry!(by("connections", "Connections."), &["state"], r)?,
             cell: register_int_gauge_vec_with_registry!(by("cell", "How much the cell holds."), &["of"], r)?,
             oldest: register_gauge_with_registry!(by("oldest_change_seconds", "How long the oldest change has waited."), r)?,
@@ -125,6 +127,11 @@ impl Metrics {
     /// A message had to wait.
     pub fn slowed(&self) {
         self.slowed.inc();
+    }
+
+    /// A Start was let go.
+    pub fn let_go(&self) {
+        self.starts_let_go.inc();
     }
 
     /// A master was replaced.

@@ -2,7 +2,7 @@
 
 use crate::calls::{ask, call, handle, open_call, read_call};
 use crate::far::far_from;
-use crate::plain::{Plain, again, message, new, start as start_of};
+use crate::plain::{Plain, again, message, new, start as start_of, start_numbered};
 use crate::servers::{Kill, Start, folder};
 use host_wire::messages::of_client::BEAT;
 use std::io;
@@ -137,39 +137,41 @@ pub fn start_behind_clients_that_left(clients: usize) -> Result<Duration, Error>
     Ok(answered)
 }
 
-// Beats until it is over, and acknowledges nothing. What the master sends is read, or the connection would be cut off.
-fn beat_on(mut connection: Plain, client: u64, epoch: u64, is_over: &AtomicBool) -> io::Result<()> {
+// Sends these, each with the next number, until it is over. What the master sends is read, or the connection would be cut off.
+fn send_on(mut connection: Plain, each: impl Fn(u64) -> Vec<u8>, is_over: &AtomicBool) -> io::Result<()> {
     let mut heard = connection.stream.try_clone()?;
     thread::spawn(move || io::copy(&mut heard, &mut io::sink()));
     let mut number = 1;
     while !is_over.load(Ordering::Relaxed) {
         number += 1;
-        connection.send(&message(BEAT, &[client, epoch, number, 0, 0], b""))?;
+        connection.send(&each(number))?;
         thread::sleep(PACE);
     }
     connection.stream.shutdown(Shutdown::Both)
 }
 
-// How long a write lasts beside a client that beats so.
-fn write_beside(writer: &Client, file: Handle, connection: Plain, client: u64, epoch: u64) -> Result<Duration, Error> {
+// How long a write lasts beside a client that sends these.
+fn write_beside(writer: &Client, file: Handle, connection: Plain, each: impl Fn(u64) -> Vec<u8> + Send) -> Result<Duration, Error> {
     let is_over = AtomicBool::new(false);
     thread::scope(|scope| {
-        let beating = scope.spawn(|| beat_on(connection, client, epoch, &is_over));
+        let sending = scope.spawn(|| send_on(connection, each, &is_over));
         let begun = Instant::now();
         let written = write(writer, file);
         let waited = begun.elapsed();
         is_over.store(true, Ordering::Relaxed);
-        beating.join().unwrap_or_else(|_| Err(io::Error::other("the client that beats failed")))?;
+        sending.join().unwrap_or_else(|_| Err(io::Error::other("the client that sends failed")))?;
         written.map(|()| waited)
     })
 }
 
-/// How long a write waits for a client that has the file in its cache, beats, and never acknowledges; under this lease in milliseconds.
-///
-/// # Errors
-///
-/// As `fail_over`.
-pub fn write_beside_one_that_keeps(lease: u64) -> Result<Duration, Error> {
+// A Beat that acknowledges nothing.
+fn idle_beat(client: u64, epoch: u64, number: u64) -> Vec<u8> {
+    message(BEAT, &[client, epoch, number, 0, 0], b"")
+}
+
+// How long a write waits for a client of bob's that has the file in its cache, and from then on sends these, by its number, the epoch and
+// the number of the message; under this lease in milliseconds.
+fn write_beside_one_that_cached(lease: u64, each: fn(u64, u64, u64) -> Vec<u8>) -> Result<Duration, Error> {
     let folder = folder("keeps");
     let server = Start::new(&folder.join("store.db")).settings(&format!("lease = {lease}\n")).start()?;
     let writer = Client::connect(&Options { patience: PATIENCE, ..Options::new(&server.address, "ann") })?;
@@ -178,9 +180,27 @@ pub fn write_beside_one_that_keeps(lease: u64) -> Result<Duration, Error> {
     let opened = ask(&mut connection, &call(client, epoch, 1, &open_call("/ls/c/f", b"")));
     let opened = opened.as_deref().and_then(handle).ok_or_else(|| Error::Malformed("an opened file".to_owned()))?;
     ask(&mut connection, &call(client, epoch, 2, &read_call(&opened)));
-    let waited = write_beside(&writer, file, connection, client, epoch)?;
+    let waited = write_beside(&writer, file, connection, move |number| each(client, epoch, number))?;
     std::fs::remove_dir_all(folder)?;
     Ok(waited)
+}
+
+/// How long a write waits for a client that has the file in its cache, beats, and never acknowledges; under this lease in milliseconds.
+///
+/// # Errors
+///
+/// As `fail_over`.
+pub fn write_beside_one_that_keeps(lease: u64) -> Result<Duration, Error> {
+    write_beside_one_that_cached(lease, idle_beat)
+}
+
+/// The same for one that doesn't beat, and sends Starts of its session, which lives.
+///
+/// # Errors
+///
+/// As `fail_over`.
+pub fn write_beside_one_that_starts(lease: u64) -> Result<Duration, Error> {
+    write_beside_one_that_cached(lease, |client, _epoch, number| start_numbered(client, number, "bob"))
 }
 
 /// How long a write waits behind a new master for a client that beats there, and never acknowledges that it is another; under this lease
@@ -203,7 +223,7 @@ pub fn write_beside_one_that_stays_behind(lease: u64) -> Result<Duration, Error>
     let server = start.with(&[&server.address]).start()?;
     let (connection, _) = Plain::greet(server.place(), &again("bob", welcome))?;
     // (the second master of a store has the second epoch)
-    let waited = write_beside(&writer, file, connection, welcome.client, 2)?;
+    let waited = write_beside(&writer, file, connection, |number| idle_beat(welcome.client, 2, number))?;
     std::fs::remove_dir_all(folder)?;
     Ok(waited)
 }

@@ -14,11 +14,14 @@ mod workers;
 
 pub use calls::{ask, call, forged, handle, open_call, read_call, set_call};
 pub use disks::{Filled, fill};
-pub use fail_overs::{Noticed, fail_over, start_behind_clients_that_left, write_beside_one_that_keeps, write_beside_one_that_stays_behind};
+pub use fail_overs::{
+    Noticed, fail_over, start_behind_clients_that_left, write_beside_one_that_keeps, write_beside_one_that_starts,
+    write_beside_one_that_stays_behind,
+};
 pub use far::far_from;
 pub use history::{Read, Write, check_history};
 pub use holds::{Hold, check_holds};
-pub use plain::{Plain, again, message, new, start};
+pub use plain::{Plain, again, message, new, start, start_numbered};
 pub use proxy::{Counts, Proxy};
 pub use relay::{Passing, Relay};
 pub use servers::{Kill, Server, Start, certificates, folder, master_program, program, server_of_its_own, with_client};

@@ -123,9 +123,15 @@ pub fn message(kind: u8, words: &[u64], rest: &[u8]) -> Vec<u8> {
     out
 }
 
-/// The bytes of a Start.
+/// The bytes of a client's first Start.
 #[must_use]
 pub fn start(client: u64, principal: &str) -> Vec<u8> {
+    start_numbered(client, 1, principal)
+}
+
+/// The bytes of a Start of this number.
+#[must_use]
+pub fn start_numbered(client: u64, number: u64, principal: &str) -> Vec<u8> {
     let length = [0, 0, 0, principal.len() as u8];
-    message(START, &[client, 1], &[&length[..], principal.as_bytes()].concat())
+    message(START, &[client, number], &[&length[..], principal.as_bytes()].concat())
 }

@@ -1,7 +1,7 @@
 //! What clients notice where their server goes and another comes, and how long one is waited for that never acknowledges.
 
 use std::time::Duration;
-use trials::{fail_over, fill, start_behind_clients_that_left, write_beside_one_that_keeps};
+use trials::{fail_over, fill, start_behind_clients_that_left, write_beside_one_that_keeps, write_beside_one_that_starts};
 
 /// So long an answer may take behind the start of the next server.
 const SOON: Duration = Duration::from_secs(3);
@@ -57,4 +57,12 @@ fn a_client_that_never_acknowledges_is_given_up() {
     let waited = write_beside_one_that_keeps(1000).unwrap();
     println!("fail-over: a write beside a client that never acknowledges, lease 1 s: {:.1} s", waited.as_secs_f64());
     assert!((Duration::from_secs(49)..Duration::from_secs(51)).contains(&waited), "{waited:?}");
+}
+
+// A server takes eight Starts of a session that has begun, and no more; the last of them lets it live for a lease.
+#[test]
+fn a_client_that_only_starts_is_given_up() {
+    let waited = write_beside_one_that_starts(1000).unwrap();
+    println!("fail-over: a write beside a client that sends Starts for good, lease 1 s: {:.1} s", waited.as_secs_f64());
+    assert!(waited < Duration::from_secs(8), "{waited:?}");
 }
