@@ -8,6 +8,7 @@ use std::path::Path;
 use std::process::{Child, ChildStdout, Command, Stdio};
 use std::thread;
 use std::time::{Duration, Instant};
+use tillermoss::{Client, Error, Options};
 use trials::{Kill, Server, folder, program};
 
 fn command(server: &Server, words: &[&str]) -> Command {
@@ -98,6 +99,44 @@ fn files_are_made_read_and_deleted() {
     let mut left: Vec<_> = fs::read_dir(&folder).unwrap().map(|entry| entry.unwrap().file_name()).collect();
     left.sort();
     assert_eq!(left, ["store.db", "store.db-lock", "store.db-numbers", "store.db.log"]);
+    fs::remove_dir_all(folder).unwrap();
+}
+
+// So many clients at once make the files of these numbers, whose names have 64 bytes.
+fn make_files(server: &Server, directory: &str, numbers: std::ops::Range<usize>) -> Result<(), Error> {
+    thread::scope(|scope| {
+        let makers = (0..8).map(|maker| {
+            let mine = numbers.clone().skip(maker).step_by(8);
+            scope.spawn(move || {
+                let client = Client::connect(&Options::new(&server.address, "ann"))?;
+                for number in mine {
+                    let file = client.create(&format!("{directory}/{number:064}"), b"")?;
+                    client.close(file)?;
+                }
+                client.leave()
+            })
+        });
+        makers.collect::<Vec<_>>().into_iter().try_for_each(|maker| maker.join().unwrap())
+    })
+}
+
+// What is sent to a master is a block of 1,048,576 bytes at most. A listing of 15,000 names of 64 bytes is shorter, one of 17,000 is longer.
+#[test]
+fn a_directory_of_any_length_is_listed() {
+    let folder = folder("listing");
+    let server = Server::start(&folder.join("store.db")).unwrap();
+    assert_eq!(run(&server, &["mkdir", "d"]), (String::new(), Some(0)));
+    let mut before = 0;
+    for count in [15_000, 17_000] {
+        make_files(&server, "/ls/c/d", before..count).unwrap();
+        before = count;
+        let begun = Instant::now();
+        let (printed, status) = run(&server, &["ls", "d"]);
+        println!("commands: a directory of {count} names of 64 bytes is listed in {} ms", begun.elapsed().as_millis());
+        assert_eq!(status, Some(0), "{count}");
+        assert!(printed.lines().eq((0..count).map(|number| format!("{number:064}"))), "{count}");
+        assert_eq!(run(&server, &["get", &format!("d/{:064}", count - 1)]), ("\n".to_owned(), Some(0)));
+    }
     fs::remove_dir_all(folder).unwrap();
 }
 

@@ -59,7 +59,7 @@ fn a_client_that_never_acknowledges_is_given_up() {
     assert!((Duration::from_secs(49)..Duration::from_secs(51)).contains(&waited), "{waited:?}");
 }
 
-// A server takes eight Starts of a session that has begun, and no more; the last of them lets it live for a lease.
+// Of each session a master gets eight Starts; the last of them lets it live for a lease.
 #[test]
 fn a_client_that_only_starts_is_given_up() {
     let waited = write_beside_one_that_starts(1000).unwrap();
