@@ -48,7 +48,10 @@ impl Player {
                 },
                 viewers,
             )),
-            Err(_) => Err(Fault::NoMemory),
+            Err(client) => {
+                drop(client);
+                Err(Fault::NoMemory)
+            }
         }
     }
 
