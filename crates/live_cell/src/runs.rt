@@ -173,7 +173,7 @@ fn close<R: Records + Drop, O: Opening, I: Ledger, A: Ledger, E: Ledger, C: Ledg
     passes: Vec<Pass<I, A, E, C>>,
     played: Result<(), Fault>,
 ) -> Result<Closed<R>, Fault>
-    ensures { IfOk result (λ c. Settled O.opening O.seats (c.retired ++ c.handed) (watched c.cell) c.trail c.totals) }
+    ensures settled { IfOk result (λ c. Settled O.opening O.seats (c.retired ++ c.handed) (watched c.cell) c.trail c.totals) }
 {
     if let Err(fault) = played {
         give_up(rt, watch, passes);
