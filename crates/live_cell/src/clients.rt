@@ -92,8 +92,9 @@ fn play<R: Records, O: Opening, I: Ledger, A: Ledger, E: Ledger, C: Ledger, W: W
         let Letter::Out(out) = letters.next(rt, pass.number()) else {
             return Ok(());
         };
-        let beat = player.hear(rt, &out)?;
-        deliver(rt, watch, pass, letters, turn, beat)?;
+        let beat = player.hear(rt, &out);
+        drop(out);
+        deliver(rt, watch, pass, letters, turn, beat?)?;
         let call = player.play(rt)?;
         deliver(rt, watch, pass, letters, turn, call)?;
         if player.finishes() {

@@ -68,7 +68,10 @@ fn totals<W: Threads + Wait + Sync, T: Turn + Sync>(
     let settings = Settings::standard(alloc).map_err(|_| Fault::NoMemory)?;
     let lease = settings.lease();
     let cell = new_cell(alloc, &settings)?;
-    Ok(run_clients(rt, alloc, cell, clients, rounds, lease, turn)?.totals)
+    let closed = run_clients(rt, alloc, cell, clients, rounds, lease, turn)?;
+    let totals = closed.totals();
+    drop(closed);
+    Ok(totals)
 }
 
 /// A first master over new rows in lists, at the moment 0: it has granted no right yet.
@@ -78,6 +81,9 @@ pub fn new_cell(alloc: Global, settings: &Settings) -> Result<Cell<ListRecords>,
     let records = ListRecords::new(alloc, settings)?;
     match Cell::up(alloc, records, settings.lease(), 0) {
         Ok(cell) => Ok(cell),
-        Err((fault, _)) => Err(fault),
+        Err((fault, records)) => {
+            drop(records);
+            Err(fault)
+        }
     }
 }

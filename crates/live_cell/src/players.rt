@@ -48,7 +48,10 @@ impl Player {
                 },
                 viewers,
             )),
-            Err(_) => Err(Fault::NoMemory),
+            Err(client) => {
+                drop(client);
+                Err(Fault::NoMemory)
+            }
         }
     }
 
@@ -119,12 +122,24 @@ impl Player {
         }
         let asked = call_of(self.alloc, self.round)?;
         self.round = self.round.saturating_add(1);
-        let Asked { lines: _, outcome } = self.keeper.ask(rt, 0, &asked)?;
-        match outcome {
-            Outcome::Sent(request) => Ok(Some(request)),
-            Outcome::Refused(fault) => Err(fault),
-            Outcome::Served(_) | Outcome::Answered => Ok(None),
+        let told = self.keeper.ask(rt, 0, &asked);
+        drop(asked);
+        sent(told)
+    }
+}
+
+// The message of a call that has to be sent.
+fn sent(told: Result<Asked, Fault>) -> Result<Option<Request>, Fault> {
+    let Asked { lines, outcome } = told?;
+    drop(lines);
+    match outcome {
+        Outcome::Sent(request) => Ok(Some(request)),
+        Outcome::Refused(fault) => Err(fault),
+        Outcome::Served(answer) => {
+            drop(answer);
+            Ok(None)
         }
+        Outcome::Answered => Ok(None),
     }
 }
 

@@ -1,8 +1,8 @@
 //! A run of clients, from the opening of its watch to the close.
-ghost use Rattle.std.specs.Prelude.{◌≡◌, List, [], IfOk};
+ghost use Rattle.std.specs.Prelude.{◌≡◌, ◌++◌, [], IfOk};
 ghost use Rattle.std.specs.Thread.{IsSync};
 ghost use Rattle.watch_cell.specs.Closing.{Settled};
-ghost use Rattle.watch_cell.specs.Views.{Hand, watched};
+ghost use Rattle.watch_cell.specs.Views.{watched};
 
 use crate::clients::client;
 use crate::letters::Letters;
@@ -81,7 +81,7 @@ pub fn run_clients<R: Records + Drop + Send, W: Threads + Wait + Sync, T: Turn +
     turn: &T,
 ) -> Result<Closed<R>, Fault>
     requires { cell.master.rights ≡ [] }
-    ensures { IfOk result (λ c. (hands : List Hand) × Settled (watched cell) clients hands (watched c.cell) c.trail.items c.totals) }
+    ensures { IfOk result (λ c. Settled (watched cell) clients (c.retired ++ c.handed) (watched c.cell) c.trail c.totals) }
 {
     run_with::<R, Brand, Brand, Brand, Brand, Brand, W, T>(
         rt,
@@ -120,12 +120,15 @@ fn run_with<
     requires acknowledged { (blanks.acknowledged.name ≡ A.name) × (blanks.acknowledged.parts ≡ A.parts) × (A.parts ≡ clients) }
     requires expired { (blanks.expired.name ≡ E.name) × (blanks.expired.parts ≡ E.parts) × (E.parts ≡ clients) }
     requires calls { (blanks.calls.name ≡ C.name) × (blanks.calls.parts ≡ C.parts) × (C.parts ≡ clients) }
-    ensures { IfOk result (λ c. (hands : List Hand) × Settled O.opening O.seats hands (watched c.cell) c.trail.items c.totals) }
+    ensures { IfOk result (λ c. Settled O.opening O.seats (c.retired ++ c.handed) (watched c.cell) c.trail c.totals) }
 {
     let letters = Letters::new(alloc, clients)?;
     let (watch, mut passes) = match Watch::<R, O, I, A, E, C>::open(alloc, cell, clients, blanks) {
         Ok(opened) => opened,
-        Err(_) => return Err(Fault::NoMemory),
+        Err(refused) => {
+            drop(refused);
+            return Err(Fault::NoMemory);
+        }
     };
     let played = play_all(
         rt,
@@ -170,7 +173,7 @@ fn close<R: Records + Drop, O: Opening, I: Ledger, A: Ledger, E: Ledger, C: Ledg
     passes: Vec<Pass<I, A, E, C>>,
     played: Result<(), Fault>,
 ) -> Result<Closed<R>, Fault>
-    ensures { IfOk result (λ c. (hands : List Hand) × Settled O.opening O.seats hands (watched c.cell) c.trail.items c.totals) }
+    ensures settled { IfOk result (λ c. Settled O.opening O.seats (c.retired ++ c.handed) (watched c.cell) c.trail c.totals) }
 {
     if let Err(fault) = played {
         give_up(rt, watch, passes);
@@ -178,8 +181,8 @@ fn close<R: Records + Drop, O: Opening, I: Ledger, A: Ledger, E: Ledger, C: Ledg
     }
     match watch.close(passes) {
         Ok(closed) => Ok(closed),
-        Err((fault, watch, passes)) => {
-            give_up(rt, watch, passes);
+        Err((fault, locked, passes)) => {
+            give_up(rt, Watch::over(locked), passes);
             Err(fault)
         }
     }

@@ -207,9 +207,9 @@ fn close<O: Opening, I: Ledger, A: Ledger, E: Ledger, C: Ledger, W: Wait>(
         hoard.relax();
         match told {
             Ok(closed) => return Ok(closed),
-            Err((Fault::NoMemory, watch, passes)) => left = (watch, passes),
-            Err((fault, watch, passes)) => {
-                give_up(rt, watch, passes);
+            Err((Fault::NoMemory, locked, passes)) => left = (Watch::over(locked), passes),
+            Err((fault, locked, passes)) => {
+                give_up(rt, Watch::over(locked), passes);
                 return Err(fault);
             }
         }
@@ -219,14 +219,9 @@ fn close<O: Opening, I: Ledger, A: Ledger, E: Ledger, C: Ledger, W: Wait>(
 }
 
 fn write_closed(alloc: Global, closed: Closed<ListRecords>, text: &mut String) -> Result<(), Stop> {
-    let Closed {
-        cell,
-        trail,
-        totals,
-    } = closed;
-    let entries = trail.len();
-    drop(trail);
-    let mut records = cell.down();
+    let entries = closed.trail().len();
+    let totals = closed.totals();
+    let mut records = closed.into_cell().down();
     let rows = text_of_records(alloc, &mut records);
     drop(records);
     let rows = rows?;

@@ -104,8 +104,8 @@ fn one_retired<R: Records + Drop, O: Opening, I: Ledger, A: Ledger, E: Ledger, C
     retire(rt, &watch, second);
     match watch.close(passes) {
         Ok(closed) => made && hold(alloc, closed),
-        Err((_, watch, passes)) => {
-            give_up(rt, watch, passes);
+        Err((_, locked, passes)) => {
+            give_up(rt, Watch::over(locked), passes);
             false
         }
     }
@@ -201,7 +201,7 @@ fn sweeps<R: Records, O: Opening, I: Ledger, A: Ledger, E: Ledger, C: Ledger, W:
 
 // Whether the rows hold each file with its content.
 fn hold<R: Records + Drop>(alloc: Global, closed: Closed<R>) -> bool {
-    let mut records = closed.cell.down();
+    let mut records = closed.into_cell().down();
     match records.load() {
         Ok(rows) => FILES
             .iter()
@@ -235,7 +235,8 @@ fn kept_back<
     retire(rt, &watch, third);
     match watch.close(passes) {
         Ok(_) => panic!(rt; "the second pass is missing"),
-        Err((fault, watch, mut passes)) => {
+        Err((fault, locked, mut passes)) => {
+            let watch = Watch::over(locked);
             let missing = fault == Fault::PassMissing(2) && passes.len() == 1;
             match passes.push(second) {
                 Ok(()) => {}
@@ -256,9 +257,13 @@ fn closes<R: Records + Drop, O: Opening, I: Ledger, A: Ledger, E: Ledger, C: Led
     entries: usize,
 ) -> bool {
     match watch.close(passes) {
-        Ok(closed) => closed.trail.len() == entries,
-        Err((_, watch, passes)) => {
-            give_up(rt, watch, passes);
+        Ok(closed) => {
+            let there = closed.trail().len();
+            drop(closed);
+            there == entries
+        }
+        Err((_, locked, passes)) => {
+            give_up(rt, Watch::over(locked), passes);
             false
         }
     }

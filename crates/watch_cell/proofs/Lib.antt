@@ -1,3 +1,4 @@
+pub mod Calls
 pub mod Count
 pub mod Counting
 pub mod Flaws

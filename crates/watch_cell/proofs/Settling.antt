@@ -114,18 +114,20 @@ joined f r ps P seats total q0 a0 q1 a1 q2 a2 same zq za p1 s1 p2 s2 le whole = 
 }
 
 -- the same with the shares joined
-pub settled_by : (opening cell : WatchedState) (seats : ℕ) (trail trail' : List Entry) (r r' ps ps' : List Hand) (i a x c : ℕ) (totals : Totals)
+pub settled_by : (opening cell : WatchedState) (seats : ℕ) (trail trail' : List Entry) (r r' ps ps' early late : List Hand) (i a x c : ℕ) (totals : Totals)
     → Kept opening cell trail i a x c
     → totals ≡ totals_of cell.master.rights → totals.issued ≡ totals.held + totals.acknowledged + totals.expired
     → trail ≡ trail' → r ≡ r' → ps' ≡ ps
     → AllThere (r' ++ ps') seats → SoundOf trail' (places (r' ++ ps')) (r' ++ ps')
     → gathered (λ h. h.calls) r ≡ gathered (λ h. length h.receipts) r → gathered (λ h. h.calls) ps ≡ gathered (λ h. length h.receipts) ps
     → Joined (λ h. h.issued) r ps seats i → Joined (λ h. h.acknowledged) r ps seats a → Joined (λ h. h.expired) r ps seats x → Joined (λ h. h.calls) r ps seats c
-    → Settled opening seats (r' ++ ps) cell trail totals
-settled_by opening cell seats trail trail' r r' ps ps' i a x c totals kept is balance et er eps there sound c1 c2 ji ja jx jc =
+    → early ≡ r → late ≡ ps
+    → Settled opening seats (early ++ late) cell trail totals
+settled_by opening cell seats trail trail' r r' ps ps' early late i a x c totals kept is balance et er eps there sound c1 c2 ji ja jx jc ee el =
     let here : r' ++ ps' ≡ r ++ ps = (λ k. (sym er k) ++ (eps k)) in
     let there' : AllThere (r ++ ps) seats = subst (λ (w : List Hand). AllThere w seats) here there in
     let sound' : SoundOf trail (places (r ++ ps)) (r ++ ps) = subst (λ (w : List Hand). SoundOf trail (places w) w) here (subst (λ (w : List Entry). SoundOf w (places (r' ++ ps')) (r' ++ ps')) (sym et) sound) in
     let receipts : gathered (λ h. h.calls) (r ++ ps) ≡ gathered (λ h. length h.receipts) (r ++ ps) = omega (arith, c1, c2, gathered_append (λ h. h.calls) r ps, gathered_append (λ h. length h.receipts) r ps) in
-    subst (λ (w : List Hand). Settled opening seats (w ++ ps) cell trail totals) er
-    (settled opening cell seats trail (r ++ ps) i a x c totals kept is balance there' sound' ji.few receipts (λ n. (ji.sum n, ja.sum n, jx.sum n, jc.sum n)))
+    subst (λ (w : List Hand). Settled opening seats (early ++ w) cell trail totals) (sym el)
+    (subst (λ (w : List Hand). Settled opening seats (w ++ ps) cell trail totals) (sym ee)
+    (settled opening cell seats trail (r ++ ps) i a x c totals kept is balance there' sound' ji.few receipts (λ n. (ji.sum n, ja.sum n, jx.sum n, jc.sum n))))

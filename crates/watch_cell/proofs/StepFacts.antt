@@ -18,9 +18,10 @@ use Rattle.over_core.specs.Sweep.{sweep_step, sweep_edits, swept_as, swept, is_o
 use Rattle.over_core.specs.Plans.{first_action}
 use Rattle.over_core.proofs.StepsTell.{taken_tells, swept_tells}
 use Rattle.over_core.specs.declared.sweeps.SweptThrice.{SweptThrice}
+use Rattle.watch_cell.specs.declared.events.Event.{Event}
 use Rattle.watch_cell.specs.declared.events.Event.TheVariants.{Take, Sweep}
 use Rattle.watch_cell.specs.Views.{WatchedState, watched}
-use Rattle.watch_cell.specs.Trail.{after_take, after_sweep, step_of}
+use Rattle.watch_cell.specs.Trail.{after_take, after_sweep, step_of, StepRefuses}
 
 -- ---- a message that was taken
 
@@ -83,3 +84,28 @@ swept_tells_so old new now (Err e) kept is = tt
 pub swept_not_full : (old new : CellState) (now : ℕ) (result : Result SweptThrice Fault) → IfErr result (λ e. (sweep_step old.master now ≡ Err e × new ≡ old) ⊎ IsRefused e (sweep_edits old.master now) old.store new.store) → IfErr result (λ e. e ≢ faults.WatchFull)
 swept_not_full old new now (Ok t) h = tt
 swept_not_full old new now (Err e) h = sweep_not_full old new now e h
+
+-- ---- why it is refused
+
+take_err : (old : CellState) (now : ℕ) (request : Request) (e : Fault) → take_step old.master now request ≡ Err e → step_of (watched old) (Take now request) ≡ Err e
+unfolding step_of
+take_err old now request e is = ap (after_take (watched old)) is
+
+sweep_err : (old : CellState) (now : ℕ) (e : Fault) → sweep_step old.master now ≡ Err e → step_of (watched old) (Sweep now) ≡ Err e
+unfolding step_of
+sweep_err old now e is = ap (after_sweep (watched old) (sweep_edits old.master now)) is
+
+take_refused_by : (old : CellState) (now : ℕ) (request : Request) (e : Fault) → (e ≢ faults.NoMemory → take_step old.master now request ≡ Err e) → StepRefuses (watched old) (Take now request) e
+take_refused_by old now request faults.NoMemory h = inl refl
+take_refused_by old now request e h = inr (inl (take_err old now request e (h (λ k. cc))))
+
+pub take_refused : (old : CellState) (event : Event) (now : ℕ) (request : Request) (e : Fault) → event ≡ Take now request → (e ≢ faults.NoMemory → take_step old.master now request ≡ Err e) → StepRefuses (watched old) event e
+take_refused old event now request e is h = subst (λ (v : Event). StepRefuses (watched old) v e) (sym is) (take_refused_by old now request e h)
+
+sweep_refused : (old new : CellState) (now : ℕ) (e : Fault) → (sweep_step old.master now ≡ Err e × new ≡ old) ⊎ IsRefused e (sweep_edits old.master now) old.store new.store → StepRefuses (watched old) (Sweep now) e
+sweep_refused old new now e (inl p) = inr (inl (sweep_err old now e p.0))
+sweep_refused old new now e (inr r) = inr (inr (old.store.refusals, new.store.refusals, r.why))
+
+pub swept_refused : (old new : CellState) (event : Event) (now : ℕ) (result : Result SweptThrice Fault) → event ≡ Sweep now → IfErr result (λ e. (sweep_step old.master now ≡ Err e × new ≡ old) ⊎ IsRefused e (sweep_edits old.master now) old.store new.store) → IfErr result (λ e. StepRefuses (watched old) event e)
+swept_refused old new event now (Ok t) is h = tt
+swept_refused old new event now (Err e) is h = subst (λ (v : Event). StepRefuses (watched old) v e) (sym is) (sweep_refused old new now e h)

@@ -1,9 +1,11 @@
 -- The trail of a watch, its replay, and the one change of a call.
-use Rattle.std.specs.Prelude.{◌≡◌, ℕ, ◌+◌, ◌≤◌, List, [], ◌∷◌, ◌++◌, length, map, count_by, Option, Some, Result, Ok, Err}
+use Rattle.std.specs.Prelude.{◌≡◌, ◌⊎◌, ℕ, ◌+◌, ◌<◌, ◌≤◌, Bool, List, [], ◌∷◌, ◌++◌, length, map, count_by, Option, Some, Result, Ok, Err}
 use Rattle.node_core.specs.declared.lines.Line.{Line}
 use Rattle.node_core.specs.declared.refusals.Fault.{Fault}
+use Rattle.node_core.specs.declared.refusals.Fault.TheVariants.{NoMemory, WatchFull}
 use Rattle.rows_cell.specs.declared.tables.Edit.{Edit}
 use Rattle.rows_cell.specs.Rows.{changed_rows}
+use Rattle.rows_cell.specs.Stores.{MayRefuse}
 use Rattle.rights_core.specs.Grants.{Told, rights_at, told_of, totals_by, is_granted_line, is_acked_line, is_expired_line}
 use Rattle.cell_parts.specs.declared.pending.Taken.{Taken}
 use Rattle.cell_state.specs.State.{MasterState}
@@ -33,6 +35,19 @@ after_sweep s edits (Err fault) = Err fault
 unfoldable pub step_of : WatchedState → Event → Result (WatchedState × Swept) Fault
 step_of s (Take now request) = after_take s (take_step s.master now request)
 step_of s (Sweep now) = after_sweep s (sweep_edits s.master now) (sweep_step s.master now)
+
+-- what it asks the store to commit
+abbrev pub commits : WatchedState → Event → List Edit
+commits s (Take now request) = []
+commits s (Sweep now) = sweep_edits s.master now
+
+-- by the store that is asked to commit these edits, whatever it counted before
+abbrev pub IsByStore : List Edit → Fault → Type 0
+IsByStore edits fault = (before : ℕ) × (after : ℕ) × MayRefuse edits fault before after
+
+-- why the step of an event is refused: for want of memory, as the master's tables say, or by the store
+abbrev pub StepRefuses : WatchedState → Event → Fault → Type 0
+StepRefuses s event fault = (fault ≡ NoMemory) ⊎ ((step_of s event ≡ Err fault) ⊎ IsByStore (commits s event) fault)
 
 -- the last state comes from the first by these entries, each a step with its reply
 abbrev pub Replays : WatchedState → List Entry → WatchedState → Type 0
@@ -66,6 +81,26 @@ pub record Kept (opening cell : WatchedState) (trail : List Entry) (issued ackno
   pub balance : issued ≡ (totals_by grants).held + acknowledged + expired
   pub short : length trail ≤ 1000000
 
+-- what lies under the lock of a watch of this opening
+abbrev pub Lies : WatchedState → Desk → Type 0
+Lies opening d = Kept opening d.cell d.trail d.issued d.acknowledged d.expired d.calls
+
+-- how many lines of the replies of these receipts pass a test
+abbrev pub told_in : (Line → Bool) → List Ticket → ℕ
+told_in test [] = 0
+told_in test (t ∷ ts) = count_by test t.reply.lines + told_in test ts
+
+-- a pass of these receipts: its shares are what their replies tell of rights, and its calls are as many as they are
+abbrev pub hand_of : ℕ → List Ticket → Hand
+hand_of number receipts = record {
+  number = number;
+  issued = told_in is_granted_line receipts;
+  acknowledged = told_in is_acked_line receipts;
+  expired = told_in is_expired_line receipts;
+  calls = length receipts;
+  receipts = receipts;
+}
+
 -- what a pass gains
 pub record Gained (before after : Hand) (event : Event) (t : Ticket) : Type 0 where
   pub number_is : after.number ≡ before.number
@@ -88,3 +123,19 @@ pub record Served (old new : Desk) (before after : Hand) (event : Event) (t : Ti
   pub calls_is : new.calls ≡ old.calls + 1
   pub retired_is : new.retired ≡ old.retired
   pub gained : Gained before after event t
+
+-- a call finds what lies under the lock and leaves it, but for its one change
+abbrev pub Calls : WatchedState → Hand → Hand → Event → Ticket → Type 0
+Calls opening before after event t = (old : Desk) × (new : Desk) × Lies opening old × Lies opening new × Served old new before after event t
+
+-- why a call is refused: where the trail is full, and there alone, as that; else as its step is
+abbrev pub CallRefuses : Desk → Event → Fault → Type 0
+CallRefuses d event fault = ((length d.trail ≡ 1000000) × (fault ≡ WatchFull)) ⊎ ((length d.trail < 1000000) × StepRefuses d.cell event fault)
+
+-- and it finds that under the lock
+abbrev pub IsCallRefused : WatchedState → Event → Fault → Type 0
+IsCallRefused opening event fault = (d : Desk) × Lies opening d × CallRefuses d event fault
+
+-- what lies under the lock takes in a pass, and else stays
+abbrev pub Retires : WatchedState → Hand → Type 0
+Retires opening pass = (old : Desk) × (new : Desk) × Lies opening old × Lies opening new × (new ≡ record old { retired = old.retired ++ pass ∷ [] })

@@ -4,6 +4,7 @@ use Rattle.rows_cell.specs.declared.tables.Rows.{Rows}
 use Rattle.cell_state.specs.State.{MasterState, master_of}
 use Rattle.over_core.specs.Kept.{CellState}
 use Rattle.over_core.specs.declared.swept.Swept.{Swept}
+use Rattle.rights_core.specs.declared.totals.Totals.{Totals}
 use Rattle.watch_cell.specs.declared.events.Event.{Event}
 use Rattle.watch_cell.specs.declared.events.Entry.{Entry}
 
@@ -39,6 +40,14 @@ pub record Desk : Type 0 where
   pub expired : ℕ
   pub calls : ℕ
   pub retired : List Hand
+
+-- a closed watch: its cell, its trail and its totals, the passes that had been retired, and those that were handed in
+pub record ClosedState : Type 0 where
+  pub cell : CellState
+  pub trail : List Entry
+  pub totals : Totals
+  pub retired : List Hand
+  pub handed : List Hand
 
 -- what lies there first
 abbrev pub opened : WatchedState → Desk

@@ -16,5 +16,5 @@ mod watches;
 pub use alike::Alike;
 pub use events::{Entry, Event};
 pub use ledgers::{Blanks, Books, Shares};
-pub use locked::{Closed, Locked, Opening, Pass, Receipt, serve};
+pub use locked::{Closed, Locked, Opening, Pass, Receipt, Spent, serve};
 pub use watches::Watch;

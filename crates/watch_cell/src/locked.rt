@@ -4,7 +4,7 @@ ghost use Rattle.std.specs.Prelude.{◌≡◌, ◌≢◌, ◌<◌, ◌≤◌, �
 ghost use Rattle.node_core.specs.declared.refusals.Fault.TheVariants.{WatchFull};
 ghost use Rattle.rights_core.specs.Grants.{Tells, is_granted_line, is_acked_line, is_expired_line};
 ghost use Rattle.over_core.specs.Sweep.{swept_as};
-ghost use Rattle.watch_cell.specs.Trail.{Kept, Served, step_of};
+ghost use Rattle.watch_cell.specs.Trail.{Kept, Lies, Served, StepRefuses, CallRefuses, hand_of, step_of};
 ghost use Rattle.watch_cell.specs.Views.{Desk, watched, opened, fresh, fresh_hands};
 ghost use Rattle.watch_cell.specs.Closing.{gathered, places, AllThere, SoundOf, Refuses, Settled};
 
@@ -90,13 +90,16 @@ pub struct Pass<I: Ledger, A: Ledger, E: Ledger, C: Ledger> {
 
 impl<I: Ledger, A: Ledger, E: Ledger, C: Ledger> Model for Pass<I, A, E, C> {
     ghost use Rattle.std.specs.Prelude.{◌≡◌, length};
+    ghost use Rattle.rights_core.specs.Grants.{is_granted_line, is_acked_line, is_expired_line};
+    ghost use Rattle.watch_cell.specs.Trail.{told_in};
     ghost use Rattle.watch_cell.specs.Views.{Hand};
 
     ghost Value = { Hand };
 
     ghost view = { λ p. record { number = p.number; issued = p.shares.issued.amount; acknowledged = p.shares.acknowledged.amount; expired = p.shares.expired.amount; calls = p.shares.calls.amount; receipts = p.receipts.items } };
 
-    ghost invariant = { λ p. (p.shares.issued.parts ≡ 1) × (p.shares.acknowledged.parts ≡ 1) × (p.shares.expired.parts ≡ 1) × (p.shares.calls.parts ≡ 1) × (p.shares.calls.amount ≡ length p.receipts.items) };
+    ghost invariant = { λ p. (p.shares.issued.parts ≡ 1) × (p.shares.acknowledged.parts ≡ 1) × (p.shares.expired.parts ≡ 1) × (p.shares.calls.parts ≡ 1) × (p.shares.calls.amount ≡ length p.receipts.items)
+        × (p.shares.issued.amount ≡ told_in is_granted_line p.receipts.items) × (p.shares.acknowledged.amount ≡ told_in is_acked_line p.receipts.items) × (p.shares.expired.amount ≡ told_in is_expired_line p.receipts.items) };
 }
 
 impl<I: Ledger, A: Ledger, E: Ledger, C: Ledger> Pass<I, A, E, C> {
@@ -125,6 +128,36 @@ impl<I: Ledger, A: Ledger, E: Ledger, C: Ledger> Pass<I, A, E, C> {
         }
     }
 
+    pub fn number(&self) -> u64
+        ensures { result ≡ self.now.number }
+    {
+        self.number
+    }
+
+    pub fn receipts(&self) -> &[Receipt]
+        ensures { result.now ≡ self.now.receipts }
+    {
+        self.receipts.as_slice()
+    }
+}
+
+/// A pass that makes no more calls, of a watch that is closed: its number and its receipts.
+#[derive(Drop)]
+pub struct Spent {
+    number: u64,
+    receipts: Vec<Receipt>,
+}
+
+impl Model for Spent {
+    ghost use Rattle.watch_cell.specs.Trail.{hand_of};
+    ghost use Rattle.watch_cell.specs.Views.{Hand};
+
+    ghost Value = { Hand };
+
+    ghost view = { λ p. hand_of p.number p.receipts.items };
+}
+
+impl Spent {
     pub fn number(&self) -> u64
         ensures { result ≡ self.now.number }
     {
@@ -222,6 +255,13 @@ impl<R: Records, O: Opening, I: Ledger, A: Ledger, E: Ledger, C: Ledger> Locked<
         }
     }
 
+    /// What holds whenever the lock is free.
+    pub fn kept(&self)
+        ensures { Lies O.opening self.now }
+    {
+        let _cell = &self.cell;
+    }
+
     /// Keeps a pass that makes no more calls.
     pub fn take_in(&mut self, pass: Pass<I, A, E, C>) -> Result<(), (AllocError, Pass<I, A, E, C>)>
         ensures ok { OnOk result (self.new ≡ record self.old { retired = self.old.retired ++ pass ∷ [] }) }
@@ -234,12 +274,64 @@ impl<R: Records, O: Opening, I: Ledger, A: Ledger, E: Ledger, C: Ledger> Locked<
     }
 }
 
-/// A cell whose watch is closed, with its trail and its totals.
+/// A watch that is closed: its cell, its trail, its totals and its passes. `Locked::settle` alone makes one.
 #[derive(Drop)]
 pub struct Closed<R: Records> {
-    pub cell: Cell<R>,
-    pub trail: Vec<Entry>,
-    pub totals: Totals,
+    cell: Cell<R>,
+    trail: Vec<Entry>,
+    totals: Totals,
+    retired: Vec<Spent>,
+    handed: Vec<Spent>,
+}
+
+impl<R: Records> Model for Closed<R> {
+    ghost use Rattle.watch_cell.specs.Views.{ClosedState};
+
+    ghost Value = { ClosedState };
+
+    ghost view = { λ c. record { cell = c.cell; trail = c.trail.items; totals = c.totals; retired = c.retired.items; handed = c.handed.items } };
+}
+
+impl<R: Records> Closed<R> {
+    pub fn trail(&self) -> &[Entry]
+        ensures { result.now ≡ self.now.trail }
+    {
+        self.trail.as_slice()
+    }
+
+    /// How many rights the trail grants, and how many of them stand in each way.
+    pub fn totals(&self) -> Totals
+        ensures { result ≡ self.now.totals }
+    {
+        self.totals
+    }
+
+    /// The passes that had been retired, in that order.
+    pub fn retired(&self) -> &[Spent]
+        ensures { result.now ≡ self.now.retired }
+    {
+        self.retired.as_slice()
+    }
+
+    /// The passes that the close was handed.
+    pub fn handed(&self) -> &[Spent]
+        ensures { result.now ≡ self.now.handed }
+    {
+        self.handed.as_slice()
+    }
+
+    pub fn into_cell(self) -> Cell<R>
+        ensures { result ≡ self.cell }
+    {
+        let Closed {
+            cell,
+            trail: _,
+            totals: _,
+            retired: _,
+            handed: _,
+        } = self;
+        cell
+    }
 }
 
 impl<R: Records, O: Opening, I: Ledger, A: Ledger, E: Ledger, C: Ledger> Locked<R, O, I, A, E, C> {
@@ -260,20 +352,37 @@ impl<R: Records, O: Opening, I: Ledger, A: Ledger, E: Ledger, C: Ledger> Locked<
         }
     }
 
-    /// The cell, the trail and the totals, which are the sums of the shares of all passes.
+    // The same, with room for what is left of the passes.
+    fn rooms(&self, passes: &[Pass<I, A, E, C>]) -> Result<(Vec<Spent>, Vec<Spent>), Fault>
+        ensures there { OnOk result (AllThere (self.now.retired ++ passes.now) O.seats) }
+        ensures sound { OnOk result (SoundOf self.now.trail (places (self.now.retired ++ passes.now)) (self.now.retired ++ passes.now)) }
+        ensures retired { IfOk result (λ r. (r.0.items ≡ []) × (vec_len r.0 ≡ 0) × (length self.now.retired ≤ vec_capacity r.0)) }
+        ensures handed { IfOk result (λ r. (r.1.items ≡ []) × (vec_len r.1 ≡ 0) × (length passes.now ≤ vec_capacity r.1)) }
+        ensures err { IfErr result (λ e. Refuses (self.now.retired ++ passes.now) self.now.trail O.seats e) }
+    {
+        self.test(passes)?;
+        let retired = Vec::with_capacity(self.alloc, self.retired.len())?;
+        let handed = Vec::with_capacity(self.alloc, passes.len())?;
+        Ok((retired, handed))
+    }
+
+    /// The cell, the trail, the totals, which are the sums of the shares of all passes, and these passes. Refused for want of
+    /// memory, which costs 40 bytes a pass and one for each entry of the trail, or as the passes and their receipts are.
     pub fn settle(
         self,
         passes: Vec<Pass<I, A, E, C>>,
     ) -> Result<Closed<R>, (Fault, Self, Vec<Pass<I, A, E, C>>)>
-        ensures ok { IfOk result (λ c. Settled O.opening O.seats (self.retired ++ passes.items) (watched c.cell) c.trail.items c.totals) }
-        ensures same { IfOk result (λ c. (watched c.cell ≡ self.cell) × (c.trail.items ≡ self.trail)) }
+        ensures ok { IfOk result (λ c. Settled O.opening O.seats (c.retired ++ c.handed) (watched c.cell) c.trail c.totals) }
+        ensures same { IfOk result (λ c. (watched c.cell ≡ self.cell) × (c.trail ≡ self.trail)) }
+        ensures retired { IfOk result (λ c. c.retired ≡ self.retired) }
+        ensures handed { IfOk result (λ c. c.handed ≡ passes.items) }
         ensures back { IfErr result (λ e. (e.1 ≡ self) × (e.2 ≡ passes)) }
-        ensures refusal { IfErr result (λ e. Refuses (self.retired ++ passes.items) self.trail O.seats e.0) }
+        ensures refusal { IfErr result (λ e. Refuses (e.1.retired ++ passes.items) e.1.trail O.seats e.0) }
     {
-        match self.test(passes.as_slice()) {
+        let (mut early, mut late) = match self.rooms(passes.as_slice()) {
             Err(fault) => return Err((fault, self, passes)),
-            Ok(()) => {}
-        }
+            Ok(rooms) => rooms,
+        };
         let totals = self.cell.totals();
         let Locked {
             alloc: _,
@@ -285,8 +394,8 @@ impl<R: Records, O: Opening, I: Ledger, A: Ledger, E: Ledger, C: Ledger> Locked<
             seats: _,
             opening: _,
         } = self;
-        let rest = gather(rest, retired);
-        let mut all = gather(rest, passes);
+        let rest = gather(rest, retired, &mut early);
+        let mut all = gather(rest, passes, &mut late);
         books.issued.audit(&mut all.issued);
         books.acknowledged.audit(&mut all.acknowledged);
         books.expired.audit(&mut all.expired);
@@ -295,27 +404,32 @@ impl<R: Records, O: Opening, I: Ledger, A: Ledger, E: Ledger, C: Ledger> Locked<
             cell,
             trail,
             totals,
+            retired: early,
+            handed: late,
         })
     }
 }
 
-// Joins the shares of passes to others.
+// Joins the shares of passes to others. What is left of the passes goes to a list that has room for it.
 fn gather<I: Ledger, A: Ledger, E: Ledger, C: Ledger>(
     mut rest: Shares<I, A, E, C>,
     mut passes: Vec<Pass<I, A, E, C>>,
+    spent: &mut Vec<Spent>,
 ) -> Shares<I, A, E, C>
-    requires { (rest.issued.parts ≤ I.parts) × (rest.acknowledged.parts ≤ A.parts) × (rest.expired.parts ≤ E.parts) × (rest.calls.parts ≤ C.parts) }
+    requires parts { (rest.issued.parts ≤ I.parts) × (rest.acknowledged.parts ≤ A.parts) × (rest.expired.parts ≤ E.parts) × (rest.calls.parts ≤ C.parts) }
+    requires room { (spent.old.items ≡ []) × (vec_len spent.old ≡ 0) × (length passes.items ≤ vec_capacity spent.old) }
     ensures issued { (result.issued.parts ≡ rest.issued.parts + length passes.items) × (result.issued.amount ≡ rest.issued.amount + gathered (λ h. h.issued) passes.items) × (result.issued.parts ≤ I.parts) }
     ensures acknowledged { (result.acknowledged.parts ≡ rest.acknowledged.parts + length passes.items) × (result.acknowledged.amount ≡ rest.acknowledged.amount + gathered (λ h. h.acknowledged) passes.items) × (result.acknowledged.parts ≤ A.parts) }
     ensures expired { (result.expired.parts ≡ rest.expired.parts + length passes.items) × (result.expired.amount ≡ rest.expired.amount + gathered (λ h. h.expired) passes.items) × (result.expired.parts ≤ E.parts) }
     ensures calls { (result.calls.parts ≡ rest.calls.parts + length passes.items) × (result.calls.amount ≡ rest.calls.amount + gathered (λ h. h.calls) passes.items) × (result.calls.parts ≤ C.parts) }
     ensures receipts { gathered (λ h. h.calls) passes.items ≡ gathered (λ h. length h.receipts) passes.items }
+    ensures spent { spent.new.items ≡ passes.items }
 {
     while let Some(pass) = passes.pop() {
         let Pass {
-            number: _,
+            number,
             shares,
-            receipts: _,
+            receipts,
         } = pass;
         let Shares {
             issued,
@@ -327,8 +441,10 @@ fn gather<I: Ledger, A: Ledger, E: Ledger, C: Ledger>(
         rest.acknowledged.merge(acknowledged);
         rest.expired.merge(expired);
         rest.calls.merge(calls);
+        spent.push_reserved(Spent { number, receipts });
     }
     passes.destroy_empty();
+    spent.reverse();
     rest
 }
 
@@ -378,8 +494,8 @@ fn fill<I: Ledger, A: Ledger, E: Ledger, C: Ledger>(
 
 /// One call: the cell makes the event's step, the trail gains its entry, the books and the pass's shares rise by what its
 /// lines tell of rights and by one call, and the pass gains the receipt that is answered. Refused as WatchFull exactly
-/// where the trail has 1,000,000 entries, before all else; then for want of memory, and as the step is. A refusal changes
-/// nothing. All memory is taken before the step has an effect. Costs what the step costs.
+/// where the trail has 1,000,000 entries, before all else; then for want of memory, and as the step is, or by the store. A
+/// refusal changes nothing. All memory is taken before the step has an effect. Costs what the step costs.
 pub fn serve<R: Records, O: Opening, I: Ledger, A: Ledger, E: Ledger, C: Ledger>(
     locked: &mut Locked<R, O, I, A, E, C>,
     pass: &mut Pass<I, A, E, C>,
@@ -388,6 +504,7 @@ pub fn serve<R: Records, O: Opening, I: Ledger, A: Ledger, E: Ledger, C: Ledger>
     ensures ok { IfOk result (λ t. Served locked.old locked.new pass.old pass.new event t) }
     ensures err { OnErr result ((locked.new ≡ locked.old) × (pass.new ≡ pass.old)) }
     ensures full { IsErrOf result WatchFull ↔ (length locked.old.trail ≡ 1000000) }
+    ensures refusal { IfErr result (λ e. CallRefuses locked.old event e) }
 {
     if locked.trail.len() >= MOST {
         drop(event);
@@ -463,6 +580,7 @@ fn made<R: Records>(
     ensures items { (trail.new.items ≡ trail.old.items) × (receipts.new.items ≡ receipts.old.items) }
     ensures room { OnOk result ((vec_len trail.new < vec_capacity trail.new) × (vec_len receipts.new < vec_capacity receipts.new)) }
     ensures fault { IfErr result (λ e. e ≢ WatchFull) }
+    ensures refusal { IfErr result (λ e. StepRefuses (watched cell.old) events e) }
     ensures err { OnErr result (watched cell.new ≡ watched cell.old) }
 {
     match stepped(cell, trail, receipts, events.event()) {
@@ -494,6 +612,7 @@ fn stepped<R: Records>(
     ensures items { (trail.new.items ≡ trail.old.items) × (receipts.new.items ≡ receipts.old.items) }
     ensures room { OnOk result ((vec_len trail.new < vec_capacity trail.new) × (vec_len receipts.new < vec_capacity receipts.new)) }
     ensures fault { IfErr result (λ e. e ≢ WatchFull) }
+    ensures refusal { IfErr result (λ e. StepRefuses (watched cell.old) event.now e) }
     ensures err { OnErr result (watched cell.new ≡ watched cell.old) }
 {
     receipts.reserve(1)?;

@@ -3,7 +3,7 @@ ghost use Rattle.std.specs.Prelude.{◌≡◌, ◌≢◌, Some, Ok, IfOk, IfErr,
 ghost use Rattle.node_core.specs.declared.refusals.Fault.TheVariants.{WatchFull};
 ghost use Rattle.rights_core.specs.Grants.{Tells, is_granted_line, is_acked_line, is_expired_line};
 ghost use Rattle.over_core.specs.Sweep.{swept_as};
-ghost use Rattle.watch_cell.specs.Trail.{step_of};
+ghost use Rattle.watch_cell.specs.Trail.{StepRefuses, step_of};
 ghost use Rattle.watch_cell.specs.Views.{watched};
 
 use crate::events::Event;
@@ -20,6 +20,7 @@ pub(crate) fn step_thrice<R: Records>(
     ensures ok { IfOk result (λ t. step_of (watched cell.old) event.now ≡ Ok (watched cell.new, swept_as t.answers t.quiet)) }
     ensures tells { IfOk result (λ t. Tells cell.old.master.rights t.answers.lines cell.new.master.rights) }
     ensures fault { IfErr result (λ e. e ≢ WatchFull) }
+    ensures refusal { IfErr result (λ e. StepRefuses (watched cell.old) event.now e) }
     ensures err { OnErr result (watched cell.new ≡ watched cell.old) }
 {
     cell.kept();

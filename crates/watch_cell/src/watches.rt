@@ -1,9 +1,8 @@
 //! A master that threads share.
-ghost use Rattle.std.specs.Prelude.{◌≡◌, ◌++◌, List, ◌<◌, ◌≤◌, ◌+◌, ◌↔◌, [], ℕ, IfOk, IfErr, OnOk, OnErr, IsErrOf, length};
-ghost use Rattle.watch_cell.specs.Trail.{Gained};
-ghost use Rattle.watch_cell.specs.Views.{Hand, watched, fresh_hands};
+ghost use Rattle.std.specs.Prelude.{◌≡◌, ◌++◌, [], IfOk, IfErr, OnOk, OnErr};
+ghost use Rattle.watch_cell.specs.Trail.{Calls, IsCallRefused, Retires};
+ghost use Rattle.watch_cell.specs.Views.{watched, fresh_hands};
 ghost use Rattle.watch_cell.specs.Closing.{Settled, Refuses};
-ghost use Rattle.watch_cell.specs.declared.events.Entry.{Entry};
 
 use crate::events::Event;
 use crate::ledgers::Blanks;
@@ -45,50 +44,83 @@ impl<R: Records, O: Opening, I: Ledger, A: Ledger, E: Ledger, C: Ledger> Watch<R
         Ok((watch, passes))
     }
 
-    /// Keeps a pass that makes no more calls.
+    /// Keeps a pass that makes no more calls. Refused for want of memory alone.
     pub fn retire<W: Wait>(
         &self,
         rt: &W,
         pass: Pass<I, A, E, C>,
     ) -> Result<(), (AllocError, Pass<I, A, E, C>)>
-        ensures { IfErr result (λ e. e.1 ≡ pass) }
+        ensures ok { OnOk result (Retires O.opening pass) }
+        ensures err { IfErr result (λ e. e.1 ≡ pass) }
     {
         let mut locked = self.locked.lock(rt);
-        (*locked).take_in(pass)
+        take_in(&mut *locked, pass)
     }
 
-    /// One call of a thread. It takes the lock once.
+    /// One call of a thread. It takes the lock once, and does what `serve` does to what lies there.
     pub fn call<W: Wait>(
         &self,
         rt: &W,
         pass: &mut Pass<I, A, E, C>,
         event: Event,
     ) -> Result<Receipt, Fault>
-        ensures ok { IfOk result (λ t. Gained pass.old pass.new event t) }
+        ensures ok { IfOk result (λ t. Calls O.opening pass.old pass.new event t) }
         ensures err { OnErr result (pass.new ≡ pass.old) }
+        ensures refusal { IfErr result (λ e. IsCallRefused O.opening event e) }
     {
         let mut locked = self.locked.lock(rt);
-        serve(&mut *locked, pass, event)
+        serve_one(&mut *locked, pass, event)
     }
 
-    /// The cell, the trail and the totals, once all passes are there. Else the watch and the passes come back.
+    /// The watch with all that lay under its lock, once all passes are there: `Locked::settle`. Else what lies there comes
+    /// back with the passes, and `over` makes a watch of it again.
     pub fn close(
         self,
         passes: Vec<Pass<I, A, E, C>>,
-    ) -> Result<Closed<R>, (Fault, Self, Vec<Pass<I, A, E, C>>)>
-        ensures ok { IfOk result (λ c. (retired : List Hand) × Settled O.opening O.seats (retired ++ passes.items) (watched c.cell) c.trail.items c.totals) }
+    ) -> Result<Closed<R>, (Fault, Locked<R, O, I, A, E, C>, Vec<Pass<I, A, E, C>>)>
+        ensures ok { IfOk result (λ c. Settled O.opening O.seats (c.retired ++ c.handed) (watched c.cell) c.trail c.totals) }
+        ensures handed { IfOk result (λ c. c.handed ≡ passes.items) }
         ensures passes { IfErr result (λ e. e.2 ≡ passes) }
-        ensures refusal { IfErr result (λ e. (retired : List Hand) × (trail : List Entry) × Refuses (retired ++ passes.items) trail O.seats e.0) }
+        ensures refusal { IfErr result (λ e. Refuses (e.1.retired ++ passes.items) e.1.trail O.seats e.0) }
     {
         let Watch { locked } = self;
-        match locked.into_inner().settle(passes) {
-            Ok(closed) => Ok(closed),
-            Err((fault, locked, passes)) => {
-                let watch = Watch {
-                    locked: Mutex::new(locked),
-                };
-                Err((fault, watch, passes))
-            }
+        locked.into_inner().settle(passes)
+    }
+
+    /// A watch over what lay under a lock.
+    pub fn over(locked: Locked<R, O, I, A, E, C>) -> Self {
+        Watch {
+            locked: Mutex::new(locked),
         }
     }
+}
+
+// What lies under a lock takes in a pass: it keeps to the opening before and behind that.
+fn take_in<R: Records, O: Opening, I: Ledger, A: Ledger, E: Ledger, C: Ledger>(
+    locked: &mut Locked<R, O, I, A, E, C>,
+    pass: Pass<I, A, E, C>,
+) -> Result<(), (AllocError, Pass<I, A, E, C>)>
+    ensures ok { OnOk result (Retires O.opening pass) }
+    ensures err { IfErr result (λ e. e.1 ≡ pass) }
+{
+    locked.kept();
+    let taken = locked.take_in(pass);
+    locked.kept();
+    taken
+}
+
+// The same of a call.
+fn serve_one<R: Records, O: Opening, I: Ledger, A: Ledger, E: Ledger, C: Ledger>(
+    locked: &mut Locked<R, O, I, A, E, C>,
+    pass: &mut Pass<I, A, E, C>,
+    event: Event,
+) -> Result<Receipt, Fault>
+    ensures ok { IfOk result (λ t. Calls O.opening pass.old pass.new event t) }
+    ensures err { OnErr result (pass.new ≡ pass.old) }
+    ensures refusal { IfErr result (λ e. IsCallRefused O.opening event e) }
+{
+    locked.kept();
+    let served = serve(locked, pass, event);
+    locked.kept();
+    served
 }

@@ -1,4 +1,4 @@
-use Rattle.watch_cell.proofs.StepFacts.{take_tells, take_not_full, swept_tells_so, swept_not_full}
+use Rattle.watch_cell.proofs.StepFacts.{take_tells, take_not_full, swept_tells_so, swept_not_full, take_refused, swept_refused}
 use Rattle.watch_cell.proofs.steps.step_thrice.Goals as goal
 
 pub returns-in-Err-clause-fault : goal.returns-in-Err-clause-fault
@@ -12,3 +12,9 @@ returns-in-Sweep-clause-tells g c = swept_tells_so c.args.cell.now c.sweep_thric
 
 pub returns-in-Sweep-clause-fault : goal.returns-in-Sweep-clause-fault
 returns-in-Sweep-clause-fault g c = swept_not_full c.args.cell.now c.sweep_thrice.new.self _ c.sweep_thrice.result c.sweep_thrice.ensures.fault
+
+pub returns-in-Err-clause-refusal : goal.returns-in-Err-clause-refusal
+returns-in-Err-clause-refusal g c = take_refused c.args.cell.now c.args.event.now _ _ _ c.in-Take.is c.in-Err.ensures.fault
+
+pub returns-in-Sweep-clause-refusal : goal.returns-in-Sweep-clause-refusal
+returns-in-Sweep-clause-refusal g c = swept_refused c.args.cell.now c.sweep_thrice.new.self c.args.event.now _ c.sweep_thrice.result c.in-Sweep.is c.sweep_thrice.ensures.fault
