@@ -162,11 +162,8 @@ mod tests {
     fn an_open_has_its_parts() {
         let acl = ["a", "b", "c"].map(str::to_owned);
         let file = Create { must: true, content: Some(b"\xff".to_vec()), life: Life::Ephemeral, acl: Some(acl.clone()) };
-        let rows: [(_, _, &[u8], _); 3] = [
-            (None, [0, 0, 0], b"", None),
-            (Some(file), [2, 0, 1], b"\xff", Some(acl)),
-            (Some(Create::default()), [1, 1, 0], b"", None),
-        ];
+        let rows: [(_, _, &[u8], _); 3] =
+            [(None, [0, 0, 0], b"", None), (Some(file), [2, 0, 1], b"\xff", Some(acl)), (Some(Create::default()), [1, 1, 0], b"", None)];
         for (made, [create, kind, life], content, acl) in rows {
             let opening = opening(made);
             assert_eq!(opening.parts(), OpenParts { lock_delay: 258, mode: 3, events: 5, create, kind, life });

@@ -5,7 +5,7 @@
 
 use crate::calls::{Call, Opening};
 use crate::refusals::Refusal;
-use std::ptr;
+use std::ptr::{self, NonNull};
 
 /// A struct of one pointer, as the library declares it. It owns the client there.
 #[repr(C)]
@@ -196,11 +196,13 @@ impl Library {
     pub fn call(&mut self, now: u64, call: &Call) -> Status {
         let mut handle = self.handle();
         let at = &raw mut handle;
+        let mut length = 0;
         // SAFETY: as above; what is passed is there for the call.
         let code = unsafe {
             match *call {
                 Call::Open(opening) => return self.open_node(now, opening),
-                Call::Read(number) => return self.read(now, number, &mut Vec::new()),
+                // (into no room: the lines show what the cache answers)
+                Call::Read(number) => cell_client_read(at, now, number, NonNull::dangling().as_ptr(), 0, &raw mut length),
                 Call::Set(number, content, generation) => {
                     cell_client_set(at, now, number, content.as_ptr(), content.len(), wanted(generation))
                 }
@@ -213,9 +215,7 @@ impl Library {
                 Call::TryAcquire(number, mode) => cell_client_try_acquire(at, now, number, mode.number()),
                 Call::Release(number) => cell_client_release(at, now, number),
                 Call::GetSequencer(number) => cell_client_get_sequencer(at, now, number),
-                Call::SetSequencer(number, sequencer) => {
-                    cell_client_set_sequencer(at, now, number, sequencer.as_ptr(), sequencer.len())
-                }
+                Call::SetSequencer(number, sequencer) => cell_client_set_sequencer(at, now, number, sequencer.as_ptr(), sequencer.len()),
                 Call::CheckSequencer(sequencer) => cell_client_check_sequencer(at, now, sequencer.as_ptr(), sequencer.len()),
                 Call::Leave => cell_client_leave(at, now),
             }
