@@ -1,5 +1,5 @@
-//! Hits of a client's cache of 4,096 files of 64 bytes by viewers, each in a thread of its own, with a server of its own. Run by
-//! bench/run_hits. Usage: viewers HITS VIEWERS.., as viewers 5000000 1 2 4: so many of each viewer, by so many viewers at once.
+//! Hits of a client's cache of files of 64 bytes by viewers, each in a thread of its own, with a server of its own. Run by
+//! bench/run_hits. Usage: viewers FILES HITS VIEWERS.., as viewers 4096 5000000 1 2 4: so many of each viewer, by so many viewers at once.
 
 use std::fs::{self, read_to_string};
 use std::hint::black_box;
@@ -9,8 +9,6 @@ use std::time::Instant;
 use tillermoss::{Client, Error, Handle, Options, Viewer};
 use trials::{Kill, Server, folder};
 
-const FILES: usize = 4096;
-
 /// What one thread found, and the nanoseconds of a processor that it took.
 struct Done {
     found: u64,
@@ -19,15 +17,15 @@ struct Done {
 
 fn main() -> Result<(), Error> {
     let words: Vec<usize> = std::env::args().skip(1).filter_map(|word| word.parse().ok()).collect();
-    let Some((&hits, viewers)) = words.split_first() else {
-        return Err(Fault::new(ErrorKind::InvalidInput, "usage: viewers HITS VIEWERS..").into());
+    let [count, hits, viewers @ ..] = &words[..] else {
+        return Err(Fault::new(ErrorKind::InvalidInput, "usage: viewers FILES HITS VIEWERS..").into());
     };
     let folder = folder("viewers");
     let mut server = Server::start(&folder.join("store.db"))?;
     let client = Client::connect(&Options::new(&server.address.to_string(), "ann"))?;
-    let files = (0..FILES).map(|k| client.create(&format!("/ls/c/f{k}"), &[b'a'; 64])).collect::<Result<Vec<_>, _>>()?;
+    let files = (0..*count).map(|k| client.create(&format!("/ls/c/f{k}"), &[b'a'; 64])).collect::<Result<Vec<_>, _>>()?;
     for &viewers in viewers {
-        measure(&client, &files, hits, viewers)?;
+        measure(&client, &files, *hits, viewers)?;
     }
     server.kill(Kill::InOrder)?;
     Ok(fs::remove_dir_all(folder)?)
@@ -36,7 +34,7 @@ fn main() -> Result<(), Error> {
 fn measure(client: &Client, files: &[Handle], hits: usize, viewers: usize) -> Result<(), Error> {
     let mut ready = (0..viewers).map(|_| client.viewer()).collect::<Vec<_>>();
     for viewer in &mut ready {
-        read(viewer, files, FILES, 0)?;
+        read(viewer, files, files.len(), 0)?;
     }
     let begun = Instant::now();
     let done = thread::scope(|scope| {
@@ -55,7 +53,7 @@ fn read(viewer: &mut Viewer<&Client>, files: &[Handle], hits: usize, k: usize) -
     let before = busy()?;
     let mut found = 0;
     for turn in 0..hits {
-        found += u64::from(black_box(viewer.read(files[(k * 1000 + turn) % FILES])?).len() == 64);
+        found += u64::from(black_box(viewer.read(files[(k * 1000 + turn) % files.len()])?).len() == 64);
     }
     Ok(Done { found, busy: busy()? - before })
 }
