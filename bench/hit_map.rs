@@ -70,8 +70,15 @@ fn content() -> Content {
     Arc::from(vec![0x61; 64])
 }
 
-// How many of so many hits find a content. Each reader begins at another name.
-fn read(cache: &impl Cache, names: &[String], hits: u64, k: usize) -> u64 {
+// The nanoseconds that this thread has had a processor for.
+fn busy() -> u64 {
+    let said = std::fs::read_to_string("/proc/thread-self/schedstat").unwrap();
+    said.split(' ').next().unwrap().parse().unwrap()
+}
+
+// How many of so many hits find a content, and how long they had a processor. Each reader begins at another name.
+fn read(cache: &impl Cache, names: &[String], hits: u64, k: usize) -> (u64, u64) {
+    let before = busy();
     let mut found = 0;
     let mut at = k * 1000 % names.len();
     for _ in 0..hits {
@@ -81,7 +88,7 @@ fn read(cache: &impl Cache, names: &[String], hits: u64, k: usize) -> u64 {
             found += u64::from(black_box(&content).len() == 64);
         }
     }
-    found
+    (found, busy() - before)
 }
 
 // Publishes at each millisecond from now on, until all readers are done.
@@ -101,7 +108,7 @@ fn run<C: Cache>(hits: u64, readers: usize, publishes: bool) {
     let cache = C::of(names.iter().map(|name| (name.clone(), content())).collect());
     let left = AtomicUsize::new(readers);
     let start = Instant::now();
-    let (found, published) = thread::scope(|scope| {
+    let ((found, busy), published) = thread::scope(|scope| {
         let reader = |k| {
             let (cache, names, left) = (&cache, &names, &left);
             scope.spawn(move || {
@@ -112,12 +119,14 @@ fn run<C: Cache>(hits: u64, readers: usize, publishes: bool) {
         };
         let threads: Vec<_> = (0..readers).map(reader).collect();
         let published = if publishes { publish(&cache, &names, &left) } else { 0 };
-        (threads.into_iter().map(|thread| thread.join().unwrap()).sum::<u64>(), published)
+        let done = threads.into_iter().map(|thread| thread.join().unwrap());
+        (done.fold((0, 0), |sum, done| (sum.0 + done.0, sum.1 + done.1)), published)
     });
     let took = start.elapsed().as_nanos().max(1);
     let each = took / u128::from(hits.max(1));
+    let busy = busy / (hits * readers as u64).max(1);
     let rate = u128::from(found) * 1_000_000_000 / took;
-    println!("found {found}, {each} ns each in a thread, {rate} a second, {published} published");
+    println!("found {found}, {each} ns each in a thread, {busy} of a processor, {rate} a second, {published} published");
 }
 
 fn main() {

@@ -40,9 +40,9 @@ static void fill(struct cell_client *client) {
 
 typedef uint32_t reads(struct cell_client *, uint64_t, uint64_t, uint8_t *, size_t, size_t *);
 
-static uint64_t nanoseconds(void) {
+static uint64_t nanoseconds(clockid_t clock) {
     struct timespec now;
-    clock_gettime(CLOCK_MONOTONIC, &now);
+    clock_gettime(clock, &now);
     return (uint64_t)now.tv_sec * 1000000000 + (uint64_t)now.tv_nsec;
 }
 
@@ -53,15 +53,17 @@ int main(int count, char **words) {
     uint64_t hits = strtoull(words[2], NULL, 10), found = 0;
     want("open a client", cell_client_open(1, (const uint8_t *)"ann", 3, &client.at), CELL_CLIENT_DONE);
     fill(&client);
-    uint64_t begun = nanoseconds();
+    uint64_t begun = nanoseconds(CLOCK_MONOTONIC), busy = nanoseconds(CLOCK_THREAD_CPUTIME_ID);
     for (uint64_t turn = 0; turn < hits; turn++) {
         uint8_t room[64];
         size_t length = 0;
         uint32_t code = read(&client, 0, turn % FILES + 1, room, sizeof room, &length);
         found += code == CELL_CLIENT_SERVED && length == 64 && room[63] == 'a';
     }
-    uint64_t took = nanoseconds() - begun;
-    printf("found %llu, %llu ns each\n", (unsigned long long)found, (unsigned long long)(took / (hits > 0 ? hits : 1)));
+    uint64_t took = nanoseconds(CLOCK_MONOTONIC) - begun, some = hits > 0 ? hits : 1;
+    busy = nanoseconds(CLOCK_THREAD_CPUTIME_ID) - busy;
+    printf("found %llu, %llu ns each, %llu of a processor\n", (unsigned long long)found, (unsigned long long)(took / some),
+           (unsigned long long)(busy / some));
     cell_client_close(client);
     return 0;
 }

@@ -323,12 +323,18 @@ static void lines_in_parts(struct cell_client *client) {
     put_text(&sequencer, "seq");
     cell_client_stat(client, 1010, 1);
     give(client, 1010, stat);
-    struct cell_client_line stated = {CELL_CLIENT_STATED, 0, 2, 0, 4, 5, 6, 7, 70000, CELL_CLIENT_A_DIRECTORY, CELL_CLIENT_EPHEMERAL};
+    struct cell_client_line stated = {
+        .what = CELL_CLIENT_STATED, .call = 2, .instance = 4, .content_generation = 5, .acl_generation = 6, .lock_generation = 7,
+        .length = 70000, .kind = CELL_CLIENT_A_DIRECTORY, .life = CELL_CLIENT_EPHEMERAL,
+    };
     expect_line(client, "a stat", stated);
     expect("no bytes of a stat", cell_client_line_bytes(client, 0, room, 8), 0);
     cell_client_read(client, 1010, 1, room, 0, &(size_t){0});
     give(client, 1010, viewed(3, "hello"));
-    struct cell_client_line seen = {CELL_CLIENT_VIEWED, 0, 3, 0, 4, 1, 1, 0, 5, CELL_CLIENT_A_FILE, CELL_CLIENT_PERMANENT};
+    struct cell_client_line seen = {
+        .what = CELL_CLIENT_VIEWED, .call = 3, .instance = 4, .content_generation = 1, .acl_generation = 1, .length = 5,
+        .kind = CELL_CLIENT_A_FILE, .life = CELL_CLIENT_PERMANENT,
+    };
     expect_line(client, "a view", seen);
     same("its bytes", room, cell_client_line_bytes(client, 0, room, 8), "hello", 5);
     expect("no bytes behind the last line", cell_client_line_bytes(client, 1, room, 8), 0);
@@ -356,6 +362,172 @@ static void lines_in_parts(struct cell_client *client) {
     expect_line(client, "safe", (struct cell_client_line){.what = CELL_CLIENT_SAFE});
 }
 
+/* ---- ACL names, the names of a line, events and refusals by parts */
+
+static uint32_t open_under(struct cell_client *client, const char *name, struct cell_client_opening opening, const char *read, const char *change) {
+    return cell_client_open_under(client, 1010, text(name), strlen(name), &opening, text(""), 0, text(read), strlen(read), text("write"), 5,
+                                  text(change), strlen(change));
+}
+
+static uint32_t set_acl(struct cell_client *client, uint64_t handle, const char *write, uint64_t generation) {
+    return cell_client_set_acl(client, 1010, handle, text("read"), 4, text(write), strlen(write), text("change"), 6, generation);
+}
+
+static void acls_by_parts(struct cell_client *client) {
+    struct cell_client_opening plain = {.mode = 1}, making = {.mode = 1, .create = 2, .kind = 1};
+    expect("no ACL name to read", open_under(client, "/ls/c/d", making, "", "c"), CELL_CLIENT_BAD_TEXT);
+    expect("no ACL name to change", open_under(client, "/ls/c/d", making, "r", "a/b"), CELL_CLIENT_BAD_TEXT);
+    expect("no ACL name where nothing is made", open_under(client, "/ls/c/d", plain, "\xff", "c"), CELL_CLIENT_BAD_TEXT);
+    expect("no mode, and no ACL name", open_under(client, "/ls/c/d", (struct cell_client_opening){0}, "", "c"), CELL_CLIENT_BAD_NUMBER);
+    expect("no such kind, and no ACL name", open_under(client, "/ls/c/d", (struct cell_client_opening){.mode = 1, .create = 3}, "", "c"), CELL_CLIENT_BAD_KIND);
+    struct bytes directory = head(2, 1), named = sent_call(6, 4), present = sent_call(6, 5);
+    put(&directory, 0, 1);
+    put_text(&directory, "/ls/c/d");
+    put(&directory, 0x010101010001, 6); /* to read; something new; a directory, permanent; with ACL names */
+    put_text(&directory, "r");
+    put_text(&directory, "write");
+    put_text(&directory, "c");
+    put(&directory, 0, 8);
+    put(&directory, 0, 2);
+    expect_call(client, "an Open under ACL names", open_under(client, "/ls/c/d", making, "r", "c"), directory, 1);
+    struct bytes nothing = open_call("/ls/c/d");
+    nothing.at[25] = 2;
+    expect_call(client, "ACL names where nothing is made", open_under(client, "/ls/c/d", plain, "r", "c"), nothing, 2);
+    expect("an Open", open_as(client, "/ls/c/f", (struct cell_client_opening){.mode = 4}), CELL_CLIENT_SEND);
+    expect("opened", give(client, 1010, opened(3)), CELL_CLIENT_DONE);
+    expect("no ACL name to write", set_acl(client, 1, "..", 0), CELL_CLIENT_BAD_TEXT);
+    expect("no such handle", set_acl(client, 2, "write", 0), CELL_CLIENT_BAD_HANDLE);
+    for (struct bytes *made = &named; made != NULL; made = made == &named ? &present : NULL) {
+        put_text(made, "read");
+        put_text(made, "write");
+        put_text(made, "change");
+    }
+    expect_call(client, "a SetAcl", set_acl(client, 1, "write", 0), with(named, NULL, 0, 2), 4);
+    present = with(with(present, NULL, 1, 1), NULL, 9, 8);
+    expect_call(client, "a SetAcl of a generation", set_acl(client, 1, "write", 9), with(present, NULL, 0, 1), 5);
+}
+
+/* The names that the line at the first place shows; NULL for none. */
+static void expect_names(struct cell_client *client, const char *what, const char *child, const char *acl, const char *name) {
+    uint8_t room[512];
+    static const char *const others[] = {"", "own", "base"};
+    const char *wanted[] = {child ? child : "", acl ? acl : "", acl ? others[1] : "", acl ? others[2] : "", name ? name : ""};
+    same(what, room, cell_client_line_child(client, 0, 1, room, sizeof room), wanted[0], strlen(wanted[0]));
+    same(what, room, cell_client_line_acl(client, 0, CELL_CLIENT_READ, room, sizeof room), wanted[1], strlen(wanted[1]));
+    same(what, room, cell_client_line_acl(client, 0, CELL_CLIENT_WRITE, room, sizeof room), wanted[2], strlen(wanted[2]));
+    same(what, room, cell_client_line_acl(client, 0, CELL_CLIENT_CHANGE_ACL, room, sizeof room), wanted[3], strlen(wanted[3]));
+    same(what, room, cell_client_line_name(client, 0, room, sizeof room), wanted[4], strlen(wanted[4]));
+    expect(what, cell_client_line_child(client, 0, 2, room, sizeof room), 0);
+    expect(what, cell_client_line_acl(client, 0, 3, room, sizeof room), 0);
+    expect(what, cell_client_line_child(client, 1, 0, room, sizeof room), 0);
+    expect(what, cell_client_line_name(client, 1, room, sizeof room), 0);
+}
+
+/* A directory's view, which has two children, as the reply of this number to a read (2) or a ReadDir (4). */
+static struct bytes listed(uint64_t number, int kind) {
+    struct bytes made = reply(number, kind);
+    put(&made, 1, 1); /* a directory */
+    put(&made, 4, 8);
+    put(&made, 0, 8);
+    put(&made, 1, 8);
+    put_text(&made, "acl");
+    put_text(&made, "own");
+    put_text(&made, "base");
+    put(&made, 0, 5); /* permanent, without content */
+    put(&made, 2, 4);
+    put_text(&made, "acl");
+    put_text(&made, "motd");
+    return made;
+}
+
+static void names_by_parts(struct cell_client *client) {
+    uint8_t room[8] = "........";
+    struct cell_client_line seen = {
+        .what = CELL_CLIENT_SEEN, .instance = 4, .acl_generation = 1, .kind = CELL_CLIENT_A_DIRECTORY, .children = 2,
+    };
+    expect("a List", cell_client_list(client, 1010, 1), CELL_CLIENT_SEND);
+    expect_names(client, "no names", NULL, NULL, NULL);
+    give(client, 1010, listed(2, 4));
+    expect_line(client, "a listing", (struct cell_client_line){.what = CELL_CLIENT_NAMES, .call = 2, .children = 2});
+    expect_names(client, "names of a listing", "motd", NULL, NULL);
+    same("the first child", room, cell_client_line_child(client, 0, 0, room, 8), "acl", 3);
+    expect("a child without room", cell_client_line_child(client, 0, 1, room, 3), 4);
+    same("the room stays", room, 8, "acl.....", 8);
+    expect("a List", cell_client_list(client, 1010, 1), CELL_CLIENT_SERVED);
+    expect_line(client, "a listing of the cache", seen);
+    expect_names(client, "names of a listing of the cache", "motd", "acl", "/ls/c/f");
+    struct bytes stat = reply(3, 3);
+    put(&stat, 0, 1);
+    for (uint64_t number = 4; number < 8; number++) put(&stat, number, 8);
+    put_text(&stat, "acl");
+    put_text(&stat, "own");
+    put_text(&stat, "base");
+    put(&stat, 0, 1);
+    put(&stat, 0, 8);
+    cell_client_stat(client, 1010, 1);
+    give(client, 1010, stat);
+    expect_names(client, "names of a stat", NULL, "acl", NULL);
+    expect("a handle to write", open_as(client, "/ls/c/d", (struct cell_client_opening){.mode = 3}), CELL_CLIENT_SEND);
+    give(client, 1010, opened(4));
+    cell_client_read(client, 1010, 2, room, 0, &(size_t){0});
+    give(client, 1010, listed(5, 2));
+    seen.what = CELL_CLIENT_VIEWED;
+    seen.call = 5;
+    expect_line(client, "a view of a directory", seen);
+    expect_names(client, "names of a view", "motd", "acl", NULL);
+}
+
+/* An Alive that answers the Beat of this number, with its event: number - 1, the kind, so many words, and a name where there is one. */
+static void event(struct cell_client *client, uint64_t number, int kind, int words, const char *name, struct cell_client_line wanted) {
+    struct bytes alive = head(1, number);
+    expect("a beat", cell_client_beat(client, 1010), CELL_CLIENT_SEND);
+    put(&alive, 12000, 8);
+    put(&alive, 0, 4);
+    put(&alive, 1, 4);
+    put(&alive, number - 1, 8);
+    put(&alive, (uint64_t)kind, 1);
+    for (int word = 1; word <= words; word++) put(&alive, (uint64_t)word, 8);
+    if (name != NULL) put_text(&alive, name);
+    expect("an event", give(client, 1010, alive), CELL_CLIENT_DONE);
+    wanted.what = CELL_CLIENT_EVENT;
+    expect_line(client, "an event", wanted);
+    expect_names(client, "names of an event", NULL, NULL, name);
+}
+
+static void events_by_parts(struct cell_client *client) {
+    event(client, 2, 0, 0, NULL, (struct cell_client_line){.event = CELL_CLIENT_FAIL_OVER});
+    event(client, 3, 1, 3, NULL, (struct cell_client_line){.event = CELL_CLIENT_CONTENTS_SET, .opened = 1, .instance = 2, .content_generation = 3});
+    event(client, 4, 2, 1, "/ls/c/f/a", (struct cell_client_line){.event = CELL_CLIENT_CHILD_ADDED, .opened = 1});
+    event(client, 5, 3, 1, "/ls/c/f/a", (struct cell_client_line){.event = CELL_CLIENT_CHILD_REMOVED, .opened = 1});
+    event(client, 6, 4, 1, "/ls/c/f/a", (struct cell_client_line){.event = CELL_CLIENT_CHILD_MODIFIED, .opened = 1});
+    event(client, 7, 5, 1, NULL, (struct cell_client_line){.event = CELL_CLIENT_INVALID, .opened = 1});
+    event(client, 8, 6, 1, NULL, (struct cell_client_line){.event = CELL_CLIENT_LOCK_TAKEN, .opened = 1});
+    event(client, 9, 7, 1, NULL, (struct cell_client_line){.event = CELL_CLIENT_LOCK_WANTED, .opened = 1});
+    event(client, 10, 8, 0, NULL, (struct cell_client_line){.event = CELL_CLIENT_EVENTS_LOST});
+}
+
+/* What stands behind the number of a refusal, so wide, and what the line says of it. */
+static void refusals_by_parts(struct cell_client *client) {
+    static const struct {
+        uint32_t fault;
+        uint64_t bytes;
+        int width;
+        uint64_t argument;
+    } rows[] = {
+        {6, 0, 0, 0}, {8, 0, 1, CELL_CLIENT_A_FILE}, {8, 1, 1, CELL_CLIENT_A_DIRECTORY}, {10, 0, 1, CELL_CLIENT_READ},
+        {10, 1, 1, CELL_CLIENT_WRITE}, {10, 2, 1, CELL_CLIENT_CHANGE_ACL}, {11, 7, 8, 7}, {20, 3, 8, 3}, {23, 0, 1, CELL_CLIENT_EXCLUSIVE},
+        {23, 1, 1, CELL_CLIENT_SHARED}, {24, 60000, 8, 60000}, {28, 2, 8, 2}, {41, 5, 8, 5}, {42, 6, 8, 6},
+    };
+    for (uint64_t i = 0; i < sizeof rows / sizeof *rows; i++) {
+        struct bytes refused = with(reply(i + 2, 7), NULL, rows[i].fault - 1, 1);
+        put(&refused, rows[i].bytes, rows[i].width);
+        expect("a Release", cell_client_release(client, 1010, 1), CELL_CLIENT_SEND);
+        expect("a refusal", give(client, 1010, refused), CELL_CLIENT_DONE);
+        struct cell_client_line wanted = {.what = CELL_CLIENT_REFUSED, .fault = rows[i].fault, .call = i + 2, .argument = rows[i].argument};
+        expect_line(client, "a refusal", wanted);
+    }
+}
+
 static struct cell_client with_session(void) {
     struct cell_client client = {0};
     cell_client_open(1, text("ann"), 3, &client.at);
@@ -375,6 +547,17 @@ static void by_parts(void) {
     give(&client, 1010, opened(1));
     lines_in_parts(&client);
     cell_client_close(client);
+    client = with_session();
+    acls_by_parts(&client);
+    cell_client_close(client);
+    void (*const each[])(struct cell_client *) = {names_by_parts, events_by_parts, refusals_by_parts};
+    for (size_t i = 0; i < sizeof each / sizeof *each; i++) {
+        client = with_session();
+        open_as(&client, "/ls/c/f", (struct cell_client_opening){.mode = 1});
+        give(&client, 1010, opened(1));
+        each[i](&client);
+        cell_client_close(client);
+    }
 }
 
 int main(void) {

@@ -42,7 +42,8 @@ struct cell_client_opening {
     uint8_t events;
     /* MAKES_NOTHING, MAY_MAKE or MUST_MAKE. */
     uint8_t create;
-    /* Of a node that is made: A_FILE or A_DIRECTORY, and PERMANENT or EPHEMERAL. It takes the ACL names of its directory. */
+    /* Of a node that is made: A_FILE or A_DIRECTORY, and PERMANENT or EPHEMERAL. It takes the ACL names of its directory, unless
+     * cell_client_open_under names others. */
     uint8_t kind;
     uint8_t life;
 };
@@ -87,12 +88,21 @@ struct cell_client_line {
     uint64_t length;
     uint32_t kind;
     uint32_t life;
+    /* Of a refusal, what docs/FORMATS.md has behind its name: a generation, a count, milliseconds, an epoch or a place; of 8 the KIND that
+     * is there, of 10 the right that is missing (READ, WRITE or CHANGE_ACL), of 23 the lock's mode. */
+    uint64_t argument;
+    /* Of an EVENT, the number of the call that opened its handle; 0 where it is of no handle. */
+    uint64_t opened;
+    /* How many names of children it shows: cell_client_line_child has them. */
+    uint64_t children;
+    /* Which EVENT it is, one of those below. */
+    uint64_t event;
 };
 
 /* There is no such line. */
 #define CELL_CLIENT_NO_LINE 0u
-/* A call ended: it gave a handle; closed one; poisoned one; gave a node with its content; its numbers; the names of its children, which
- * cell_client_lines shows; a sequencer; nothing; or was refused. */
+/* A call ended: it gave a handle; closed one; poisoned one; gave a node with its content; its numbers; the names of its children; a
+ * sequencer; nothing; or was refused. */
 #define CELL_CLIENT_OPENED 1u
 #define CELL_CLIENT_CLOSED 2u
 #define CELL_CLIENT_HANDLE_POISONED 3u
@@ -105,7 +115,7 @@ struct cell_client_line {
 /* The cache served a node; or that there is none. */
 #define CELL_CLIENT_SEEN 10u
 #define CELL_CLIENT_ABSENT 11u
-/* An event, which cell_client_lines shows. */
+/* An event. */
 #define CELL_CLIENT_EVENT 12u
 /* The session is in jeopardy; safe again; lost. */
 #define CELL_CLIENT_JEOPARDY 13u
@@ -113,6 +123,20 @@ struct cell_client_line {
 #define CELL_CLIENT_LOST 15u
 /* Another line: a client prints none. */
 #define CELL_CLIENT_OTHER_LINE 16u
+
+/* Which event: another master has come up, and events may have been missed; the content was set, and the line has the node's instance and
+ * its content generation; a child was made, was deleted, had its content set, and cell_client_line_name has its name; the node was deleted;
+ * its lock went from free to held; another wants the lock that the handle holds; too many events waited, and some were missed. The first
+ * and the last are of no handle. */
+#define CELL_CLIENT_FAIL_OVER 1u
+#define CELL_CLIENT_CONTENTS_SET 2u
+#define CELL_CLIENT_CHILD_ADDED 3u
+#define CELL_CLIENT_CHILD_REMOVED 4u
+#define CELL_CLIENT_CHILD_MODIFIED 5u
+#define CELL_CLIENT_INVALID 6u
+#define CELL_CLIENT_LOCK_TAKEN 7u
+#define CELL_CLIENT_LOCK_WANTED 8u
+#define CELL_CLIENT_EVENTS_LOST 9u
 
 /* Done: there is nothing to send. */
 #define CELL_CLIENT_DONE 0u
@@ -185,6 +209,13 @@ uint32_t cell_client_beat(struct cell_client *client, uint64_t now);
 uint32_t cell_client_open_node(struct cell_client *client, uint64_t now, const uint8_t *name, size_t name_length,
                                const struct cell_client_opening *opening, const uint8_t *content, size_t content_length);
 
+/* The same, and where the node is made it has these ACL names: to read, to write, and to change the ACL names. Last of all BAD_TEXT for one
+ * that is no component, also where nothing is made. */
+uint32_t cell_client_open_under(struct cell_client *client, uint64_t now, const uint8_t *name, size_t name_length,
+                                const struct cell_client_opening *opening, const uint8_t *content, size_t content_length,
+                                const uint8_t *read, size_t read_length, const uint8_t *write, size_t write_length,
+                                const uint8_t *change, size_t change_length);
+
 uint32_t cell_client_close_handle(struct cell_client *client, uint64_t now, uint64_t handle);
 
 /* Asks for the numbers of the node. */
@@ -196,6 +227,12 @@ uint32_t cell_client_list(struct cell_client *client, uint64_t now, uint64_t han
 /* Sets the whole content of a file; where `generation` isn't 0, only where that is the present content generation. */
 uint32_t cell_client_set(struct cell_client *client, uint64_t now, uint64_t handle, const uint8_t *content, size_t content_length,
                          uint64_t generation);
+
+/* Names the ACLs of a node: to read, to write, and to change the ACL names; BAD_TEXT for one that is no component. Where `generation`
+ * isn't 0, only where that is the present ACL generation. */
+uint32_t cell_client_set_acl(struct cell_client *client, uint64_t now, uint64_t handle, const uint8_t *read, size_t read_length,
+                             const uint8_t *write, size_t write_length, const uint8_t *change, size_t change_length,
+                             uint64_t generation);
 
 uint32_t cell_client_delete(struct cell_client *client, uint64_t now, uint64_t handle);
 
@@ -282,6 +319,15 @@ void cell_client_line(struct cell_client *client, size_t place, struct cell_clie
 /* The content, or the sequencer, that the line at this place shows; of length 0 where it shows none. The length is the answer; where
  * that is at most `room_length` the bytes stand in the room, else the room is as it was. */
 size_t cell_client_line_bytes(struct cell_client *client, size_t place, uint8_t *room, size_t room_length);
+
+/*
+ * The names that the line at this place shows, in the same way, each of length 0 where it shows none: the last component of the name of a
+ * child, the first at 0, in order of bytes; the ACL for READ, WRITE or CHANGE_ACL of the node that is VIEWED, STATED or SEEN; and the whole
+ * name of the child that an EVENT is about, or of the node that is SEEN or ABSENT. A component has 64 bytes at most, a whole name 512.
+ */
+size_t cell_client_line_child(struct cell_client *client, size_t place, size_t index, uint8_t *room, size_t room_length);
+size_t cell_client_line_acl(struct cell_client *client, size_t place, uint32_t right, uint8_t *room, size_t room_length);
+size_t cell_client_line_name(struct cell_client *client, size_t place, uint8_t *room, size_t room_length);
 
 /* The whole content of the view that the last of the lines shows; of length 0 where that shows none. The length is the answer. */
 size_t cell_client_content(struct cell_client *client, uint8_t *room, size_t room_length);

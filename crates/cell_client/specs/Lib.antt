@@ -16,3 +16,4 @@ pub mod Follows
 pub mod Answers
 pub mod Hits
 pub mod Parts
+pub mod Tellings

@@ -1,28 +1,20 @@
--- The calls that a holder asks for by their parts, plain numbers and bytes; and what came of a step, in parts.
-use Rattle.std.specs.Prelude.{ℕ, ◌==◌, List, [], length, slice_get, Option, Some, None, Result, Ok, Err, if◌then◌else◌}
-use Rattle.names_cell.specs.Text.{is_name}
-use Rattle.node_core.specs.declared.kinds.Kind.{Kind}
-use Rattle.node_core.specs.declared.kinds.Kind.TheVariants as kinds
+-- The calls that a holder asks for by their parts, plain numbers and bytes.
+use Rattle.std.specs.Prelude.{ℕ, ◌==◌, List, Option, Some, None, Result, Ok, Err, if◌then◌else◌}
+use Rattle.names_cell.specs.Text.{is_component, is_name}
 use Rattle.node_core.specs.declared.kinds.Life.{Life}
 use Rattle.node_core.specs.declared.kinds.Life.TheVariants as lives
 use Rattle.node_core.specs.declared.kinds.LockMode.{LockMode}
 use Rattle.node_core.specs.declared.kinds.LockMode.TheVariants as locks
-use Rattle.node_core.specs.declared.answers.Answer.{Answer}
-use Rattle.node_core.specs.declared.answers.Answer.TheVariants as answers
-use Rattle.node_core.specs.declared.lines.Line.{Line}
-use Rattle.node_core.specs.declared.lines.Line.TheVariants as lines
-use Rattle.node_core.specs.declared.nodes.Node.{Node}
-use Rattle.node_core.specs.declared.stats.Stat.{Stat}
-use Rattle.node_core.specs.declared.views.View.{View}
-use Rattle.node_core.specs.Refusals.{fault_number}
 use Rattle.tags_cell.specs.Masks.{events_of}
 use Rattle.tags_cell.specs.Modes.{Rights, rights_of}
 use Rattle.tags_cell.specs.declared.masks.Events.{Events}
+use Rattle.tags_cell.specs.declared.messages.calls.AclNames.{AclNames}
 use Rattle.tags_cell.specs.declared.messages.calls.Create.{Create}
 use Rattle.tags_cell.specs.declared.messages.calls.Disposition.{Disposition}
 use Rattle.tags_cell.specs.declared.messages.calls.Disposition.TheVariants as dispositions
 use Rattle.tags_cell.specs.declared.messages.calls.NewNode.{NewNode}
 use Rattle.tags_cell.specs.declared.messages.calls.NewNode.TheVariants as new_nodes
+use Rattle.tags_cell.specs.declared.messages.calls.Open.{Open}
 use Rattle.client_core.specs.declared.parts.asks.Ask.{Ask}
 use Rattle.client_core.specs.declared.parts.asks.Ask.TheVariants as asks
 use Rattle.client_core.specs.declared.parts.asks.NodeCall.TheVariants as nodes
@@ -30,11 +22,9 @@ use Rattle.wire_core.specs.declared.faults.WireFault.{WireFault}
 use Rattle.wire_core.specs.declared.faults.WireFault.TheVariants as wire
 use Rattle.wire_core.specs.Fields.{is_mode_byte, is_events_byte}
 use Rattle.cell_client.specs.declared.calls.OpenParts.{OpenParts}
-use Rattle.cell_client.specs.declared.tellings.Telling.{Telling}
 use Rattle.cell_client.specs.declared.statuses.Status.{Status}
 use Rattle.cell_client.specs.declared.statuses.Status.TheVariants as statuses
 use Rattle.cell_client.specs.States.{HeldState}
-use Rattle.cell_client.specs.Shows.{seen_content}
 use Rattle.cell_client.specs.Steps.{ask_held}
 
 -- ---- numbers, as the bytes of messages have them
@@ -63,6 +53,21 @@ disposition_in create =
 -- 0 for any generation
 abbrev pub generation_in : ℕ → Option ℕ
 generation_in generation = if generation == 0 then None else Some generation
+
+-- ---- ACL names
+
+abbrev pub component_in : List ℕ → Result (List ℕ) WireFault
+component_in text = if is_component text then Ok text else Err wire.BadText
+
+abbrev pub acls_of : Result (List ℕ) WireFault → Result (List ℕ) WireFault → Result (List ℕ) WireFault → Result AclNames WireFault
+acls_of (Ok read) (Ok write) (Ok change) = Ok (record { read = read; write = write; change = change })
+acls_of (Ok read) (Ok write) (Err fault) = Err fault
+acls_of (Ok read) (Err fault) change = Err fault
+acls_of (Err fault) write change = Err fault
+
+-- all three are components
+abbrev pub acls_in : (read write change : List ℕ) → Result AclNames WireFault
+acls_in read write change = acls_of (component_in read) (component_in write) (component_in change)
 
 -- ---- an Open
 
@@ -97,6 +102,29 @@ opening_by delay (Err fault) events create name = Err fault
 abbrev pub open_ask : List ℕ → OpenParts → List ℕ → Result Ask WireFault
 open_ask name opening content = opening_by opening.lock_delay (mode_in opening.mode) (events_in opening.events) (create_in opening content) (name_in name)
 
+-- ---- an Open under ACL names of its own
+
+abbrev pub made_under : AclNames → Option Create → Option Create
+made_under acls None = None
+made_under acls (Some create) = Some (record create { acls = Some acls })
+
+abbrev pub opening_under : AclNames → Open → Open
+opening_under acls opening = record opening { create = made_under acls opening.create }
+
+-- the node that an Open makes has these ACL names
+abbrev pub under : AclNames → Ask → Ask
+under acls (asks.Open opening) = asks.Open (opening_under acls opening)
+under acls ask = ask
+
+abbrev pub under_by : Result Ask WireFault → Result AclNames WireFault → Result Ask WireFault
+under_by (Ok ask) (Ok acls) = Ok (under acls ask)
+under_by (Ok ask) (Err fault) = Err fault
+under_by (Err fault) acls = Err fault
+
+-- the first part that isn't one is told, the ACL names last, also where nothing is made
+abbrev pub open_under_ask : List ℕ → OpenParts → List ℕ → Result AclNames WireFault → Result Ask WireFault
+open_under_ask name opening content acls = under_by (open_ask name opening content) acls
+
 -- ---- calls on a handle
 
 abbrev pub lock_by : ℕ → Result LockMode WireFault → Result Ask WireFault
@@ -116,99 +144,15 @@ try_acquire_ask number mode = try_by number (lock_mode_in mode)
 abbrev pub set_ask : ℕ → List ℕ → ℕ → Result Ask WireFault
 set_ask number content generation = Ok (asks.Node number (nodes.Set content (generation_in generation)))
 
+abbrev pub set_acl_by : ℕ → Option ℕ → Result AclNames WireFault → Result Ask WireFault
+set_acl_by number generation (Ok acls) = Ok (asks.Node number (nodes.SetAcl acls generation))
+set_acl_by number generation (Err fault) = Err fault
+
+abbrev pub set_acl_ask : ℕ → Result AclNames WireFault → ℕ → Result Ask WireFault
+set_acl_ask number acls generation = set_acl_by number (generation_in generation) acls
+
 -- ---- a step
 
 abbrev pub ask_parts : HeldState → ℕ → Result Ask WireFault → HeldState × Status
 ask_parts old now (Ok ask) = ask_held old now ask
 ask_parts old now (Err fault) = (old, statuses.Bad fault)
-
--- ---- what came of it
-
-abbrev pub life_number : Life → ℕ
-life_number lives.Permanent = 0
-life_number lives.Ephemeral = 1
-
-abbrev pub kind_number : Kind → ℕ
-kind_number kinds.File = 0
-kind_number kinds.Directory = 1
-
--- of this kind, and nothing else
-abbrev pub bare : ℕ → Telling
-bare what =
-    record { what = what; fault = 0; call = 0; handle = 0; instance = 0; content_generation = 0; acl_generation = 0; lock_generation = 0; length = 0; kind = 0; life = 0 }
-
-abbrev pub viewed : ℕ → ℕ → Node → Telling
-viewed what call node = record (bare what) {
-  call = call;
-  instance = node.instance;
-  content_generation = node.content_generation;
-  acl_generation = node.acl_generation;
-  length = length node.content;
-  kind = kind_number node.kind;
-  life = life_number node.life;
-}
-
-abbrev pub stated : ℕ → Stat → Telling
-stated call stat = record (bare 5) {
-  call = call;
-  instance = stat.instance;
-  content_generation = stat.content_generation;
-  acl_generation = stat.acl_generation;
-  lock_generation = stat.lock_generation;
-  length = stat.length;
-  kind = kind_number stat.kind;
-  life = life_number stat.life;
-}
-
-abbrev pub answer_telling : ℕ → Answer → Telling
-answer_telling call (answers.Opened handle) = record (bare 1) { call = call; handle = handle }
-answer_telling call answers.Closed = record (bare 2) { call = call }
-answer_telling call answers.Poisoned = record (bare 3) { call = call }
-answer_telling call (answers.Viewed view) = viewed 4 call view.node
-answer_telling call (answers.Stated stat) = stated call stat
-answer_telling call (answers.Names names) = record (bare 6) { call = call }
-answer_telling call (answers.Sequencer bytes) = record (bare 7) { call = call; length = length bytes }
-answer_telling call answers.Okay = record (bare 8) { call = call }
-answer_telling call (answers.Refused fault) = record (bare 9) { call = call; fault = fault_number fault }
-
-abbrev pub seen_telling : Option View → Telling
-seen_telling None = bare 11
-seen_telling (Some view) = viewed 10 0 view.node
-
--- a line that no client prints is of kind 16
-abbrev pub line_telling : Line → Telling
-line_telling (lines.Done client call answer) = answer_telling call answer
-line_telling (lines.Served client name seen) = seen_telling seen
-line_telling (lines.Told client event) = bare 12
-line_telling (lines.Jeopardy client) = bare 13
-line_telling (lines.Safe client) = bare 14
-line_telling (lines.Lost client) = bare 15
-line_telling _ = bare 16
-
--- 0 where there is no such line
-abbrev pub telling_in : Option Line → Telling
-telling_in None = bare 0
-telling_in (Some line) = line_telling line
-
-abbrev pub telling_at : List Line → ℕ → Telling
-telling_at printed place = telling_in (slice_get printed place)
-
--- ---- its bytes
-
--- those of a sequencer, or the content of a view
-abbrev pub answer_bytes : Answer → List ℕ
-answer_bytes (answers.Viewed view) = view.node.content
-answer_bytes (answers.Sequencer bytes) = bytes
-answer_bytes answer = []
-
-abbrev pub told_bytes : Line → List ℕ
-told_bytes (lines.Done client call answer) = answer_bytes answer
-told_bytes (lines.Served client name seen) = seen_content seen
-told_bytes line = []
-
-abbrev pub bytes_in : Option Line → List ℕ
-bytes_in None = []
-bytes_in (Some line) = told_bytes line
-
-abbrev pub bytes_at : List Line → ℕ → List ℕ
-bytes_at printed place = bytes_in (slice_get printed place)

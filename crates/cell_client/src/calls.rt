@@ -127,7 +127,7 @@ impl Held {
     }
 }
 
-fn open_ask(
+pub(crate) fn open_ask(
     alloc: Global,
     name: &[u8],
     opening: &OpenParts,
@@ -287,7 +287,7 @@ fn set_ask(alloc: Global, handle: u64, content: &[u8], generation: u64) -> Resul
     Ok(Ask::Node(handle, NodeCall::Set(content, generation_in(generation))))
 }
 
-fn generation_in(generation: u64) -> Option<u64>
+pub(crate) fn generation_in(generation: u64) -> Option<u64>
     ensures { result ≡ generation_in generation }
 {
     if generation == 0 {

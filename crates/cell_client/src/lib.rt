@@ -2,6 +2,7 @@
 //! It is asked and given by bytes, and what came of its last step is kept until the next one.
 #![tactic(auto)]
 
+mod acls;
 mod asks;
 mod calls;
 mod changes;
@@ -10,6 +11,7 @@ mod held;
 mod hits;
 mod laws;
 mod leases;
+mod names;
 mod opens;
 mod orderly;
 mod parts;
@@ -28,7 +30,8 @@ ghost use Rattle.client_core.specs.declared.parts.asks.NodeCall.TheVariants as n
 ghost use Rattle.cell_client.specs.Answers.{Opens, Answers, Fills, Shows};
 ghost use Rattle.cell_client.specs.Leases.{EndsAt};
 ghost use Rattle.cell_client.specs.Hits.{hit, Hits};
-ghost use Rattle.cell_client.specs.Parts.{open_ask, acquire_ask, try_acquire_ask, set_ask, ask_parts, telling_at, bytes_at};
+ghost use Rattle.cell_client.specs.Parts.{acls_in, open_ask, open_under_ask, acquire_ask, try_acquire_ask, set_ask, set_acl_ask, ask_parts};
+ghost use Rattle.cell_client.specs.Tellings.{telling_at, bytes_at, child_at, acl_at, name_at};
 
 pub use calls::OpenParts;
 use client_core::{Ask, NodeCall};
@@ -151,6 +154,26 @@ pub extern "C" fn cell_client_open_node(
         .code()
 }
 
+/// The same, and where the node is made, under these ACL names: to read, to write, and to change the ACL names.
+#[unsafe(no_mangle)]
+pub extern "C" fn cell_client_open_under(
+    handle: &mut Handle,
+    now: u64,
+    name: &[u8],
+    opening: &OpenParts,
+    content: &[u8],
+    read: &[u8],
+    write: &[u8],
+    change: &[u8],
+) -> u32
+    ensures { Answers handle.old.value handle.new.value result (ask_parts handle.old.value now (open_under_ask name.now opening.now content.now (acls_in read.now write.now change.now))) }
+{
+    handle
+        .as_mut()
+        .open_under(now, name, opening, content, read, write, change)
+        .code()
+}
+
 /// Closes a handle.
 #[unsafe(no_mangle)]
 pub extern "C" fn cell_client_close_handle(handle: &mut Handle, now: u64, number: u64) -> u32
@@ -241,6 +264,26 @@ pub extern "C" fn cell_client_set(
     ensures { Answers handle.old.value handle.new.value result (ask_parts handle.old.value now (set_ask number content.now generation)) }
 {
     handle.as_mut().set(now, number, content, generation).code()
+}
+
+/// Names the ACLs of a handle's node: to read, to write, and to change the ACL names; where the generation isn't 0, only where that
+/// is the present one of the ACL names.
+#[unsafe(no_mangle)]
+pub extern "C" fn cell_client_set_acl(
+    handle: &mut Handle,
+    now: u64,
+    number: u64,
+    read: &[u8],
+    write: &[u8],
+    change: &[u8],
+    generation: u64,
+) -> u32
+    ensures { Answers handle.old.value handle.new.value result (ask_parts handle.old.value now (set_acl_ask number (acls_in read.now write.now change.now) generation)) }
+{
+    handle
+        .as_mut()
+        .set_acl(now, number, read, write, change, generation)
+        .code()
 }
 
 /// Sets a sequencer on a handle.
@@ -344,6 +387,46 @@ pub extern "C" fn cell_client_line_bytes(
     ensures kept { handle.new.value ≡ handle.old.value }
 {
     fill(handle.as_mut().told_bytes(place), room)
+}
+
+/// The last component of the name of a child, the first at 0, that the line at this place shows, empty where it shows none there: how
+/// long it is.
+#[unsafe(no_mangle)]
+pub extern "C" fn cell_client_line_child(
+    handle: &mut Handle,
+    place: usize,
+    index: usize,
+    room: &mut [u8],
+) -> usize
+    ensures shown { Fills (child_at handle.old.value.lines place index) room.old room.new result }
+    ensures kept { handle.new.value ≡ handle.old.value }
+{
+    fill(handle.as_mut().told_child(place, index), room)
+}
+
+/// The ACL for a right of the node that the line at this place shows, 1 to read, 2 to write, 4 to change ACL names, empty where it
+/// shows none: how long it is.
+#[unsafe(no_mangle)]
+pub extern "C" fn cell_client_line_acl(
+    handle: &mut Handle,
+    place: usize,
+    right: u32,
+    room: &mut [u8],
+) -> usize
+    ensures shown { Fills (acl_at handle.old.value.lines place right) room.old room.new result }
+    ensures kept { handle.new.value ≡ handle.old.value }
+{
+    fill(handle.as_mut().told_acl(place, right), room)
+}
+
+/// The whole name of the child that the event at this place tells of, or of the node that the cache served there, empty where it is
+/// another line: how long it is.
+#[unsafe(no_mangle)]
+pub extern "C" fn cell_client_line_name(handle: &mut Handle, place: usize, room: &mut [u8]) -> usize
+    ensures shown { Fills (name_at handle.old.value.lines place) room.old room.new result }
+    ensures kept { handle.new.value ≡ handle.old.value }
+{
+    fill(handle.as_mut().told_name(place), room)
 }
 
 /// The moment from which on the client trusts its lease no more, if it gets no better one; 0 where it has none.

@@ -1,10 +1,10 @@
 //! What came of a step, in parts.
 ghost use Rattle.std.specs.Prelude.{◌≡◌, length};
-ghost use Rattle.cell_client.specs.Parts.{life_number, kind_number, bare, viewed, stated, answer_telling, seen_telling, line_telling, telling_at, answer_bytes, told_bytes, bytes_at};
+ghost use Rattle.cell_client.specs.Tellings.{life_number, kind_number, lock_number, right_number, fault_argument, bare, viewed, stated, answer_telling, seen_telling, happened, event_telling, line_telling, telling_at, answer_bytes, told_bytes, bytes_at};
 
 use crate::held::Held;
 use crate::shows::seen_content;
-use node_core::{Answer, Kind, Life, Line, Node, Stat, View};
+use node_core::{Answer, Event, Fault, Kind, Life, Line, LockMode, Right, Stat, View};
 
 /// A line of the last step, in plain numbers; what doesn't belong to its kind is 0. In C a struct.
 #[repr(C)]
@@ -30,6 +30,17 @@ pub struct Telling {
     pub kind: u32,
     /// 0 permanent, 1 ephemeral.
     pub life: u32,
+    /// Of a refusal: the generation, the count, the milliseconds, the epoch or the place that stands behind its name; of the kind that
+    /// is there 0 a file, 1 a directory; of the right that is missing 1 to read, 2 to write, 4 to change ACL names; of a held lock
+    /// 0 exclusive, 1 shared.
+    pub argument: u64,
+    /// Of an event: the number of the call that opened its handle.
+    pub opened: u64,
+    /// How many children's names there are.
+    pub children: u64,
+    /// 1 to 9: a fail-over; the content was set, and then `instance` and `content_generation` are the node's; a child was made; deleted;
+    /// its content set; the node was deleted; its lock taken; another wants a lock that the handle holds; events were missed.
+    pub event: u64,
 }
 
 impl Held {
@@ -69,24 +80,26 @@ fn bare(what: u32) -> Telling
         length: 0,
         kind: 0,
         life: 0,
+        argument: 0,
+        opened: 0,
+        children: 0,
+        event: 0,
     }
 }
 
-fn viewed(what: u32, call: u64, node: &Node) -> Telling
-    ensures { result ≡ viewed what call node.now }
+fn viewed(what: u32, call: u64, view: &View) -> Telling
+    ensures { result ≡ viewed what call view.now }
 {
     Telling {
-        what,
-        fault: 0,
         call,
-        handle: 0,
-        instance: node.instance,
-        content_generation: node.content_generation,
-        acl_generation: node.acl_generation,
-        lock_generation: 0,
-        length: node.content.len() as u64,
-        kind: kind_number(node.kind),
-        life: life_number(node.life),
+        instance: view.node.instance,
+        content_generation: view.node.content_generation,
+        acl_generation: view.node.acl_generation,
+        length: view.node.content.len() as u64,
+        kind: kind_number(view.node.kind),
+        life: life_number(view.node.life),
+        children: view.children.as_slice().len() as u64,
+        ..bare(what)
     }
 }
 
@@ -94,10 +107,7 @@ fn stated(call: u64, stat: &Stat) -> Telling
     ensures { result ≡ stated call stat.now }
 {
     Telling {
-        what: 5,
-        fault: 0,
         call,
-        handle: 0,
         instance: stat.instance,
         content_generation: stat.content_generation,
         acl_generation: stat.acl_generation,
@@ -105,6 +115,7 @@ fn stated(call: u64, stat: &Stat) -> Telling
         length: stat.length,
         kind: kind_number(stat.kind),
         life: life_number(stat.life),
+        ..bare(5)
     }
 }
 
@@ -126,6 +137,42 @@ fn life_number(life: Life) -> u32
     }
 }
 
+fn lock_number(mode: LockMode) -> u32
+    ensures { result ≡ lock_number mode }
+{
+    match mode {
+        LockMode::Exclusive => 0,
+        LockMode::Shared => 1,
+    }
+}
+
+fn right_number(right: Right) -> u32
+    ensures { result ≡ right_number right }
+{
+    match right {
+        Right::Read => 1,
+        Right::Write => 2,
+        Right::Change => 4,
+    }
+}
+
+fn fault_argument(fault: Fault) -> u64
+    ensures { result ≡ fault_argument fault }
+{
+    match fault {
+        Fault::WrongKind(present) => kind_number(present) as u64,
+        Fault::Denied(missing) => right_number(missing) as u64,
+        Fault::WrongGeneration(present) => present,
+        Fault::BadAck(issued) => issued,
+        Fault::Held(mode) => lock_number(mode) as u64,
+        Fault::Delayed(left) => left,
+        Fault::OldEpoch(present) => present,
+        Fault::PassMissing(pass) => pass,
+        Fault::ReceiptApart(place) => place,
+        _ => 0,
+    }
+}
+
 fn answer_telling(call: u64, answer: &Answer) -> Telling
     ensures { result ≡ answer_telling call answer.now }
 {
@@ -137,9 +184,13 @@ fn answer_telling(call: u64, answer: &Answer) -> Telling
         },
         Answer::Closed => Telling { call, ..bare(2) },
         Answer::Poisoned => Telling { call, ..bare(3) },
-        Answer::Viewed(view) => viewed(4, call, &view.node),
+        Answer::Viewed(view) => viewed(4, call, view),
         Answer::Stated(stat) => stated(call, stat),
-        Answer::Names(_) => Telling { call, ..bare(6) },
+        Answer::Names(names) => Telling {
+            call,
+            children: names.as_slice().len() as u64,
+            ..bare(6)
+        },
         Answer::Sequencer(bytes) => Telling {
             call,
             length: bytes.len() as u64,
@@ -149,6 +200,7 @@ fn answer_telling(call: u64, answer: &Answer) -> Telling
         Answer::Refused(fault) => Telling {
             call,
             fault: fault.number() as u32,
+            argument: fault_argument(*fault),
             ..bare(9)
         },
     }
@@ -158,8 +210,38 @@ fn seen_telling(seen: &Option<View>) -> Telling
     ensures { result ≡ seen_telling seen.now }
 {
     match seen {
-        Some(view) => viewed(10, 0, &view.node),
+        Some(view) => viewed(10, 0, view),
         None => bare(11),
+    }
+}
+
+fn happened(event: u64, opened: u64) -> Telling
+    ensures { result ≡ happened event opened }
+{
+    Telling {
+        event,
+        opened,
+        ..bare(12)
+    }
+}
+
+fn event_telling(event: &Event) -> Telling
+    ensures { result ≡ event_telling event.now }
+{
+    match event {
+        Event::FailOver => happened(1, 0),
+        Event::Contents(opened, instance, generation) => Telling {
+            instance: *instance,
+            content_generation: *generation,
+            ..happened(2, *opened)
+        },
+        Event::ChildAdded(opened, _) => happened(3, *opened),
+        Event::ChildRemoved(opened, _) => happened(4, *opened),
+        Event::ChildModified(opened, _) => happened(5, *opened),
+        Event::Invalid(opened) => happened(6, *opened),
+        Event::Locked(opened) => happened(7, *opened),
+        Event::Conflict(opened) => happened(8, *opened),
+        Event::Lost => happened(9, 0),
     }
 }
 
@@ -169,7 +251,7 @@ fn line_telling(line: &Line) -> Telling
     match line {
         Line::Done(_, call, answer) => answer_telling(*call, answer),
         Line::Served(_, _, seen) => seen_telling(seen),
-        Line::Told(_, _) => bare(12),
+        Line::Told(_, event) => event_telling(event),
         Line::Jeopardy(_) => bare(13),
         Line::Safe(_) => bare(14),
         Line::Lost(_) => bare(15),

@@ -1,10 +1,8 @@
-//! The bytes of calls, as `docs/FORMATS.md` lays out those of a Call's message. The client library puts its own client, epoch and
-//! number in their place, and the master's bytes in that of its own number for a handle.
+//! What a client calls.
 
 use crate::events::Events;
+use crate::library::OpenParts;
 use crate::nodes::{LockMode, Mode};
-use host_wire::messages::VERSION;
-use host_wire::messages::of_client::CALL;
 
 /// Whether a new node goes by itself.
 ///
@@ -90,6 +88,30 @@ impl Opening {
         self.create.as_ref().is_some_and(|create| !create.must)
     }
 
+    // The plain numbers of it.
+    pub(crate) fn parts(&self) -> OpenParts {
+        let plain = OpenParts { lock_delay: self.lock_delay, mode: self.mode.0, events: self.events.0, ..OpenParts::default() };
+        match &self.create {
+            None => plain,
+            Some(create) => OpenParts {
+                create: 1 + u8::from(create.must),
+                kind: u8::from(create.content.is_none()),
+                life: u8::from(create.life == Life::Ephemeral),
+                ..plain
+            },
+        }
+    }
+
+    // The content of the file that is made.
+    pub(crate) fn content(&self) -> &[u8] {
+        self.create.as_ref().and_then(|create| create.content.as_deref()).unwrap_or_default()
+    }
+
+    // The ACLs of what is made, where they aren't those of its parent.
+    pub(crate) fn acl(&self) -> Option<&[String; 3]> {
+        self.create.as_ref().and_then(|create| create.acl.as_ref())
+    }
+
     // The same of a node that is there.
     pub(crate) fn plain(&self) -> Opening {
         Opening { lock_delay: self.lock_delay, events: self.events, ..Opening::new(&self.name, self.mode) }
@@ -116,92 +138,7 @@ pub enum Call<'a> {
     Leave,
 }
 
-/// Bytes that are written field by field.
-struct Fields(Vec<u8>);
-
-impl Fields {
-    fn byte(&mut self, byte: u8) {
-        self.0.push(byte);
-    }
-
-    fn word(&mut self, word: u64) {
-        self.0.extend_from_slice(&word.to_be_bytes());
-    }
-
-    // (more bytes than four can count are none that a client library reads)
-    fn bytes(&mut self, bytes: &[u8]) {
-        self.0.extend_from_slice(&u32::try_from(bytes.len()).unwrap_or(u32::MAX).to_be_bytes());
-        self.0.extend_from_slice(bytes);
-    }
-
-    fn handle(&mut self, number: u64) {
-        self.bytes(&number.to_be_bytes());
-    }
-
-    fn optional_word(&mut self, word: Option<u64>) {
-        self.byte(u8::from(word.is_some()));
-        if let Some(word) = word {
-            self.word(word);
-        }
-    }
-
-    fn names(&mut self, names: &[String; 3]) {
-        for name in names {
-            self.bytes(name.as_bytes());
-        }
-    }
-
-    fn lock(&mut self, handle: u64, mode: LockMode) {
-        self.handle(handle);
-        self.byte(u8::from(mode == LockMode::Shared));
-    }
-
-    fn opening(&mut self, opening: &Opening) {
-        self.bytes(opening.name.as_bytes());
-        self.byte(opening.mode.0);
-        self.byte(u8::from(opening.create.is_some()));
-        if let Some(create) = &opening.create {
-            self.create(create);
-        }
-        self.word(opening.lock_delay);
-        self.byte(opening.events.0);
-    }
-
-    fn create(&mut self, create: &Create) {
-        self.byte(u8::from(create.must));
-        self.byte(u8::from(create.content.is_none()));
-        if let Some(content) = &create.content {
-            self.bytes(content);
-        }
-        self.byte(u8::from(create.life == Life::Ephemeral));
-        self.byte(u8::from(create.acl.is_some()));
-        if let Some(acl) = &create.acl {
-            self.names(acl);
-        }
-    }
-}
-
 impl Call<'_> {
-    fn kind(&self) -> u8 {
-        match self {
-            Call::Open(_) => 0,
-            Call::Close(_) => 1,
-            Call::Read(_) => 2,
-            Call::Stat(_) => 3,
-            Call::List(_) => 4,
-            Call::Set(..) => 5,
-            Call::SetAcl(..) => 6,
-            Call::Delete(_) => 7,
-            Call::Acquire(..) => 8,
-            Call::TryAcquire(..) => 9,
-            Call::Release(_) => 10,
-            Call::GetSequencer(_) => 11,
-            Call::SetSequencer(..) => 12,
-            Call::CheckSequencer(_) => 13,
-            Call::Leave => 14,
-        }
-    }
-
     /// Whether it changes nothing, so that it may be made again where its outcome isn't known.
     pub fn only_reads(&self) -> bool {
         match self {
@@ -210,54 +147,11 @@ impl Call<'_> {
             _ => false,
         }
     }
-
-    /// Its bytes, as those of a message.
-    pub fn write(&self) -> Vec<u8> {
-        let mut out = Fields(vec![VERSION, CALL]);
-        // (client, epoch and number: the library puts its own)
-        out.word(1);
-        out.word(0);
-        out.word(1);
-        out.byte(self.kind());
-        match *self {
-            Call::Open(opening) => out.opening(opening),
-            Call::Close(handle) | Call::Read(handle) | Call::Stat(handle) | Call::List(handle) | Call::Delete(handle) => out.handle(handle),
-            Call::Release(handle) | Call::GetSequencer(handle) | Call::SetSequencer(handle, _) => out.handle(handle),
-            Call::Acquire(handle, mode) | Call::TryAcquire(handle, mode) => out.lock(handle, mode),
-            Call::CheckSequencer(sequencer) => out.bytes(sequencer),
-            Call::Leave => {}
-            Call::Set(handle, content, generation) => {
-                out.handle(handle);
-                out.bytes(content);
-                out.optional_word(generation);
-            }
-            Call::SetAcl(handle, acl, generation) => {
-                out.handle(handle);
-                out.names(acl);
-                out.optional_word(generation);
-            }
-        }
-        match self {
-            Call::SetSequencer(_, sequencer) => {
-                out.byte(1);
-                out.bytes(sequencer);
-            }
-            _ => out.byte(0),
-        }
-        out.0
-    }
 }
 
 #[cfg(test)]
 mod tests {
     use super::*;
-
-    const HEAD: &str = "0202 0000000000000001 0000000000000000 0000000000000001 ";
-    const HANDLE_3: &str = " 00000008 0000000000000003 ";
-
-    fn bytes_of(digits: &str) -> Vec<u8> {
-        hex::decode(digits.replace(' ', "")).unwrap()
-    }
 
     fn opening(create: Option<Create>) -> Opening {
         let mode = Mode::READ.and(Mode::WRITE);
@@ -265,42 +159,15 @@ mod tests {
     }
 
     #[test]
-    fn an_open_has_its_bytes() {
+    fn an_open_has_its_parts() {
         let acl = ["a", "b", "c"].map(str::to_owned);
-        let file = Create { must: true, content: Some(b"\xff".to_vec()), life: Life::Ephemeral, acl: Some(acl) };
-        let rows = [
-            (None, "00"),
-            (Some(file), "01 01 00 00000001 ff 01 01 00000001 61 00000001 62 00000001 63"),
-            (Some(Create::default()), "01 00 01 00 00"),
-        ];
-        for (create, wanted) in rows {
-            let wanted = format!("{HEAD} 00 00000005 2f6c732f63 03 {wanted} 0000000000000102 05 00");
-            assert_eq!(Call::Open(&opening(create)).write(), bytes_of(&wanted), "{wanted}");
-        }
-    }
-
-    #[test]
-    fn each_call_has_its_bytes() {
-        let acl = ["a", "b", "c"].map(str::to_owned);
-        let rows = [
-            (Call::Close(3), format!("01 {HANDLE_3} 00")),
-            (Call::Read(3), format!("02 {HANDLE_3} 00")),
-            (Call::Stat(3), format!("03 {HANDLE_3} 00")),
-            (Call::List(3), format!("04 {HANDLE_3} 00")),
-            (Call::Set(3, b"\xab", None), format!("05 {HANDLE_3} 00000001 ab 00 00")),
-            (Call::Set(3, b"", Some(2)), format!("05 {HANDLE_3} 00000000 01 0000000000000002 00")),
-            (Call::SetAcl(3, &acl, None), format!("06 {HANDLE_3} 00000001 61 00000001 62 00000001 63 00 00")),
-            (Call::Delete(3), format!("07 {HANDLE_3} 00")),
-            (Call::Acquire(3, LockMode::Exclusive), format!("08 {HANDLE_3} 00 00")),
-            (Call::TryAcquire(3, LockMode::Shared), format!("09 {HANDLE_3} 01 00")),
-            (Call::Release(3), format!("0a {HANDLE_3} 00")),
-            (Call::GetSequencer(3), format!("0b {HANDLE_3} 00")),
-            (Call::SetSequencer(3, b"\xcd"), format!("0c {HANDLE_3} 01 00000001 cd")),
-            (Call::CheckSequencer(b"\xcd"), "0d 00000001 cd 00".to_owned()),
-            (Call::Leave, "0e 00".to_owned()),
-        ];
-        for (call, wanted) in rows {
-            assert_eq!(call.write(), bytes_of(&format!("{HEAD}{wanted}")), "{call:?}");
+        let file = Create { must: true, content: Some(b"\xff".to_vec()), life: Life::Ephemeral, acl: Some(acl.clone()) };
+        let rows: [(_, _, &[u8], _); 3] =
+            [(None, [0, 0, 0], b"", None), (Some(file), [2, 0, 1], b"\xff", Some(acl)), (Some(Create::default()), [1, 1, 0], b"", None)];
+        for (made, [create, kind, life], content, acl) in rows {
+            let opening = opening(made);
+            assert_eq!(opening.parts(), OpenParts { lock_delay: 258, mode: 3, events: 5, create, kind, life });
+            assert_eq!((opening.content(), opening.acl()), (content, acl.as_ref()));
         }
     }
 

@@ -511,7 +511,7 @@ impl Client {
     pub fn read(&self, handle: Handle) -> Result<View, Error> {
         let reply = self.call(&Call::Read(self.own(handle)?), None)?;
         match reply.answer {
-            Answer::Viewed(Shown { stat, children }) => Ok(View { stat, content: reply.content, children, is_served: reply.is_own }),
+            Answer::Viewed(Shown { stat, content, children }) => Ok(View { stat, content, children, is_served: reply.is_own }),
             other => Err(unfit(&other)),
         }
     }
@@ -537,7 +537,7 @@ impl Client {
         match self.ask(true, |state| state.read_into(number, room))? {
             None => Ok(true),
             Some(reply) => {
-                *room = reply.content;
+                *room = reply.content();
                 Ok(false)
             }
         }
@@ -568,7 +568,7 @@ impl Client {
             Ok(tried)
         })?;
         if let Some(reply) = reply {
-            *room = reply.content;
+            *room = reply.content();
         }
         Ok(mark)
     }

@@ -5,7 +5,7 @@ use crate::clock;
 use crate::errors::Error;
 use crate::events::Event;
 use crate::library::{Library, Status};
-use crate::lines::{Answer, Line, Shown};
+use crate::lines::{Answer, Line};
 use crate::refusals::Refusal;
 use host_wire::messages::number_of_client;
 use host_wire::{Notice, TurnedAway};
@@ -22,15 +22,21 @@ const LOOK: Duration = Duration::from_millis(50);
 #[derive(Debug)]
 pub struct Reply {
     pub answer: Answer,
-    /// The content that it showed.
-    pub content: Vec<u8>,
     /// Whether the client answered it by itself.
     pub is_own: bool,
 }
 
 impl Reply {
-    fn bare(answer: Answer, is_own: bool) -> Reply {
-        Reply { answer, content: Vec::new(), is_own }
+    fn own(answer: Answer) -> Reply {
+        Reply { answer, is_own: true }
+    }
+
+    /// The content that it shows.
+    pub fn content(self) -> Vec<u8> {
+        match self.answer {
+            Answer::Viewed(shown) => shown.content,
+            _ => Vec::new(),
+        }
     }
 }
 
@@ -266,7 +272,7 @@ impl State {
             return Err(fault);
         }
         self.turn();
-        let status = self.library.ask(clock::now(), &call.write());
+        let status = self.library.call(clock::now(), call);
         let own = self.learn(status);
         self.tried(status, own, watcher)
     }
@@ -313,16 +319,12 @@ impl State {
         if status.is_without_effect() {
             return None;
         }
-        let Some(lines) = self.library.lines() else {
-            self.answer(Err(Refusal::NoMemory.into()));
-            return None;
-        };
         let mut own = None;
-        for line in lines.lines().filter_map(Line::read) {
+        for line in self.library.lines().into_iter().filter_map(Line::of) {
             match line {
-                Line::Done(0, answer) => own = Some(Reply::bare(answer, true)),
-                Line::Served(Some(shown)) => own = Some(self.viewed(shown, true)),
-                Line::Served(None) => own = Some(Reply::bare(Answer::Refused(Refusal::NotFound), true)),
+                Line::Done(0, answer) => own = Some(Reply::own(answer)),
+                Line::Served(Some(shown)) => own = Some(Reply::own(Answer::Viewed(shown))),
+                Line::Served(None) => own = Some(Reply::own(Answer::Refused(Refusal::NotFound))),
                 Line::Done(number, answer) => self.finish(number, answer),
                 Line::Event(opened, event) => self.publish(opened, &event),
                 Line::Jeopardy => self.stand(Standing::Jeopardy, &Event::Jeopardy),
@@ -331,11 +333,6 @@ impl State {
             }
         }
         own
-    }
-
-    fn viewed(&mut self, shown: Shown, is_own: bool) -> Reply {
-        let content = self.library.content();
-        Reply { answer: Answer::Viewed(shown), content, is_own }
     }
 
     // The outstanding call ended.
@@ -347,8 +344,7 @@ impl State {
         }
         let result = match answer {
             Answer::Refused(refusal) => Err(notice.map_or(refusal.into(), |notice| Error::Limited(notice.reason))),
-            Answer::Viewed(shown) => Ok(self.viewed(shown, false)),
-            answer => Ok(Reply::bare(answer, false)),
+            answer => Ok(Reply { answer, is_own: false }),
         };
         self.answer(result);
     }

@@ -1,5 +1,7 @@
 //! What a client is told of a node that it watches.
 
+use crate::library::Numbers;
+
 /// Of which events the client of a handle is told.
 ///
 /// ```
@@ -130,28 +132,20 @@ pub enum Event {
 }
 
 impl Event {
-    // That of the words behind `event CLIENT`, with the number of the Open of its handle, where it is of one.
-    pub(crate) fn read(words: &str) -> Option<(Option<u64>, Event)> {
-        let mut words = words.split(' ');
-        let word = words.next()?;
-        match word {
-            "failover" => return Some((None, Event::Failover)),
-            "lost" => return Some((None, Event::Lost)),
-            _ => {}
-        }
-        let opened = words.next()?.parse().ok()?;
-        let mut rest = || words.next().map(str::to_owned);
-        let event = match word {
-            "contents" => Event::Contents { instance: rest()?.parse().ok()?, generation: rest()?.parse().ok()? },
-            "child-added" => Event::ChildAdded(rest()?),
-            "child-removed" => Event::ChildRemoved(rest()?),
-            "child-modified" => Event::ChildModified(rest()?),
-            "invalid" => Event::Invalid,
-            "locked" => Event::Locked,
-            "conflict" => Event::Conflict,
+    // That of the number in `include/cell_client.h`, with what belongs to it.
+    pub(crate) fn of(numbers: &Numbers, name: String) -> Option<Event> {
+        Some(match numbers.event {
+            1 => Event::Failover,
+            2 => Event::Contents { instance: numbers.instance, generation: numbers.content_generation },
+            3 => Event::ChildAdded(name),
+            4 => Event::ChildRemoved(name),
+            5 => Event::ChildModified(name),
+            6 => Event::Invalid,
+            7 => Event::Locked,
+            8 => Event::Conflict,
+            9 => Event::Lost,
             _ => return None,
-        };
-        Some((Some(opened), event))
+        })
     }
 }
 
@@ -160,23 +154,24 @@ mod tests {
     use super::*;
 
     #[test]
-    fn events_are_read() {
+    fn each_event_has_its_number() {
+        let name = || "/ls/c/f".to_owned();
         let rows = [
-            ("failover", Some((None, Event::Failover))),
-            ("lost", Some((None, Event::Lost))),
-            ("contents 2 4 3", Some((Some(2), Event::Contents { instance: 4, generation: 3 }))),
-            ("child-added 2 /ls/c/f", Some((Some(2), Event::ChildAdded("/ls/c/f".to_owned())))),
-            ("child-removed 2 /ls/c/f", Some((Some(2), Event::ChildRemoved("/ls/c/f".to_owned())))),
-            ("child-modified 2 /ls/c/f", Some((Some(2), Event::ChildModified("/ls/c/f".to_owned())))),
-            ("invalid 2", Some((Some(2), Event::Invalid))),
-            ("locked 2", Some((Some(2), Event::Locked))),
-            ("conflict 2", Some((Some(2), Event::Conflict))),
-            ("contents 2 4", None),
-            ("invalid", None),
-            ("other 2", None),
+            (0, None),
+            (1, Some(Event::Failover)),
+            (2, Some(Event::Contents { instance: 4, generation: 3 })),
+            (3, Some(Event::ChildAdded(name()))),
+            (4, Some(Event::ChildRemoved(name()))),
+            (5, Some(Event::ChildModified(name()))),
+            (6, Some(Event::Invalid)),
+            (7, Some(Event::Locked)),
+            (8, Some(Event::Conflict)),
+            (9, Some(Event::Lost)),
+            (10, None),
         ];
-        for (words, wanted) in rows {
-            assert_eq!(Event::read(words), wanted, "{words}");
+        for (event, wanted) in rows {
+            let numbers = Numbers { event, instance: 4, content_generation: 3, ..Numbers::default() };
+            assert_eq!(Event::of(&numbers, name()), wanted, "{event}");
         }
     }
 }

@@ -1,13 +1,34 @@
-//! The lines of a client, as `docs/FORMATS.md` has them.
+//! The lines of a client's last step, of the plain numbers and texts in which the library tells them.
 
 use crate::events::Event;
+use crate::library::{Numbers, Told};
 use crate::nodes::{Kind, Stat};
 use crate::refusals::Refusal;
 
-/// What a view shows; its content the library has.
+/// The kinds of lines, as `include/cell_client.h` has them.
+mod kinds {
+    pub const OPENED: u32 = 1;
+    pub const CLOSED: u32 = 2;
+    pub const HANDLE_POISONED: u32 = 3;
+    pub const VIEWED: u32 = 4;
+    pub const STATED: u32 = 5;
+    pub const NAMES: u32 = 6;
+    pub const SEQUENCER: u32 = 7;
+    pub const OKAY: u32 = 8;
+    pub const REFUSED: u32 = 9;
+    pub const SEEN: u32 = 10;
+    pub const ABSENT: u32 = 11;
+    pub const EVENT: u32 = 12;
+    pub const JEOPARDY: u32 = 13;
+    pub const SAFE: u32 = 14;
+    pub const LOST: u32 = 15;
+}
+
+/// What a view shows.
 #[derive(Clone, Debug, PartialEq, Eq)]
 pub struct Shown {
     pub stat: Stat,
+    pub content: Vec<u8>,
     /// The last components of the children's names.
     pub children: Vec<String>,
 }
@@ -43,154 +64,138 @@ pub enum Line {
 }
 
 impl Line {
-    /// The line of this text; None for one that a client doesn't print of its own.
-    pub fn read(text: &str) -> Option<Line> {
-        let (word, rest) = text.split_once(' ')?;
-        let (_client, rest) = rest.split_once(' ').unwrap_or((rest, ""));
-        match word {
-            "done" => {
-                let (number, words) = rest.split_once(' ')?;
-                Some(Line::Done(number.parse().ok()?, answer(words)?))
-            }
-            "served" => {
-                let (_name, words) = rest.split_once(' ')?;
-                if words == "absent" { Some(Line::Served(None)) } else { view(words).map(|shown| Line::Served(Some(shown))) }
-            }
-            "event" => Event::read(rest).map(|(opened, event)| Line::Event(opened, event)),
-            "jeopardy" => Some(Line::Jeopardy),
-            "safe" => Some(Line::Safe),
-            "lost" => Some(Line::Lost),
-            _ => None,
+    /// The line that is told so; None for one that a client doesn't print of its own.
+    pub fn of(told: Told) -> Option<Line> {
+        match told.numbers.what {
+            kinds::SEEN => Some(Line::Served(Some(shown(told)?))),
+            kinds::ABSENT => Some(Line::Served(None)),
+            kinds::EVENT => Event::of(&told.numbers, told.name).map(|event| Line::Event(opened(&told.numbers), event)),
+            kinds::JEOPARDY => Some(Line::Jeopardy),
+            kinds::SAFE => Some(Line::Safe),
+            kinds::LOST => Some(Line::Lost),
+            _ => Some(Line::Done(told.numbers.call, answer(told)?)),
         }
     }
 }
 
-fn answer(words: &str) -> Option<Answer> {
-    let (word, rest) = words.split_once(' ').unwrap_or((words, ""));
-    Some(match word {
-        "opened" => Answer::Opened(rest.parse().ok()?),
-        "closed" => Answer::Closed,
-        "poisoned" => Answer::Poisoned,
-        "view" => Answer::Viewed(view(rest)?),
-        "stat" => Answer::Stated(stat(rest)?),
-        "names" => Answer::Names(rest.split(' ').filter(|name| !name.is_empty()).map(str::to_owned).collect()),
-        "sequencer" => Answer::Sequencer(hex::decode(rest).ok()?),
-        "ok" => Answer::Done,
-        "refused" => Answer::Refused(Refusal::read(rest)?),
+// (no call has the number 0)
+fn opened(numbers: &Numbers) -> Option<u64> {
+    Some(numbers.opened).filter(|&opened| opened != 0)
+}
+
+fn answer(told: Told) -> Option<Answer> {
+    Some(match told.numbers.what {
+        kinds::OPENED => Answer::Opened(told.numbers.handle),
+        kinds::CLOSED => Answer::Closed,
+        kinds::HANDLE_POISONED => Answer::Poisoned,
+        kinds::VIEWED => Answer::Viewed(shown(told)?),
+        kinds::STATED => Answer::Stated(stat(&told.numbers, told.acl, Some(told.numbers.lock_generation))?),
+        kinds::NAMES => Answer::Names(told.children),
+        kinds::SEQUENCER => Answer::Sequencer(told.bytes),
+        kinds::OKAY => Answer::Done,
+        kinds::REFUSED => Answer::Refused(Refusal::of(told.numbers.fault, told.numbers.argument)?),
         _ => return None,
     })
 }
 
-// KIND INSTANCE CONTENTGEN ACLGEN READ WRITE CHANGE LIFE, and then for a file LENGTH HEX, for a directory COUNT CHILDREN.
-fn view(text: &str) -> Option<Shown> {
-    let mut words = text.split(' ');
-    let kind = Kind::read(words.next()?)?;
-    let mut number = || words.next()?.parse().ok();
-    let (instance, content_generation, acl_generation) = (number()?, number()?, number()?);
-    let acl = names(&mut words)?;
-    let is_ephemeral = life(words.next()?)?;
-    let count: u64 = words.next()?.parse().ok()?;
-    let (length, children) = match kind {
-        Kind::File => (count, vec![]),
-        Kind::Directory => (0, listed(words, count)?),
-    };
-    let stat = Stat { kind, instance, content_generation, acl_generation, lock_generation: None, acl, is_ephemeral, length };
-    Some(Shown { stat, children })
+fn shown(told: Told) -> Option<Shown> {
+    Some(Shown { stat: stat(&told.numbers, told.acl, None)?, content: told.bytes, children: told.children })
 }
 
-// All words, so many.
-fn listed<'a>(words: impl Iterator<Item = &'a str>, count: u64) -> Option<Vec<String>> {
-    let names: Vec<String> = words.map(str::to_owned).collect();
-    (names.len() as u64 == count).then_some(names)
-}
-
-// KIND INSTANCE CONTENTGEN ACLGEN LOCKGEN READ WRITE CHANGE LIFE LENGTH.
-fn stat(text: &str) -> Option<Stat> {
-    let mut words = text.split(' ');
-    let kind = Kind::read(words.next()?)?;
-    let mut number = || words.next()?.parse().ok();
-    let (instance, content_generation, acl_generation) = (number()?, number()?, number()?);
-    let lock_generation = Some(number()?);
-    let acl = names(&mut words)?;
-    let is_ephemeral = life(words.next()?)?;
-    let length = words.next()?.parse().ok()?;
-    Some(Stat { kind, instance, content_generation, acl_generation, lock_generation, acl, is_ephemeral, length })
-}
-
-fn names<'a>(words: &mut impl Iterator<Item = &'a str>) -> Option<[String; 3]> {
-    let mut name = || words.next().map(str::to_owned);
-    Some([name()?, name()?, name()?])
-}
-
-fn life(word: &str) -> Option<bool> {
-    match word {
-        "permanent" => Some(false),
-        "ephemeral" => Some(true),
-        _ => None,
-    }
+fn stat(numbers: &Numbers, acl: [String; 3], lock_generation: Option<u64>) -> Option<Stat> {
+    let &Numbers { instance, content_generation, acl_generation, length, .. } = numbers;
+    let is_ephemeral = numbers.life == 1;
+    Some(Stat {
+        kind: Kind::of(numbers.kind.into())?,
+        instance,
+        content_generation,
+        acl_generation,
+        lock_generation,
+        acl,
+        is_ephemeral,
+        length,
+    })
 }
 
 #[cfg(test)]
 mod tests {
     use super::*;
 
-    fn seen(lock_generation: Option<u64>, kind: Kind, is_ephemeral: bool, length: u64) -> Stat {
-        let acl = ["base", "base", "own"].map(str::to_owned);
-        Stat { kind, instance: 4, content_generation: 2, acl_generation: 1, lock_generation, acl, is_ephemeral, length }
+    fn names<const N: usize>(names: [&str; N]) -> [String; N] {
+        names.map(str::to_owned)
     }
 
-    fn shown(stat: Stat, children: &[&str]) -> Shown {
-        Shown { stat, children: children.iter().map(|name| (*name).to_owned()).collect() }
+    // What a line of this kind tells of a node, or of a view of one.
+    fn told(what: u32, kind: u32, bytes: &[u8], children: &[&str]) -> Told {
+        let (instance, content_generation, acl_generation, lock_generation) = (4, 2, 1, 7);
+        let (length, life, call) = (3, kind, 2);
+        let numbers =
+            Numbers { what, call, instance, content_generation, acl_generation, lock_generation, length, kind, life, ..Numbers::default() };
+        let children = children.iter().map(|name| (*name).to_owned()).collect();
+        Told { numbers, bytes: bytes.to_vec(), children, acl: names(["base", "read", "own"]), name: String::new() }
+    }
+
+    fn numbered(numbers: Numbers) -> Told {
+        Told { numbers, ..Told::default() }
+    }
+
+    fn of_node(kind: Kind, lock_generation: Option<u64>) -> Stat {
+        let acl = names(["base", "read", "own"]);
+        let is_ephemeral = kind == Kind::Directory;
+        Stat { kind, instance: 4, content_generation: 2, acl_generation: 1, lock_generation, acl, is_ephemeral, length: 3 }
+    }
+
+    fn view(kind: Kind, content: &[u8], children: &[&str]) -> Shown {
+        let children = children.iter().map(|name| (*name).to_owned()).collect();
+        Shown { stat: of_node(kind, None), content: content.to_vec(), children }
     }
 
     #[test]
-    fn the_ends_of_calls_are_read() {
-        let file = shown(seen(None, Kind::File, false, 1), &[]);
-        let empty = shown(seen(None, Kind::Directory, true, 0), &[]);
-        let directory = shown(seen(None, Kind::Directory, true, 0), &["a", "b"]);
+    fn the_ends_of_calls_are_told() {
+        let ended = |what| Numbers { what, call: 2, ..Numbers::default() };
+        let sequencer = Told { bytes: vec![1, 255], ..numbered(ended(kinds::SEQUENCER)) };
+        let listing = Told { children: names(["a", "b"]).to_vec(), ..numbered(ended(kinds::NAMES)) };
         let rows = [
-            ("done 1 2 opened 3", Some((2, Answer::Opened(3)))),
-            ("done 1 0 closed", Some((0, Answer::Closed))),
-            ("done 1 0 poisoned", Some((0, Answer::Poisoned))),
-            ("done 1 2 view file 4 2 1 base base own permanent 1 61", Some((2, Answer::Viewed(file)))),
-            ("done 1 2 view dir 4 2 1 base base own ephemeral 0", Some((2, Answer::Viewed(empty)))),
-            ("done 1 2 view dir 4 2 1 base base own ephemeral 2 a b", Some((2, Answer::Viewed(directory)))),
-            ("done 1 2 stat file 4 2 1 7 base base own permanent 1", Some((2, Answer::Stated(seen(Some(7), Kind::File, false, 1))))),
-            ("done 1 2 names", Some((2, Answer::Names(vec![])))),
-            ("done 1 2 names a b", Some((2, Answer::Names(vec!["a".to_owned(), "b".to_owned()])))),
-            ("done 1 2 sequencer 01ff", Some((2, Answer::Sequencer(vec![1, 255])))),
-            ("done 1 2 ok", Some((2, Answer::Done))),
-            ("done 1 2 refused 6 NotFound", Some((2, Answer::Refused(Refusal::NotFound)))),
-            ("done 1 2 sequencer 01f", None),
-            ("done 1 2 view file 4 2 1 base base own permanent", None),
-            ("done 1 2 view dir 4 2 1 base base own permanent", None),
-            ("done 1 2 view dir 4 2 1 base base own permanent 2 a", None),
-            ("done 1 2 view dir 4 2 1 base base own permanent 0 a", None),
-            ("done 1 2 other", None),
+            (numbered(Numbers { handle: 3, ..ended(kinds::OPENED) }), Some(Answer::Opened(3))),
+            (numbered(ended(kinds::CLOSED)), Some(Answer::Closed)),
+            (numbered(ended(kinds::HANDLE_POISONED)), Some(Answer::Poisoned)),
+            (told(kinds::VIEWED, 0, b"abc", &[]), Some(Answer::Viewed(view(Kind::File, b"abc", &[])))),
+            (told(kinds::VIEWED, 1, b"", &["a", "b"]), Some(Answer::Viewed(view(Kind::Directory, b"", &["a", "b"])))),
+            (told(kinds::VIEWED, 2, b"", &[]), None),
+            (told(kinds::STATED, 0, b"", &[]), Some(Answer::Stated(of_node(Kind::File, Some(7))))),
+            (numbered(ended(kinds::NAMES)), Some(Answer::Names(vec![]))),
+            (listing, Some(Answer::Names(names(["a", "b"]).to_vec()))),
+            (sequencer, Some(Answer::Sequencer(vec![1, 255]))),
+            (numbered(ended(kinds::OKAY)), Some(Answer::Done)),
+            (numbered(Numbers { fault: 6, ..ended(kinds::REFUSED) }), Some(Answer::Refused(Refusal::NotFound))),
+            (numbered(Numbers { fault: 11, argument: 9, ..ended(kinds::REFUSED) }), Some(Answer::Refused(Refusal::WrongGeneration(9)))),
+            (numbered(ended(kinds::REFUSED)), None),
+            (numbered(ended(0)), None),
+            (numbered(ended(16)), None),
         ];
-        for (text, wanted) in rows {
-            assert_eq!(Line::read(text), wanted.map(|(number, answer)| Line::Done(number, answer)), "{text}");
+        for (told, wanted) in rows {
+            let what = told.numbers.what;
+            assert_eq!(Line::of(told), wanted.map(|answer| Line::Done(2, answer)), "{what}");
         }
     }
 
     #[test]
-    fn other_lines_are_read() {
-        let file = shown(seen(None, Kind::File, false, 0), &[]);
-        let directory = shown(seen(None, Kind::Directory, false, 0), &["acl"]);
+    fn other_lines_are_told() {
+        let bare = |what| Numbers { what, ..Numbers::default() };
         let rows = [
-            ("served 1 /ls/c/f file 4 2 1 base base own permanent 0 -", Some(Line::Served(Some(file)))),
-            ("served 1 /ls/c dir 4 2 1 base base own permanent 1 acl", Some(Line::Served(Some(directory)))),
-            ("served 1 /ls/c/f absent", Some(Line::Served(None))),
-            ("event 1 failover", Some(Line::Event(None, Event::Failover))),
-            ("event 1 invalid 2", Some(Line::Event(Some(2), Event::Invalid))),
-            ("jeopardy 1", Some(Line::Jeopardy)),
-            ("safe 1", Some(Line::Safe)),
-            ("lost 1", Some(Line::Lost)),
-            ("up 1", None),
-            ("", None),
+            (told(kinds::SEEN, 0, b"abc", &[]), Some(Line::Served(Some(view(Kind::File, b"abc", &[]))))),
+            (told(kinds::SEEN, 1, b"", &["acl"]), Some(Line::Served(Some(view(Kind::Directory, b"", &["acl"]))))),
+            (numbered(bare(kinds::ABSENT)), Some(Line::Served(None))),
+            (numbered(Numbers { event: 1, ..bare(kinds::EVENT) }), Some(Line::Event(None, Event::Failover))),
+            (numbered(Numbers { event: 6, opened: 2, ..bare(kinds::EVENT) }), Some(Line::Event(Some(2), Event::Invalid))),
+            (numbered(bare(kinds::EVENT)), None),
+            (numbered(bare(kinds::JEOPARDY)), Some(Line::Jeopardy)),
+            (numbered(bare(kinds::SAFE)), Some(Line::Safe)),
+            (numbered(bare(kinds::LOST)), Some(Line::Lost)),
         ];
-        for (text, wanted) in rows {
-            assert_eq!(Line::read(text), wanted, "{text}");
+        for (told, wanted) in rows {
+            let what = told.numbers.what;
+            assert_eq!(Line::of(told), wanted, "{what}");
         }
     }
 }

@@ -166,32 +166,40 @@ pub struct View {
     pub is_served: bool,
 }
 
+// (by the numbers of `include/cell_client.h`)
 impl Kind {
-    pub(crate) fn read(word: &str) -> Option<Kind> {
-        match word {
-            "file" => Some(Kind::File),
-            "dir" => Some(Kind::Directory),
+    pub(crate) fn of(number: u64) -> Option<Kind> {
+        match number {
+            0 => Some(Kind::File),
+            1 => Some(Kind::Directory),
             _ => None,
         }
     }
 }
 
 impl LockMode {
-    pub(crate) fn read(word: &str) -> Option<LockMode> {
-        match word {
-            "x" => Some(LockMode::Exclusive),
-            "s" => Some(LockMode::Shared),
+    pub(crate) fn of(number: u64) -> Option<LockMode> {
+        match number {
+            0 => Some(LockMode::Exclusive),
+            1 => Some(LockMode::Shared),
             _ => None,
+        }
+    }
+
+    pub(crate) fn number(self) -> u32 {
+        match self {
+            LockMode::Exclusive => 0,
+            LockMode::Shared => 1,
         }
     }
 }
 
 impl Right {
-    pub(crate) fn read(word: &str) -> Option<Right> {
-        match word {
-            "read" => Some(Right::Read),
-            "write" => Some(Right::Write),
-            "change" => Some(Right::Change),
+    pub(crate) fn of(number: u64) -> Option<Right> {
+        match number {
+            1 => Some(Right::Read),
+            2 => Some(Right::Write),
+            4 => Some(Right::Change),
             _ => None,
         }
     }

@@ -3,32 +3,32 @@
 use crate::nodes::{Kind, LockMode, Right};
 use std::fmt;
 
-// What stands behind a refusal's name in a line.
+// What a refusal tells besides, by its number.
 trait Argument: Sized {
-    fn read(word: &str) -> Option<Self>;
+    fn of(number: u64) -> Option<Self>;
 }
 
 impl Argument for u64 {
-    fn read(word: &str) -> Option<u64> {
-        word.parse().ok()
+    fn of(number: u64) -> Option<u64> {
+        Some(number)
     }
 }
 
 impl Argument for Kind {
-    fn read(word: &str) -> Option<Kind> {
-        Kind::read(word)
+    fn of(number: u64) -> Option<Kind> {
+        Kind::of(number)
     }
 }
 
 impl Argument for LockMode {
-    fn read(word: &str) -> Option<LockMode> {
-        LockMode::read(word)
+    fn of(number: u64) -> Option<LockMode> {
+        LockMode::of(number)
     }
 }
 
 impl Argument for Right {
-    fn read(word: &str) -> Option<Right> {
-        Right::read(word)
+    fn of(number: u64) -> Option<Right> {
+        Right::of(number)
     }
 }
 
@@ -87,13 +87,13 @@ macro_rules! refusals {
                 }
             }
 
-            // That of a number, with its argument's word, which is empty where there is none.
-            pub(crate) fn of(number: u32, argument: &str) -> Option<Refusal> {
+            // That of a number, with its argument's, which is 0 where there is none.
+            pub(crate) fn of(number: u32, argument: u64) -> Option<Refusal> {
                 let refusal = match number {
-                    $($number => Refusal::$name $((<$argument as Argument>::read(argument)?))?,)*
+                    $($number => Refusal::$name $((<$argument as Argument>::of(argument)?))?,)*
                     _ => return None,
                 };
-                (refusal.argument().is_some() || argument.is_empty()).then_some(refusal)
+                (refusal.argument().is_some() || argument == 0).then_some(refusal)
             }
         }
     };
@@ -154,11 +154,9 @@ impl Refusal {
         }
     }
 
-    // That of the words behind `refused`.
-    pub(crate) fn read(words: &str) -> Option<Refusal> {
-        let (number, rest) = words.split_once(' ')?;
-        let (name, argument) = rest.split_once(' ').unwrap_or((rest, ""));
-        Refusal::of(number.parse().ok()?, argument).filter(|refusal| refusal.name() == name)
+    // One that a client answers by itself: none of these has an argument.
+    pub(crate) fn of_code(code: u32) -> Option<Refusal> {
+        Refusal::of(code, 0).filter(|refusal| refusal.argument().is_none())
     }
 }
 
@@ -178,35 +176,41 @@ mod tests {
     use super::*;
 
     #[test]
-    fn refusals_are_read_by_number_and_name() {
+    fn refusals_have_their_arguments() {
         let rows = [
-            ("1 NoMemory", Some(Refusal::NoMemory)),
-            ("8 WrongKind dir", Some(Refusal::WrongKind(Kind::Directory))),
-            ("10 Denied change", Some(Refusal::Denied(Right::Change))),
-            ("11 WrongGeneration 7", Some(Refusal::WrongGeneration(7))),
-            ("23 Held x", Some(Refusal::Held(LockMode::Exclusive))),
-            ("24 Delayed 60000", Some(Refusal::Delayed(60_000))),
-            ("28 OldEpoch 2", Some(Refusal::OldEpoch(2))),
-            ("34 Unknown", Some(Refusal::Unknown)),
-            ("39 MasterUp", Some(Refusal::MasterUp)),
-            ("34 NotFound", None),
-            ("6 NotFound 1", None),
-            ("11 WrongGeneration", None),
-            ("0 Nothing", None),
-            ("40 WatchFull", None),
-            ("6", None),
+            (1, 0, Some(Refusal::NoMemory)),
+            (8, 0, Some(Refusal::WrongKind(Kind::File))),
+            (8, 1, Some(Refusal::WrongKind(Kind::Directory))),
+            (8, 2, None),
+            (10, 1, Some(Refusal::Denied(Right::Read))),
+            (10, 2, Some(Refusal::Denied(Right::Write))),
+            (10, 4, Some(Refusal::Denied(Right::Change))),
+            (10, 0, None),
+            (10, 3, None),
+            (11, 7, Some(Refusal::WrongGeneration(7))),
+            (20, 0, Some(Refusal::BadAck(0))),
+            (23, 0, Some(Refusal::Held(LockMode::Exclusive))),
+            (23, 1, Some(Refusal::Held(LockMode::Shared))),
+            (23, 2, None),
+            (24, 60_000, Some(Refusal::Delayed(60_000))),
+            (28, u64::MAX, Some(Refusal::OldEpoch(u64::MAX))),
+            (34, 0, Some(Refusal::Unknown)),
+            (39, 0, Some(Refusal::MasterUp)),
+            (6, 1, None),
+            (0, 0, None),
+            (40, 0, None),
         ];
-        for (words, wanted) in rows {
-            assert_eq!(Refusal::read(words), wanted, "{words}");
+        for (number, argument, wanted) in rows {
+            assert_eq!(Refusal::of(number, argument), wanted, "{number} {argument}");
         }
     }
 
     #[test]
     fn each_number_has_one_refusal() {
+        let with_argument = [8, 10, 11, 20, 23, 24, 28];
         for number in 1..=39 {
-            let words = ["", "1", "file", "x", "read"];
-            let found: Vec<Refusal> = words.iter().filter_map(|word| Refusal::of(number, word)).collect();
-            assert_eq!(found.iter().map(Refusal::number).collect::<Vec<_>>(), [number]);
+            assert_eq!(Refusal::of(number, 0).or(Refusal::of(number, 1)).map(|refusal| refusal.number()), Some(number));
+            assert_eq!(Refusal::of_code(number).is_none(), with_argument.contains(&number), "{number}");
         }
     }
 }
