@@ -1,1 +1,3 @@
 mod Overs
+mod Lefts
+mod News

@@ -1,10 +1,12 @@
 //! Runs a script of standard input over rows in lists, and prints its lines.
 #![tactic(auto)]
+ghost use Rattle.list_run.specs.Runs.{Runs};
 
 use rows_cell::ListRecords;
 use script_cell::script;
 use settings_core::Settings;
-use std::io::BufWriter;
+use std::alloc::Global;
+use std::io::{BufWriter, Read, Write};
 use std::process::ExitCode;
 
 /// Memory runs out before the script begins.
@@ -16,21 +18,27 @@ fn main(rt: HostRuntime) -> ExitCode {
 
 fn run(rt: &HostRuntime) -> u8 {
     let alloc = rt.alloc();
-    let Ok(settings) = Settings::standard(alloc) else {
-        return NO_MEMORY;
-    };
     let Ok(mut output) = BufWriter::new(alloc, rt.stdout()) else {
         return NO_MEMORY;
     };
-    let Ok(records) = ListRecords::new(alloc, &settings) else {
+    run_new(alloc, rt.reader(), &mut output, rt.stderr())
+}
+
+/// Runs a script over the rows of a new cell in lists, with the standard settings, and answers the exit status: that of the
+/// script, or 4 where memory runs out before it begins.
+fn run_new<I: Read + Drop, W: Write>(
+    alloc: Global,
+    reader: I,
+    writer: &mut W,
+    errors: impl Write + Drop,
+) -> u8
+    ensures { Runs result (I.remaining reader) (W.contents writer.old) (W.contents writer.new) }
+{
+    let Ok(settings) = Settings::standard(alloc) else {
         return NO_MEMORY;
     };
-    script(
-        alloc,
-        &settings,
-        records,
-        rt.reader(),
-        &mut output,
-        rt.stderr(),
-    )
+    match ListRecords::new(alloc, &settings) {
+        Ok(records) => script(alloc, &settings, records, reader, writer, errors),
+        Err(_) => NO_MEMORY,
+    }
 }

@@ -8,10 +8,12 @@ pub mod Writings
 pub mod Hearings
 pub mod Streaming
 pub mod Passages
+pub mod Fronts
 pub mod Served
 pub mod Standings
 pub mod HeldBack
 pub mod HeldKept
 pub mod HeldSweeps
 pub mod Grouped
+pub mod Doubts
 pub mod Gathering

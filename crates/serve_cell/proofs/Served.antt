@@ -72,7 +72,7 @@ ends_stopped Unread lease text there rest before between after old mid new s t =
 ends_stopped NoMemory lease text there rest before between after old mid new s t =
     (mid, there, served_kept lease text there before between after old mid s t.1, t.0)
 ends_stopped Unwritten lease text there rest before between after old mid new s t =
-    (s.answers ++ t.0 ∷ [], rest, turns_more lease text there rest old mid new s.answers t.0 s.turns t.1)
+    (mid, there, between, s, (rest, t))
 
 pub ends_roomless : (lease : ℕ) (text : Known) (old : Hosted) (before : Known) → Ends lease text old (Err NoMemory) old before before
 ends_roomless lease text old before = (old, text, served_none lease text old before, inl refl)
@@ -93,7 +93,8 @@ turn_told On lease text rest before after old new reply d told =
 turn_told Over lease text rest before after old new reply d told = absurd told
 turn_told (Stopped Unread) lease text rest before after old new reply d told = absurd told
 turn_told (Stopped NoMemory) lease text rest before after old new reply d told = (inr (reply, rest, d), told)
-turn_told (Stopped Unwritten) lease text rest before after old new reply d told = (record { reply = reply; deadline = told.0 }, turn_of lease text rest old new reply told.0 d told.1)
+turn_told (Stopped Unwritten) lease text rest before after old new reply d told =
+    (record { reply = reply; deadline = told.0 }, told.2.0, turn_of lease text rest old new reply told.0 d told.1, told.2.1, told.2.2)
 
 -- with a deadline that there is
 pub told_due : (turned : Turned) (master : Option MasterState) (reply : Reply) (deadline : Option ℕ) (before after : Known) → IsDue master deadline → IsWritten turned reply deadline before after
@@ -102,7 +103,7 @@ told_due On master reply deadline before after due w = (deadline, due, w)
 told_due Over master reply deadline before after due w = absurd w
 told_due (Stopped Unread) master reply deadline before after due w = absurd w
 told_due (Stopped NoMemory) master reply deadline before after due w = w
-told_due (Stopped Unwritten) master reply deadline before after due w = (deadline, due)
+told_due (Stopped Unwritten) master reply deadline before after due w = (deadline, due, w)
 
 -- where the seat that was told of is the one that did the frame
 pub told_same : (turned : Turned) (done told : Hosted) (reply : Reply) (before after : Known) → told ≡ done → IsTold turned done.master reply before after → IsTold turned told.master reply before after

@@ -26,7 +26,7 @@ use Rattle.serve_cell.specs.declared.gathers.Tried.{Tried}
 use Rattle.serve_cell.specs.declared.gathers.Tried.TheVariants as tries
 use Rattle.serve_cell.specs.Seats.{Hosted, with_master, without_master, Does, IsDue}
 use Rattle.serve_cell.specs.Replies.{all_told, AreBlocks}
-use Rattle.serve_cell.specs.Streams.{FrameIs, FoundFrame, Answer, Turns, AreAnswers, MaybeOne}
+use Rattle.serve_cell.specs.Streams.{FrameIs, FoundFrame, Answer, Turns, AreAnswers, AppendsFront, MaybeOne}
 
 abbrev Known : Type 0
 Known = Option (List ℕ)
@@ -80,15 +80,22 @@ pub record ServedGroups (lease : ℕ) (text : Known) (old new : Hosted) (rest be
 abbrev pub MaybeLost : Hosted → Hosted → Type 0
 MaybeLost old new = (new ≡ old) ⊎ (new ≡ without_master old.store)
 
+-- a group was done and committed, and a front of all that is told of it was written
+abbrev pub BreaksGroup : ℕ → Known → Hosted → Hosted → Known → Known → Known → Type 0
+BreaksGroup lease text old new rest before after =
+    (group : List Answer) × (bytes : List ℕ) × TakesGroup lease text old group new rest × AreAnswers group bytes × AppendsFront before after bytes
+
 -- all frames of a text were done and told of; or those of the groups before one that couldn't be read, for which there was no memory, or
--- which the store refused; or groups were done, and what is told of one of them couldn't be written
+-- which the store refused; or those before one that was done, a front alone of what is told of it
 abbrev pub EndsGroups : ℕ → Known → Hosted → Result (Unit {0}) GroupStop → Hosted → Known → Known → Type 0
 EndsGroups lease text old (Ok x) new before after = (rest : Known) × ServedGroups lease text old new rest before after × IsAtEnd rest
 EndsGroups lease text old (Err (Stopped Unread)) new before after =
     (mid : Hosted) × (rest : Known) × ServedGroups lease text old mid rest before after × MaybeLost mid new
 EndsGroups lease text old (Err (Stopped NoMemory)) new before after =
     (mid : Hosted) × (rest : Known) × ServedGroups lease text old mid rest before after × (MaybeOne lease rest mid new ⊎ MaybeLost mid new)
-EndsGroups lease text old (Err (Stopped Unwritten)) new before after = (groups : List (List Answer)) × (rest : Known) × Groups lease text old groups new rest
+EndsGroups lease text old (Err (Stopped Unwritten)) new before after =
+    (mid : Hosted) × (rest : Known) × (between : Known) × ServedGroups lease text old mid rest before between
+    × ((behind : Known) × BreaksGroup lease rest mid new behind between after)
 EndsGroups lease text old (Err (Refused fault)) new before after =
     (mid : Hosted) × (rest : Known) × ServedGroups lease text old mid rest before after × LostGroup lease rest mid fault new
 
@@ -202,10 +209,10 @@ pub record IsLostAs (fault : Fault) (group : GroupState) (new : Hosted) : Type 0
   pub refused : IsRefused fault group.held group.store new.store
   pub gone : new.master ≡ None
 
--- what is held back was committed, and what is told was written then; or the store refused it, and nothing was written
+-- what is held back was committed, and what is told was written then, or a front of it; or the store refused it, and nothing was written
 abbrev pub Keeps : GroupState → List ℕ → Course → Hosted → Known → Known → Type 0
 Keeps group told courses.On new before after = IsKeptAs group new × Appends before after told
 Keeps group told courses.Over new before after = ⊥
-Keeps group told (courses.Ends (Stopped Unwritten)) new before after = IsKeptAs group new
+Keeps group told (courses.Ends (Stopped Unwritten)) new before after = IsKeptAs group new × AppendsFront before after told
 Keeps group told (courses.Ends (Stopped stop)) new before after = ⊥
 Keeps group told (courses.Ends (Refused fault)) new before after = IsLostAs fault group new × (after ≡ before)

@@ -69,6 +69,12 @@ abbrev pub FoundFrame : Option (Result Frame WireFault) → Option (List ℕ) �
 FoundFrame None text rest = IsAtEnd text
 FoundFrame (Some sent) text rest = FrameIs text sent rest
 
+-- ---- writing
+
+-- known bytes grow by a front of these
+abbrev pub AppendsFront : Option (List ℕ) → Option (List ℕ) → List ℕ → Type 0
+AppendsFront before after bytes = (front : List ℕ) × (left : List ℕ) × (bytes ≡ front ++ left) × Appends before after front
+
 -- ---- answering
 
 -- what was answered to a frame, and when there is something to do next
@@ -113,14 +119,21 @@ pub record Served (lease : ℕ) (text : Option (List ℕ)) (old new : Hosted) (r
 abbrev pub MaybeOne : ℕ → Option (List ℕ) → Hosted → Hosted → Type 0
 MaybeOne lease text old new = (new ≡ old) ⊎ ((reply : Reply) × (rest : Option (List ℕ)) × Done lease text old reply new rest)
 
+-- a frame was read and done, and a front of all that is told of it was written
+abbrev pub BreaksOff : ℕ → Option (List ℕ) → Hosted → Hosted → Option (List ℕ) → Option (List ℕ) → Option (List ℕ) → Type 0
+BreaksOff lease text old new rest before after =
+    (answer : Answer) × (bytes : List ℕ) × Turn lease text old answer new rest × AreBlocks (answer_told answer) bytes × AppendsFront before after bytes
+
 -- all frames of a text were done and answered; or those before one that couldn't be read; or those before one that may
--- be done, whose answer found no memory; or frames were done, the answer to one of which couldn't be written
+-- be done, whose answer found no memory; or those before one that was done, of whose answer a front alone was written
 abbrev pub Ends : ℕ → Option (List ℕ) → Hosted → Result (Unit {0}) Stop → Hosted → Option (List ℕ) → Option (List ℕ) → Type 0
 Ends lease text old (Ok x) new before after = (rest : Option (List ℕ)) × Served lease text old new rest before after × IsAtEnd rest
 Ends lease text old (Err Unread) new before after = (rest : Option (List ℕ)) × Served lease text old new rest before after
 Ends lease text old (Err NoMemory) new before after =
     (mid : Hosted) × (rest : Option (List ℕ)) × Served lease text old mid rest before after × MaybeOne lease rest mid new
-Ends lease text old (Err Unwritten) new before after = (answers : List Answer) × (rest : Option (List ℕ)) × Turns lease text old answers new rest
+Ends lease text old (Err Unwritten) new before after =
+    (mid : Hosted) × (rest : Option (List ℕ)) × (between : Option (List ℕ)) × Served lease text old mid rest before between
+    × ((behind : Option (List ℕ)) × BreaksOff lease rest mid new behind between after)
 
 -- what one turn did: a frame was answered, or none is left; or it stopped so
 abbrev pub TakesTurn : ℕ → Option (List ℕ) → Hosted → Turned → Hosted → Option (List ℕ) → Option (List ℕ) → Option (List ℕ) → Type 0
@@ -129,22 +142,22 @@ TakesTurn lease text old On new rest before after =
 TakesTurn lease text old Over new rest before after = IsAtEnd text × (new ≡ old) × (after ≡ before)
 TakesTurn lease text old (Stopped Unread) new rest before after = (new ≡ old) × (after ≡ before)
 TakesTurn lease text old (Stopped NoMemory) new rest before after = MaybeOne lease text old new × (after ≡ before)
-TakesTurn lease text old (Stopped Unwritten) new rest before after = (answer : Answer) × Turn lease text old answer new rest
+TakesTurn lease text old (Stopped Unwritten) new rest before after = BreaksOff lease text old new rest before after
 
--- all that is told of a frame, with a deadline, was written; or there is no memory for it, or it can't be written
+-- all that is told of a frame, with a deadline, was written; or there is no memory for it, or a front of it alone was written
 abbrev pub IsWritten : Turned → Reply → Option ℕ → Option (List ℕ) → Option (List ℕ) → Type 0
 IsWritten On reply deadline before after = (bytes : List ℕ) × AreBlocks (all_told reply deadline) bytes × Appends before after bytes
 IsWritten Over reply deadline before after = ⊥
 IsWritten (Stopped NoMemory) reply deadline before after = after ≡ before
-IsWritten (Stopped Unwritten) reply deadline before after = ⊤
+IsWritten (Stopped Unwritten) reply deadline before after = (bytes : List ℕ) × AreBlocks (all_told reply deadline) bytes × AppendsFront before after bytes
 IsWritten (Stopped Unread) reply deadline before after = ⊥
 
--- all that is told of a frame was written, with the deadline of what is hosted, or couldn't be; or there is no memory for it
+-- all that is told of a frame was written, with the deadline of what is hosted, or a front of it alone; or there is no memory for it
 abbrev pub IsTold : Turned → Option MasterState → Reply → Option (List ℕ) → Option (List ℕ) → Type 0
 IsTold On master reply before after = (deadline : Option ℕ) × IsDue master deadline × IsWritten On reply deadline before after
 IsTold Over master reply before after = ⊥
 IsTold (Stopped NoMemory) master reply before after = after ≡ before
-IsTold (Stopped Unwritten) master reply before after = (deadline : Option ℕ) × IsDue master deadline
+IsTold (Stopped Unwritten) master reply before after = (deadline : Option ℕ) × IsDue master deadline × IsWritten (Stopped Unwritten) reply deadline before after
 IsTold (Stopped Unread) master reply before after = ⊥
 
 -- what was found was done, and told of so; or nothing was found

@@ -22,6 +22,7 @@ mod stops;
 mod streams;
 mod sweeping;
 mod tellings;
+mod writes;
 
 pub use answers::{Answered, answer};
 pub use blocks::{ANSWER_LIMIT, BLOCK_LIMIT};

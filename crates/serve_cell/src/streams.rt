@@ -1,6 +1,5 @@
 //! The frames of a stream are answered one behind the other.
-ghost use Rattle.std.specs.Prelude.{◌≡◌, ◌≤◌, length, IfOk, OnOk};
-ghost use Rattle.std.specs.Io.KnownBytes.{Appends};
+ghost use Rattle.std.specs.Prelude.{◌≡◌, ◌≤◌, length, IfOk};
 ghost use Rattle.serve_cell.specs.Seats.{hosted};
 ghost use Rattle.serve_cell.specs.Streams.{Ends, TakesTurn, IsWritten, IsTold, DoesFound};
 
@@ -10,9 +9,10 @@ use crate::inputs::next_frame;
 use crate::outputs::write_reply;
 use crate::seats::{Reply, Seat};
 use crate::stops::Stop;
+use crate::writes::write_bytes;
 use rows_cell::Records;
 use std::alloc::{AllocError, Global};
-use std::io::{self, Read, Write};
+use std::io::{Read, Write};
 use wire_core::WireFault;
 
 /// What became of one turn.
@@ -146,11 +146,4 @@ fn tell_all<W: Write>(alloc: Global, reply: &Reply, deadline: Option<u64>, write
         },
         Err(_) => Turned::Stopped(Stop::NoMemory),
     }
-}
-
-pub(crate) fn write_bytes<W: Write>(writer: &mut W, bytes: &[u8]) -> io::Result<()>
-    ensures { OnOk result (Appends (W.contents writer.old) (W.contents writer.new) bytes.now) }
-{
-    writer.write_all(bytes)?;
-    writer.flush()
 }

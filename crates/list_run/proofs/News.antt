@@ -1,0 +1,19 @@
+-- A script over the rows of a new cell in lists.
+use Rattle.std.proofs.Common.{◌≡◌, inl, ℕ, List, [], ◌∷◌, Option, sym, subst}
+use Rattle.settings_core.specs.Settings.{Settled, standard}
+use Rattle.rows_cell.specs.declared.tables.Rows.{Rows}
+use Rattle.rows_cell.specs.Opening.{opening}
+use Rattle.rows_cell.specs.Stores.{Store}
+use Rattle.world_core.specs.World.{opened}
+use Rattle.script_cell.specs.Ran.{RunsSurely}
+use Rattle.list_run.specs.Runs.{Runs}
+
+abbrev store_of : Rows → Store
+store_of rows = record { cell = rows.cell; rows = rows; may_leave = rows ∷ []; refusals = 0; doubt = 0 }
+
+pub runs_new : (status : ℕ) (rows : Rows) (settings : Settled) (text before after : Option (List ℕ)) → rows ≡ opening settings → settings ≡ standard
+    → RunsSurely status text (opened (store_of rows) settings.lease) before after → Runs status text before after
+runs_new status rows settings text before after is same ran =
+    let P : Rows → Type 0 = λ r. RunsSurely status text (opened (store_of r) settings.lease) before after in
+    let Q : Settled → Type 0 = λ s. RunsSurely status text (opened (store_of (opening s)) s.lease) before after in
+    inl (subst Q same (subst P is ran))
