@@ -71,15 +71,42 @@ pub(crate) fn parts<'l, 'a>(
     Ok(parts)
 }
 
-/// Puts bytes in hexadecimal, in any number of words, behind others.
+const NO_BYTES: Stop = Stop::Bad("not bytes in hexadecimal");
+
+/// Puts bytes in hexadecimal, in any number of words, behind others. The word `fill:N:HH` is N times this byte.
 pub(crate) fn put_digits(alloc: Global, bytes: &mut Vec<u8>, digits: &str) -> Result<(), Stop> {
     for word in digits.split(' ') {
-        let Ok(some) = hex::decode(alloc, word) else {
-            return Err(Stop::Bad("not bytes in hexadecimal"));
-        };
-        bytes.extend_from_slice(some.as_slice())?;
+        match word.strip_prefix("fill:") {
+            Some(fill) => put_fill(alloc, bytes, fill)?,
+            None => put_word(alloc, bytes, word)?,
+        }
     }
     Ok(())
+}
+
+fn put_word(alloc: Global, bytes: &mut Vec<u8>, word: &str) -> Result<(), Stop> {
+    let Ok(some) = hex::decode(alloc, word) else {
+        return Err(NO_BYTES);
+    };
+    Ok(bytes.extend_from_slice(some.as_slice())?)
+}
+
+// A count, and behind a colon the byte that stands so often.
+fn put_fill(alloc: Global, bytes: &mut Vec<u8>, word: &str) -> Result<(), Stop> {
+    let Some((count, digits)) = word.split_once(':') else {
+        return Err(NO_BYTES);
+    };
+    let Ok(count) = count.parse::<usize>() else {
+        return Err(NO_BYTES);
+    };
+    let Ok(some) = hex::decode(alloc, digits) else {
+        return Err(NO_BYTES);
+    };
+    let [byte] = some.as_slice() else {
+        return Err(NO_BYTES);
+    };
+    let end = bytes.len().saturating_add(count);
+    Ok(bytes.resize(end, *byte)?)
 }
 
 impl<'l, 'a> Part<'l, 'a> {
