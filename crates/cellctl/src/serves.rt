@@ -35,9 +35,6 @@ pub(crate) struct Frames<I, E> {
     pub(crate) errors: E,
 }
 
-/// The status behind the last frame, and the files of the store, which is closed.
-type Served<D> = Result<(u8, Files<D>), Unclosed<D>>;
-
 /// Answers the frames of standard input over the store in the file at a path, which is made where there is none, with the
 /// settings of a file or the standard ones. At the end the store is closed: its rows stand in the one file. Where it can't be
 /// opened, taken over or closed, the words of it go to the standard error, and the status is 3.
@@ -105,7 +102,7 @@ fn serve_file<S: Start, I: Read + Drop, W: Write, E: Write + Drop>(
     start: S,
     frames: Frames<I, E>,
     writer: &mut W,
-) -> Served<FileFrom<S>>
+) -> Result<(u8, Files<FileFrom<S>>), Unclosed<FileFrom<S>>>
     ensures closed { IfOk result (λ r. AreClean ⟦<FileFrom<S> as Disk>⟧ r.1.log r.1.db → ServedAt ⟦<FileFrom<S> as Disk>⟧ settings.now (image_at S.Start) (I.remaining frames.reader) r.0 r.1 (W.contents writer.old) (W.contents writer.new)) }
     ensures left { IfErr result (LeavesAt settings.now (image_at S.Start) (FramesLead settings.now.lease (I.remaining frames.reader) (W.contents writer.old) (W.contents writer.new)) (W.contents writer.old) (W.contents writer.new)) }
     ensures status { IfOk result (λ r. IsExit r.0) }
@@ -116,15 +113,15 @@ fn serve_file<S: Start, I: Read + Drop, W: Write, E: Write + Drop>(
     }
 }
 
-/// Takes the store of a connection over, answers all frames, and closes it, whatever the status: so its rows stand in the
-/// database file alone.
+/// Takes the store of a connection over, answers all frames, gives the status behind the last one, and closes the store, whatever
+/// that is: so its rows stand in the database file alone.
 fn serve_store<D: Disk + Drop, I: Read + Drop, W: Write, E: Write + Drop>(
     alloc: Global,
     settings: &Settings,
     conn: Connection<FileStore<D>>,
     frames: Frames<I, E>,
     writer: &mut W,
-) -> Served<D>
+) -> Result<(u8, Files<D>), Unclosed<D>>
     // Where nobody else wrote the files, and the disk gave back what was written: the frames led from the rows that they had
     // to those that they have.
     ensures closed { IfOk result (λ r. AreClean D.Disk r.1.log r.1.db → ServedOver D.Disk settings.now (file_state conn) (I.remaining frames.reader) r.0 r.1 (W.contents writer.old) (W.contents writer.new)) }
@@ -144,7 +141,7 @@ fn serve_store<D: Disk + Drop, I: Read + Drop, W: Write, E: Write + Drop>(
 }
 
 /// Answers all frames, and gives the status behind the last one.
-pub(crate) fn serve_seat<R: Records + Drop, I: Read + Drop, W: Write, E: Write + Drop>(
+pub(crate) fn serve_seat<R: Records, I: Read + Drop, W: Write, E: Write + Drop>(
     alloc: Global,
     settings: &Settings,
     seat: Seat<R>,

@@ -184,7 +184,7 @@ ends_groups_grow lease text a (Err (Stopped NoMemory)) b before after e =
     chain a.store.doubt e.0.store.doubt b.store.doubt (groups_grow lease text a e.2.groups e.0 e.1 e.2.done)
     (elim e.3 [ inl one ↦ one_grows lease e.1 e.0 b one | inr lost ↦ lost_grows e.0 b lost ])
 ends_groups_grow lease text a (Err (Stopped Unwritten)) b before after e =
-    chain a.store.doubt e.0.store.doubt b.store.doubt (groups_grow lease text a e.3.groups e.0 e.1 e.3.done)
-    (takes_grow lease e.1 e.0 e.4.1 b e.4.0 e.4.3)
+    chain a.store.doubt e.0.store.doubt b.store.doubt (groups_grow lease text a e.4.groups e.0 e.1 e.4.done)
+    (takes_grow lease e.1 e.0 e.5.0 b e.2 e.5.2)
 ends_groups_grow lease text a (Err (Refused fault)) b before after e =
     chain a.store.doubt e.0.store.doubt b.store.doubt (groups_grow lease text a e.2.groups e.0 e.1 e.2.done) e.3.refused.doubted

@@ -83,7 +83,7 @@ ends_then (Err (Stopped Unread)) lease text there before between after old mid n
 ends_then (Err (Stopped NoMemory)) lease text there before between after old mid new s e =
     (e.0, e.1, served_then lease text there e.1 before between after old mid e.0 s e.2, e.3)
 ends_then (Err (Stopped Unwritten)) lease text there before between after old mid new s e =
-    (e.0, e.1, e.2, served_then lease text there e.1 before between e.2 old mid e.0 s e.3, e.4)
+    (e.0, e.1, e.2, e.3, served_then lease text there e.1 before between e.3 old mid e.0 s e.4, e.5)
 ends_then (Err (Refused fault)) lease text there before between after old mid new s e =
     (e.0, e.1, served_then lease text there e.1 before between after old mid e.0 s e.2, e.3)
 
@@ -139,7 +139,7 @@ turn_goes (turned_as.Stopped NoMemory) lease text rest before after old new t =
 turn_goes (turned_as.Stopped Unwritten) lease text rest before after old new t =
     let group : TakesGroup lease text old (t.0 ∷ []) new rest = inl (new, rest, t.2, (refl, refl)) in
     let told : AreAnswers (t.0 ∷ []) t.1 = (t.1, [], t.3, refl, sym (append-nil t.1)) in
-    (old, text, before, served_none lease text old before, (rest, (t.0 ∷ [], t.1, group, told, t.4)))
+    (old, text, rest, before, served_none lease text old before, (t.0 ∷ [], t.1, group, told, t.4))
 
 pub alone_goes : (lease : ℕ) (found : Option (Result Frame WireFault)) (turned : Turned) (course : Course) (here before after : Known) (old new : Hosted) → course ≡ course_of turned
     → DoesFound lease found old turned new before after → GoesBy lease found here old course new here before after
@@ -213,7 +213,7 @@ kept_goes (courses.Ends (Stopped NoMemory)) lease text there before after first 
 kept_goes (courses.Ends (Stopped Unwritten)) lease text there before after first group told new none g k =
     let old = together first in
     let P : List ℕ → Type 0 = λ u. AppendsFront before after u in
-    (old, text, before, served_none lease text old before, (there, (g.answers, g.bytes, inr (kept_group lease text there first group told new none g k.0), g.told, subst P g.behind k.1)))
+    (old, text, there, before, served_none lease text old before, (g.answers, g.bytes, inr (kept_group lease text there first group told new none g k.0), g.told, subst P g.behind k.1))
 kept_goes (courses.Ends (Refused fault)) lease text there before after first group told new none g k =
     let old = together first in
     (old, text, served_as lease text text before before after old old old (served_none lease text old before) refl k.1, lost_group fault lease text there first group told new none g k.0)

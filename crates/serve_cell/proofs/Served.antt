@@ -72,7 +72,7 @@ ends_stopped Unread lease text there rest before between after old mid new s t =
 ends_stopped NoMemory lease text there rest before between after old mid new s t =
     (mid, there, served_kept lease text there before between after old mid s t.1, t.0)
 ends_stopped Unwritten lease text there rest before between after old mid new s t =
-    (mid, there, between, s, (rest, t))
+    (mid, there, rest, between, s, t)
 
 pub ends_roomless : (lease : ℕ) (text : Known) (old : Hosted) (before : Known) → Ends lease text old (Err NoMemory) old before before
 ends_roomless lease text old before = (old, text, served_none lease text old before, inl refl)

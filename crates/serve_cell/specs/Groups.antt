@@ -94,8 +94,8 @@ EndsGroups lease text old (Err (Stopped Unread)) new before after =
 EndsGroups lease text old (Err (Stopped NoMemory)) new before after =
     (mid : Hosted) × (rest : Known) × ServedGroups lease text old mid rest before after × (MaybeOne lease rest mid new ⊎ MaybeLost mid new)
 EndsGroups lease text old (Err (Stopped Unwritten)) new before after =
-    (mid : Hosted) × (rest : Known) × (between : Known) × ServedGroups lease text old mid rest before between
-    × ((behind : Known) × BreaksGroup lease rest mid new behind between after)
+    (mid : Hosted) × (rest : Known) × (behind : Known) × (between : Known)
+    × ServedGroups lease text old mid rest before between × BreaksGroup lease rest mid new behind between after
 EndsGroups lease text old (Err (Refused fault)) new before after =
     (mid : Hosted) × (rest : Known) × ServedGroups lease text old mid rest before after × LostGroup lease rest mid fault new
 

@@ -132,8 +132,8 @@ Ends lease text old (Err Unread) new before after = (rest : Option (List ℕ)) �
 Ends lease text old (Err NoMemory) new before after =
     (mid : Hosted) × (rest : Option (List ℕ)) × Served lease text old mid rest before after × MaybeOne lease rest mid new
 Ends lease text old (Err Unwritten) new before after =
-    (mid : Hosted) × (rest : Option (List ℕ)) × (between : Option (List ℕ)) × Served lease text old mid rest before between
-    × ((behind : Option (List ℕ)) × BreaksOff lease rest mid new behind between after)
+    (mid : Hosted) × (rest : Option (List ℕ)) × (behind : Option (List ℕ)) × (between : Option (List ℕ))
+    × Served lease text old mid rest before between × BreaksOff lease rest mid new behind between after
 
 -- what one turn did: a frame was answered, or none is left; or it stopped so
 abbrev pub TakesTurn : ℕ → Option (List ℕ) → Hosted → Turned → Hosted → Option (List ℕ) → Option (List ℕ) → Option (List ℕ) → Type 0
