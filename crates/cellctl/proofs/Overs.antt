@@ -13,10 +13,15 @@ use Rattle.rows_cell.specs.Stores.{Store}
 use Rattle.world_core.specs.World.{WorldView, IsUndoubted, opened, store_in}
 use Rattle.script_cell.specs.Ran.{EndsWith, EndsWell, EndsSurely}
 use Rattle.serve_cell.specs.Seats.{Hosted, without_master}
+use Rattle.serve_cell.specs.declared.stops.Stop.TheVariants.{NoMemory}
+use Rattle.serve_cell.specs.declared.stops.GroupStop.{GroupStop}
+use Rattle.serve_cell.specs.declared.stops.GroupStop.TheVariants.{Stopped}
+use Rattle.serve_cell.specs.Groups.{EndsGroups}
 use Rattle.serve_cell.proofs.Doubts.{ends_groups_grow}
+use Rattle.serve_cell.proofs.Grouped.{ends_roomless as roomless}
 use Rattle.rows_sql.specs.Adopting.{Adopts}
 use Rattle.rows_sql.specs.Closed.{StandsAlone}
-use Rattle.cellctl.specs.Led.{Known, ScriptLeads, ScriptLeadsSurely, EndsServing, FramesLead}
+use Rattle.cellctl.specs.Led.{Known, ScriptLeads, ScriptLeadsSurely, served_status, EndsServing, FramesLead}
 use Rattle.cellctl.specs.Closed.{taken, DoneOver, DoneAt}
 
 -- ---- a store that was taken over
@@ -88,6 +93,14 @@ module _ (lease : ℕ) (text before after : Known) (status : ℕ) (first last : 
       (sym (ap (λ (w : WorldView). w.doubt) opens) ∙ end.0, (new, subst (λ w. EndsWith status (EndsSurely text w new) before after) opens end.1, closes))
 
 -- ---- frames
+
+pub ends_serving : (lease : ℕ) (text there before after : Known) (status : ℕ) (ended : Result (Unit {0}) GroupStop) (old new : Hosted) → there ≡ text → status ≡ served_status ended
+    → EndsGroups lease there old ended new before after → EndsServing lease text before after status old new
+ends_serving lease text there before after status ended old new same is e = (ended, is, subst (λ u. EndsGroups lease u old ended new before after) same e)
+
+-- before the first, for want of memory
+pub ends_roomless : (lease : ℕ) (text before : Known) (old : Hosted) → EndsServing lease text before before 4 old old
+ends_roomless lease text before old = (Err (Stopped NoMemory), refl, roomless lease text old before)
 
 module _ (lease : ℕ) (text before after : Known) (status : ℕ) (first last : Store) (old new : Hosted) (opens : old ≡ without_master first) (closes : last ≡ new.store)
     (served : EndsServing lease text before after status old new) where

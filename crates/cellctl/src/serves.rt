@@ -166,8 +166,9 @@ fn ended_status(ended: &Result<(), GroupStop>) -> u8
 {
     match ended {
         Ok(()) => 0,
+        Err(GroupStop::Stopped(Stop::Unread)) => 1,
+        Err(GroupStop::Stopped(Stop::Unwritten)) => 1,
         Err(GroupStop::Stopped(Stop::NoMemory)) => 4,
-        Err(GroupStop::Stopped(_)) => 1,
         Err(GroupStop::Refused(_)) => 3,
     }
 }
