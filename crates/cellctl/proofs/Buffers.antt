@@ -1,5 +1,6 @@
 -- What a reader with a buffer has left.
-use Rattle.std.proofs.Common.{◌≡◌, ℕ, List, [], Option, None, ap, ◌∙◌, if◌then◌else◌, ◌==◌}
+use Rattle.std.proofs.Common.{◌≡◌, ℕ, List, [], Option, None, ap, ◌∙◌}
+use Rattle.std.specs.Prelude.{if◌then◌else◌, ◌==◌}
 use Rattle.std.specs.Io.Buffered.{reader_inner, reader_buffer, reader_capacity, reader_remaining}
 use Rattle.std.specs.Io.KnownBytes.{prepend_known}
 use Rattle.std.proofs.KnownBytes.{prepend_known-nil}

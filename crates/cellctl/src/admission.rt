@@ -68,13 +68,7 @@ pub(crate) fn admit_served(
     admit_as(rt, chosen, path, log, false)
 }
 
-fn admit_as(
-    rt: &HostRuntime,
-    chosen: &Chosen,
-    path: &str,
-    log: &str,
-    warns: bool,
-) -> Result<(), u8>
+fn admit_as(rt: &HostRuntime, chosen: &Chosen, path: &str, log: &str, warns: bool) -> Result<(), u8>
     ensures { IfErr result IsExit }
 {
     match Connection::open_from(rt, path, false, Unknown) {

@@ -63,8 +63,7 @@ fn serve_pipes(
                 errors: rt.stderr(),
             };
             let seat = Seat::Down(records);
-            let (seat, status) =
-                serve_seat(rt.alloc(), settings, seat, frames, &mut rt.stdout());
+            let (seat, status) = serve_seat(rt.alloc(), settings, seat, frames, &mut rt.stdout());
             drop(seat.close());
             Ok(status)
         }

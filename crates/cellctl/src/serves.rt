@@ -83,7 +83,14 @@ fn serve_real(rt: &HostRuntime, chosen: &Chosen, path: &str) -> Result<u8>
         reader: rt.reader(),
         errors: rt.stderr(),
     };
-    match serve_file(rt, &chosen.settings, path, Unknown, frames, &mut rt.stdout()) {
+    match serve_file(
+        rt,
+        &chosen.settings,
+        path,
+        Unknown,
+        frames,
+        &mut rt.stdout(),
+    ) {
         Ok((status, files)) => {
             let _ = fs::remove_file(rt, log.as_str());
             drop(files);

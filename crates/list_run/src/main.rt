@@ -1,5 +1,6 @@
 //! Runs a script of standard input over rows in lists, and prints its lines.
 #![tactic(auto)]
+
 ghost use Rattle.list_run.specs.Runs.{Runs};
 
 use rows_cell::ListRecords;

@@ -28,6 +28,8 @@ abbrev seen : List ℕ → List ℕ → Bool → List Event → List ℕ
 seen log db is_log history = (replay (cond is_log log db) history).seen
 
 pub returns-in-Err-clause-left : goal.returns-in-Err-clause-left
-returns-in-Err-clause-left g c =
-    (cant_open (λ files. IsFresh true files.log) (λ files. IsFresh false files.db) (image_at g.S.Start) c.in-Err.error c.in-Err.left
-    (λ files log db. ap₂ image (ap₂ (seen g.S.Start.log g.S.Start.db) log.0 log.1) (ap₂ (seen g.S.Start.log g.S.Start.db) db.0 db.1)) c.in-Err.ensures.cause, refl)
+returns-in-Err-clause-left g c = (
+  cant_open (λ files. IsFresh true files.log) (λ files. IsFresh false files.db) (image_at g.S.Start) c.in-Err.error c.in-Err.left
+      (λ files log db. ap₂ image (ap₂ (seen g.S.Start.log g.S.Start.db) log.0 log.1) (ap₂ (seen g.S.Start.log g.S.Start.db) db.0 db.1)) c.in-Err.ensures.cause,
+  refl,
+)
