@@ -1,5 +1,5 @@
 -- A script over the rows of a new cell in lists.
-use Rattle.std.proofs.Common.{◌≡◌, inl, ℕ, List, [], ◌∷◌, Option, sym, subst}
+use Rattle.std.proofs.Common.{◌≡◌, inl, ℕ, List, [], ◌∷◌, Option, Result, Ok, Err, sym, ap, ◌∙◌, subst}
 use Rattle.settings_core.specs.Settings.{Settled, standard}
 use Rattle.rows_cell.specs.declared.tables.Rows.{Rows}
 use Rattle.rows_cell.specs.Opening.{opening}
@@ -10,6 +10,13 @@ use Rattle.list_run.specs.Runs.{Runs}
 
 abbrev store_of : Rows → Store
 store_of rows = record { cell = rows.cell; rows = rows; may_leave = rows ∷ []; refusals = 0; doubt = 0 }
+
+abbrev settled_in : {E : Type 0} → Settled → Result Settled E → Settled
+settled_in other (Ok settings) = settings
+settled_in other (Err e) = other
+
+pub same_settings : {E : Type 0} (a b : Settled) (r : Result Settled E) → r ≡ Ok a → r ≡ Ok b → b ≡ a
+same_settings a b r p q = sym (ap (settled_in a) q) ∙ ap (settled_in a) p
 
 pub runs_new : (status : ℕ) (rows : Rows) (settings : Settled) (text before after : Option (List ℕ)) → rows ≡ opening settings → settings ≡ standard
     → RunsSurely status text (opened (store_of rows) settings.lease) before after → Runs status text before after
