@@ -10,3 +10,4 @@ mod Kept
 mod Looked
 mod Moved
 mod FirstIdle
+mod Tidied

@@ -22,3 +22,4 @@ pub mod StoredSessions
 pub mod State
 pub mod Ephemerals
 pub mod Candidates
+pub mod Tasks

@@ -1,7 +1,7 @@
 //! The ephemeral nodes that are to go by themselves.
 ghost use Rattle.std.specs.Prelude.{◌≡◌, find, IfOk};
 ghost use Rattle.std.specs.Option.{option_map};
-ghost use Rattle.cell_parts.specs.Ephemerals.{is_left, tidies, has_its_turn, goes, idle_of, idle_at, first_idle};
+ghost use Rattle.cell_parts.specs.Ephemerals.{is_left, tidies, goes, idle_of, idle_at, first_idle};
 
 use crate::nodes::is_ephemeral;
 use crate::pending::{Idle, Task};
@@ -55,7 +55,7 @@ fn goes(tables: &Tables, name: &Name, node: &Node) -> Result<bool, AllocError>
     ensures { IfOk result (λ goes_so. goes_so ≡ goes tables.now (name.now, node.now)) }
 {
     if is_left(tables, name, node)? {
-        Ok(!has_its_turn(tables, node.instance))
+        Ok(!tables.has_its_turn(node.instance))
     } else {
         Ok(false)
     }
@@ -72,19 +72,6 @@ pub(crate) fn is_left(tables: &Tables, name: &Name, node: &Node) -> Result<bool,
         return Ok(false);
     }
     Ok(!tables.must_stay(name)?)
-}
-
-// Whether the cell waits to delete the node already.
-fn has_its_turn(tables: &Tables, instance: u64) -> bool
-    ensures { result ≡ has_its_turn tables.now instance }
-{
-    tables
-        .queue()
-        .gate()
-        .changes()
-        .as_map()
-        .values()
-        .any(|waiting| tidies(instance, &waiting.change.body))
 }
 
 pub(crate) fn tidies(instance: u64, task: &Task) -> bool

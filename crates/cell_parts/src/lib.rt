@@ -13,6 +13,7 @@ mod open_handles;
 mod pending;
 mod rows;
 mod tables;
+mod tasks;
 mod walks;
 
 pub use calls::{

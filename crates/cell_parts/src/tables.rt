@@ -15,7 +15,7 @@ ghost use Rattle.session_core.specs.Session.{beat_fault, beaten, answered, keepi
 ghost use Rattle.session_core.specs.Sessions.{session_of, with_session, with_new, without, issued_by};
 ghost use Rattle.cell_parts.specs.Keys.{handle_order};
 ghost use Rattle.cell_parts.specs.OpenHandles.{state_at};
-ghost use Rattle.cell_parts.specs.Ephemerals.{is_held_open, must_stay, is_left, goes, first_to_go};
+ghost use Rattle.cell_parts.specs.Ephemerals.{is_held_open, must_stay, is_left, has_its_turn, goes, first_to_go};
 
 use crate::candidates::Candidates;
 use crate::ephemerals::{first_among, first_of_all, idle_at, is_left};
@@ -23,6 +23,7 @@ use crate::handles::{HandleKey, HandleState};
 use crate::nodes::Nodes;
 use crate::open_handles::Handles;
 use crate::pending::{Idle, Task};
+use crate::tasks::Tasks;
 use crate::walks::{
     add_parent, candidates_of, forget_node, lose_node, note_node, wake_held, wake_open, wake_tidied,
 };
@@ -44,7 +45,7 @@ pub struct Tables {
     nodes: Nodes,
     handles: Handles,
     sessions: Sessions<Reply>,
-    queue: Queue<Task>,
+    queue: Tasks,
     candidates: Candidates,
 }
 
@@ -70,7 +71,7 @@ impl Tables {
             nodes,
             handles: Handles::new(alloc),
             sessions,
-            queue: Queue::new(alloc),
+            queue: Tasks::new(alloc),
             candidates,
         }
     }
@@ -97,7 +98,7 @@ impl Tables {
     pub fn queue(&self) -> &Queue<Task>
         ensures { result.now ≡ self.now.queue }
     {
-        &self.queue
+        self.queue.queue()
     }
 
     /// Whether a handle of a live session is open on an instance.
@@ -122,6 +123,13 @@ impl Tables {
         ensures { IfOk result (λ left. left ≡ is_left self.now name.now node.now) }
     {
         is_left(self, name, node)
+    }
+
+    // Whether the cell waits to delete an instance already.
+    pub(crate) fn has_its_turn(&self, instance: u64) -> bool
+        ensures { result ≡ has_its_turn self.now instance }
+    {
+        self.queue.tidies(instance)
     }
 
     /// The first ephemeral node by name that is to go: nobody holds it open, it has no children and isn't the root, and

@@ -105,7 +105,7 @@ fn instance_open(state: Option<&HandleState>) -> Option<u64>
 }
 
 // The instance that a change deletes by itself.
-fn instance_tidied(change: Option<&Pending<Task>>) -> Option<u64>
+pub(crate) fn instance_tidied(change: Option<&Pending<Task>>) -> Option<u64>
     ensures { result ≡ instance_tidied (option_copied change.entry) }
 {
     let change = change?;

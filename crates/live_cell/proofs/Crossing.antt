@@ -28,6 +28,8 @@ use Rattle.cell_parts.proofs.nodes.Nodes.TheSendSync as nodes
 use Rattle.cell_parts.proofs.open_handles.Handles.TheSendSync as handles
 use Rattle.cell_parts.specs.contracts.pending.Task as Task
 use Rattle.cell_parts.proofs.pending.Task.TheSendSync as task
+use Rattle.cell_parts.specs.contracts.tasks.Tasks as Tasks
+use Rattle.cell_parts.specs.contracts.tasks.Tasks.TheInside as tasks_in
 use Rattle.cell_parts.specs.contracts.tables.Tables as Tables
 use Rattle.cell_parts.specs.contracts.tables.Tables.TheInside as tables_in
 use Rattle.cell_parts.proofs.candidates.Candidates.TheSendSync as candidates
@@ -69,11 +71,20 @@ queue_inside =
 queue_send : IsSend (Queue.the_row Task.the_row)
 queue_send = view_send (queue_in.the_row Task.the_row) _ _ _ _ queue_inside
 
+tasks_inside : IsSend tasks_in.the_row
+tasks_inside =
+    recorded_send (tasks_in.the_field).row _ _ (tasks_in.the_type).to_one
+    (struct_send (shape tasks_in.the_type)
+    (search (queue_send, table.the_send, both, sendable) depth 40))
+
+tasks_send : IsSend Tasks.the_row
+tasks_send = view_send tasks_in.the_row _ _ _ _ tasks_inside
+
 tables_inside : IsSend tables_in.the_row
 tables_inside =
     recorded_send (tables_in.the_field).row _ _ (tables_in.the_type).to_one
     (struct_send (shape tables_in.the_type)
-    (search (nodes.the_send, handles.the_send, sessions.the_send, reply.the_send, queue_send, candidates.the_send, both, sendable) depth 40))
+    (search (nodes.the_send, handles.the_send, sessions.the_send, reply.the_send, tasks_send, candidates.the_send, both, sendable) depth 40))
 
 tables_send : IsSend Tables.the_row
 tables_send = view_send tables_in.the_row _ _ _ _ tables_inside
