@@ -1,4 +1,4 @@
-use Rattle.std.proofs.Common.{◌≡◌, ℕ, false, Ok, rules, sym, ap, inr}
+use Rattle.std.proofs.Common.{◌≡◌, ◌<◌, ℕ, false, Ok, rules, sym, ap, inr}
 use Rattle.over_core.proofs.KeptByUps.{up_stands}
 use Rattle.node_core.specs.declared.refusals.Fault.{Fault}
 use Rattle.rows_cell.specs.declared.tables.Rows.{Rows}
@@ -7,6 +7,10 @@ use Rattle.over_core.specs.Up.{up_edits, up_step, up_commit, next_epoch}
 use Rattle.cell_state.specs.State.{MasterState, master_of}
 use Rattle.cell_core.specs.Step.{is_past_end}
 use Rattle.over_core.proofs.cells.next_master.Goals as goal
+
+-- a moment below the last is early
+before_end : (now : ℕ) → now < 9007199254740992 → is_past_end now ≡ false
+before_end now h = search rules
 
 -- where the next epoch's rows are sound, what a coming up commits is that epoch
 refused : (fault : Fault) (read new : Store) (rows : Rows) (lease now : ℕ) → is_past_end now ≡ false → next_epoch read.cell read.rows ≡ Ok rows → IsRefused fault (up_edits read.rows) read new → IsRefused fault (up_commit (up_step read.cell read.rows lease now) read.rows) read new
@@ -28,7 +32,7 @@ returns-in-Ok-clause-kept g c =
 
 pub returns-in-Ok-clause-ok : goal.returns-in-Ok-clause-ok
 returns-in-Ok-clause-ok g c =
-    let early : is_past_end c.args.now ≡ false = search rules in
+    let early : is_past_end c.args.now ≡ false = before_end c.args.now c.if-now-ge-MOMENT_LIMIT.false in
     record {
       read = g.R.Records.store c.next_rows.new.records;
       was_read = search rules;
@@ -38,7 +42,7 @@ returns-in-Ok-clause-ok g c =
 
 pub returns-in-Err-clause-fault : goal.returns-in-Err-clause-fault
 returns-in-Err-clause-fault g c =
-    let early : is_past_end c.args.now ≡ false = search rules in
+    let early : is_past_end c.args.now ≡ false = before_end c.args.now c.if-now-ge-MOMENT_LIMIT.false in
     let no : IsRefused c.in-Err.fault (up_edits (g.R.Records.store c.next_rows.new.records).rows) (g.R.Records.store c.next_rows.new.records) (g.R.Records.store c.commit_epoch.new.records) = search rules in
     inr (
       early,
