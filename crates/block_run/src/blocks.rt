@@ -6,11 +6,14 @@ use crate::stops::Stop;
 use crate::tables::Part;
 use crate::tellings::put_told;
 use crate::words::{put_out, put_request};
+use node_core::Line;
 use plain::Secret;
 use serve_cell::read_told;
 use std::alloc::Global;
 use tags_cell::{Handle, HandleFault, Out, Request, Sequencer, SequencerFault};
-use wire_core::{WireFault, read_out, read_request, write_out, write_request};
+use wire_core::{
+    WireFault, read_line, read_out, read_request, write_line, write_out, write_request,
+};
 
 // What is said behind the words of a message that is written as other bytes than those it was read from.
 const APART: &str = "; written as other bytes";
@@ -37,7 +40,17 @@ fn put_given(alloc: Global, text: &mut String, out: &Out, bytes: &[u8]) -> Resul
     put_written(text, write_out(alloc, out)?.as_slice(), bytes)
 }
 
-// By its kind: a message of a client, one of a master, what a program is told by its master, a handle, or a sequencer.
+fn put_printed(
+    alloc: Global,
+    text: &mut String,
+    line: &Line,
+    bytes: &[u8],
+) -> Result<(), WireFault> {
+    write!(text, "{line}")?;
+    put_written(text, write_line(alloc, line)?.as_slice(), bytes)
+}
+
+// By its kind: a message of a client, one of a master, a line, what a program is told by its master, a handle, or a sequencer.
 fn put_block(alloc: Global, text: &mut String, kind: &str, bytes: &[u8]) -> Result<(), WireFault> {
     match kind {
         "requests" => {
@@ -50,6 +63,12 @@ fn put_block(alloc: Global, text: &mut String, kind: &str, bytes: &[u8]) -> Resu
             let out = read_out(alloc, bytes)?;
             let put = put_given(alloc, text, &out, bytes);
             drop(out);
+            put
+        }
+        "lines" => {
+            let line = read_line(alloc, bytes)?;
+            let put = put_printed(alloc, text, &line, bytes);
+            drop(line);
             put
         }
         "tellings" => {

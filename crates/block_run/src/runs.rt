@@ -74,7 +74,7 @@ fn run_table(
     count: u64,
 ) -> Result<(), Stop> {
     match table.value("of") {
-        "requests" | "messages" | "tellings" | "handles" | "sequencers" => run_blocks(
+        "requests" | "messages" | "lines" | "tellings" | "handles" | "sequencers" => run_blocks(
             rt, report, table,
         ),
         "steps"

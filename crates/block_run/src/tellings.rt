@@ -55,10 +55,7 @@ fn put_message(text: &mut String, message: &Out) -> Result<(), AllocError> {
 /// Writes what a block tells.
 pub(crate) fn put_told(text: &mut String, told: &Told) -> Result<(), AllocError> {
     match told {
-        Told::Line(line) => match str::from_utf8(line.as_slice()) {
-            Ok(line) => write!(text, "line {line}"),
-            Err(_) => text.push_str("line that is no text"),
-        },
+        Told::Line(line) => write!(text, "line {line}"),
         Told::Message(client, message) => {
             let client = client.get();
             write!(text, "to {client} ")?;

@@ -6,12 +6,14 @@ use Rattle.std.proofs.lemmas.Bool.Decides.{nat_tests}
 use Rattle.std.proofs.lemmas.List.{length-drop, take_all}
 use Rattle.byteorder.specs.Endian.{big_number}
 use Rattle.tags_cell.specs.Numbers.{IsClientNumber, is_client_number}
+use Rattle.node_core.specs.declared.lines.Line.{Line}
 use Rattle.tags_cell.specs.declared.messages.outs.Out.{Out}
 use Rattle.wire_core.specs.declared.faults.WireFault.{WireFault}
-use Rattle.wire_core.specs.declared.faults.WireFault.TheVariants.{Cut, Extra, BadKind, BadNumber}
-use Rattle.wire_core.specs.Forms.{◌>>=◌, next_at, known, length_end, end_at, read_whole}
+use Rattle.wire_core.specs.declared.faults.WireFault.TheVariants.{TooLong, Cut, Extra, BadKind, BadNumber}
+use Rattle.wire_core.specs.Forms.{◌>>=◌, Form, version_at, next_at, known, length_end, end_at, read_whole}
 use Rattle.wire_core.specs.Fields.{word, client, block, optional_word}
 use Rattle.wire_core.specs.Outs.{out_message}
+use Rattle.wire_core.specs.Lines.{line}
 use Rattle.serve_cell.specs.declared.tellings.Told.{Told}
 use Rattle.serve_cell.specs.declared.tellings.Told.TheVariants as tells
 use Rattle.serve_cell.specs.declared.kinds.ToldKind.TheVariants as of
@@ -72,6 +74,24 @@ text_made make bytes text e = wraps make (block.read bytes) ∙ ap (λ (s : Resu
 
 pub text_refused : (make : List ℕ → Told) (bytes : List ℕ) (fault : WireFault) → all_of (block.read bytes) ≡ Err fault → all_of (block.read bytes >>= wrapped make) ≡ Err fault
 text_refused make bytes fault e = wraps make (block.read bytes) ∙ ap (λ (s : Result (List ℕ) WireFault). s >>= λ y. Ok (make y)) e
+
+-- ---- a line
+
+ends_behind : {X : Type 0} (f : Form X) (v : Result (List ℕ) WireFault) → all_of (v >>= λ rest. f.read rest) ≡ (v >>= λ rest. all_of (f.read rest))
+ends_behind f (Err e) = refl
+ends_behind f (Ok rest) = refl
+
+line_whole : (bytes : List ℕ) → length bytes < 2 ^ 32 → all_of (told_behind of.Line bytes) ≡ (read_whole line bytes >>= λ q. Ok (tells.Line q))
+line_whole bytes short =
+    wraps tells.Line (version_at bytes >>= λ rest. line.read rest)
+    ∙ ap (λ (r : Result Line WireFault). r >>= λ q. Ok (tells.Line q)) (ends_behind line (version_at bytes))
+    ∙ ap (λ (b : Bool). (cond b (version_at bytes) (Err TooLong) >>= λ rest. all_of (line.read rest)) >>= λ q. Ok (tells.Line q)) (sym (lt-ltb (length bytes) length_end short))
+
+pub line_reads : (bytes : List ℕ) (printed : Line) → length bytes < 2 ^ 32 → read_whole line bytes ≡ Ok printed → all_of (told_behind of.Line bytes) ≡ Ok (tells.Line printed)
+line_reads bytes printed short e = line_whole bytes short ∙ ap (λ (r : Result Line WireFault). r >>= λ q. Ok (tells.Line q)) e
+
+pub line_refuses : (bytes : List ℕ) (fault : WireFault) → length bytes < 2 ^ 32 → read_whole line bytes ≡ Err fault → all_of (told_behind of.Line bytes) ≡ Err fault
+line_refuses bytes fault short e = line_whole bytes short ∙ ap (λ (r : Result Line WireFault). r >>= λ q. Ok (tells.Line q)) e
 
 -- ---- a message, and the client before it
 

@@ -5,6 +5,7 @@ use Rattle.std.proofs.lemmas.Bool.{le-ltb, lt-ltb, ltb-false}
 use Rattle.std.proofs.lemmas.List.{length-append, append-nil}
 use Rattle.plain.specs.Results.{Gives}
 use Rattle.byteorder.specs.Endian.{big_bytes}
+use Rattle.node_core.specs.declared.lines.Line.{Line}
 use Rattle.tags_cell.specs.declared.messages.requests.Request.{Request}
 use Rattle.tags_cell.specs.declared.messages.outs.Out.{Out}
 use Rattle.tags_cell.specs.Messages.{out_client}
@@ -14,6 +15,7 @@ use Rattle.wire_core.specs.Forms.{◌>>=◌, counted, version, length_end, short
 use Rattle.wire_core.specs.Fields.{word, client}
 use Rattle.wire_core.specs.Requests.{request}
 use Rattle.wire_core.specs.Outs.{out_message, has_bytes, out_written}
+use Rattle.wire_core.specs.Lines.{line}
 use Rattle.serve_cell.specs.declared.frames.Frame.TheVariants as frames
 use Rattle.serve_cell.specs.declared.standing.Counts.{Counts}
 use Rattle.serve_cell.specs.declared.tellings.Told.TheVariants as tells
@@ -101,6 +103,22 @@ pub gives_out : (number : ℕ) (message : Out) (front bytes : List ℕ) (r : Res
 gives_out number message front bytes r e was given =
     let P : Result (List ℕ) WireFault → Type 0 = λ w. Gives NoMemory r w in
     subst P (ap (λ (u : List ℕ). framed_by (1 ∷ (u ++ bytes))) e ∙ sym (told_framed number message bytes was)) given
+
+-- ---- lines
+
+line_framed : (printed : Line) (bytes : List ℕ) → written line printed ≡ Ok bytes → framed told (tells.Line printed) ≡ framed_by (0 ∷ bytes)
+unfolding told
+line_framed printed bytes e = ap (λ (u : List ℕ). framed_by (0 ∷ u)) (short_ok (version ∷ line.write printed) bytes e)
+
+pub gives_line : (printed : Line) (bytes front : List ℕ) (r : Result (List ℕ) WireFault) → written line printed ≡ Ok bytes → front ≡ bytes
+    → Gives NoMemory r (framed_by (0 ∷ (front ++ []))) → Gives NoMemory r (framed told (tells.Line printed))
+gives_line printed bytes front r was e given =
+    let P : Result (List ℕ) WireFault → Type 0 = λ w. Gives NoMemory r w in
+    subst P (ap (λ (u : List ℕ). framed_by (0 ∷ u)) (append-nil front ∙ e) ∙ sym (line_framed printed bytes was)) given
+
+pub line_too_long : (printed : Line) (fault : WireFault) → written line printed ≡ Err fault → framed told (tells.Line printed) ≡ Err fault
+unfolding told
+line_too_long printed fault e = longer (version ∷ line.write printed) (0 ∷ (version ∷ line.write printed)) fault (omega arith) e
 
 -- ---- counts
 

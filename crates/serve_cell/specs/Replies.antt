@@ -3,7 +3,6 @@ use Rattle.std.specs.Prelude.{◌≡◌, ℕ, List, [], ◌∷◌, ◌++◌, map
 use Rattle.node_core.specs.declared.refusals.Fault.{Fault}
 use Rattle.node_core.specs.declared.lines.Line.{Line}
 use Rattle.node_core.specs.declared.lines.Line.TheVariants as lines
-use Rattle.node_core.specs.Texts.{line_text}
 use Rattle.tags_cell.specs.declared.messages.outs.Out.{Out}
 use Rattle.tags_cell.specs.Messages.{out_client}
 use Rattle.over_core.specs.declared.swept.Swept.{Swept}
@@ -27,7 +26,7 @@ use Rattle.serve_cell.specs.declared.seats.Reply.TheVariants as replies
 -- ---- what is told
 
 abbrev pub line_told : Line → Told
-line_told line = tells.Line (line_text line)
+line_told line = tells.Line line
 
 abbrev pub out_told : Out → Told
 out_told message = tells.Message (out_client message) message

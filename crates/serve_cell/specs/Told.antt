@@ -1,5 +1,6 @@
 -- The forms of the frames that a master sends.
 use Rattle.std.specs.Prelude.{ℕ, List, [], ◌∷◌, Result, Err, if◌then◌else◌}
+use Rattle.node_core.specs.declared.lines.Line.{Line}
 use Rattle.tags_cell.specs.declared.messages.outs.Out.{Out}
 use Rattle.tags_cell.specs.Messages.{out_client}
 use Rattle.wire_core.specs.declared.faults.WireFault.{WireFault}
@@ -7,6 +8,7 @@ use Rattle.wire_core.specs.declared.faults.WireFault.TheVariants as wire
 use Rattle.wire_core.specs.Forms.{Form, ◌⊗◌, choice, of_kind, behind}
 use Rattle.wire_core.specs.Fields.{word, client, block, optional_word}
 use Rattle.wire_core.specs.Outs.{out_message, has_bytes}
+use Rattle.wire_core.specs.Lines.{line}
 use Rattle.serve_cell.specs.declared.tellings.Told.{Told}
 use Rattle.serve_cell.specs.declared.tellings.Told.TheVariants as tells
 use Rattle.serve_cell.specs.declared.standing.Counts.{Counts}
@@ -17,6 +19,10 @@ use Rattle.serve_cell.specs.Blocks.{versioned, framed}
 -- the client that it goes to, and all bytes of the message
 abbrev pub out_fields : Form (ℕ × Out)
 out_fields = client ⊗ versioned out_message
+
+-- all bytes of a line
+abbrev pub line_fields : Form Line
+line_fields = versioned line
 
 -- one number behind the other
 abbrev pub Words : Type 0
@@ -66,7 +72,7 @@ told_place of.Touches = 7
 told_place of.Awaited = 8
 
 abbrev pub told_kind : Told → ToldKind
-told_kind (tells.Line text) = of.Line
+told_kind (tells.Line printed) = of.Line
 told_kind (tells.Message number message) = of.Message
 told_kind (tells.Bad fault) = of.Bad
 told_kind (tells.End deadline) = of.End
@@ -77,7 +83,7 @@ told_kind (tells.Touches name) = of.Touches
 told_kind (tells.Awaited number) = of.Awaited
 
 abbrev pub told_is : Told → Type 0
-told_is (tells.Line text) = block.is text
+told_is (tells.Line printed) = line_fields.is printed
 told_is (tells.Message number message) = out_fields.is (number, message)
 told_is (tells.Bad fault) = wire_fault.is fault
 told_is (tells.End deadline) = optional_word.is deadline
@@ -88,7 +94,7 @@ told_is (tells.Touches name) = block.is name
 told_is (tells.Awaited number) = word.is number
 
 abbrev pub told_bytes : Told → List ℕ
-told_bytes (tells.Line text) = block.write text
+told_bytes (tells.Line printed) = line_fields.write printed
 told_bytes (tells.Message number message) = out_fields.write (number, message)
 told_bytes (tells.Bad fault) = wire_fault.write fault
 told_bytes (tells.End deadline) = optional_word.write deadline
@@ -99,7 +105,7 @@ told_bytes (tells.Touches name) = block.write name
 told_bytes (tells.Awaited number) = word.write number
 
 abbrev pub told_behind : ToldKind → List ℕ → Result (Told × List ℕ) WireFault
-told_behind of.Line rest = behind tells.Line block rest
+told_behind of.Line rest = behind tells.Line line_fields rest
 told_behind of.Message rest = behind (λ x. tells.Message x.0 x.1) out_fields rest
 told_behind of.Bad rest = behind tells.Bad wire_fault rest
 told_behind of.End rest = behind tells.End optional_word rest

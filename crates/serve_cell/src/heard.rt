@@ -77,11 +77,13 @@ fn read_text(alloc: Global, bytes: &[u8]) -> Result<Bytes, WireFault>
     Ok(Bytes::copy_of(alloc, text)?)
 }
 
+// All bytes of a line.
 fn read_line(alloc: Global, bytes: &[u8]) -> Result<Told, WireFault>
+    requires { length bytes.now < 2 ^ 32 }
     ensures { Gives WireFault.NoMemory result (all_of (told_behind ToldKind.Line bytes.now)) }
 {
-    match read_text(alloc, bytes) {
-        Ok(text) => Ok(Told::Line(text)),
+    match wire_core::read_line(alloc, bytes) {
+        Ok(printed) => Ok(Told::Line(printed)),
         Err(fault) => Err(fault),
     }
 }

@@ -151,8 +151,7 @@ fn put_outs(alloc: Global, out: &mut Vec<u8>, outs: &[Out]) -> Result<(), Stop>
 fn put_line(alloc: Global, out: &mut Vec<u8>, line: &Line) -> Result<(), Stop>
     ensures { OnOk result (Puts (line_told line.now ∷ []) out.old.items out.new.items) }
 {
-    let text = format!(in alloc; "{line}")?;
-    let block = write_line(alloc, text.as_str().as_bytes())?;
+    let block = write_line(alloc, line)?;
     Ok(out.extend_from_slice(block.as_slice())?)
 }
 

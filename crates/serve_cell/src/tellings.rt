@@ -11,6 +11,7 @@ use crate::frames::write_word;
 use crate::kinds::place_of;
 use crate::standing::Counts;
 use byteorder::{BigEndian, ByteOrder};
+use node_core::Line;
 use plain::Bytes;
 use std::alloc::Global;
 use tags_cell::{ClientNumber, Out};
@@ -19,8 +20,8 @@ use wire_core::{WireFault, write_out};
 /// What a master tells the program that started it.
 #[derive(Drop)]
 pub enum Told {
-    /// A line that is printed, its text without LF.
-    Line(Bytes),
+    /// A line that is printed.
+    Line(Line),
     /// A message, and the client that it goes to.
     Message(ClientNumber, Out),
     /// What was sent is no frame.
@@ -43,13 +44,13 @@ pub enum Told {
 }
 
 /// The bytes of a line, with their number in front. Refused is a frame of 2^32 bytes or more.
-#[tactic(auto, unfolding(wire_core::specs::Fields::block, crate::specs::Told::told))]
-pub fn write_line(alloc: Global, text: &[u8]) -> Result<Bytes, WireFault>
-    ensures { Gives WireFault.NoMemory result (framed told (Told.Line text.now)) }
+pub fn write_line(alloc: Global, printed: &Line) -> Result<Bytes, WireFault>
+    ensures { Gives WireFault.NoMemory result (framed told (Told.Line printed.now)) }
 {
-    let mut count = [0; 8];
-    BigEndian::write_u64(&mut count, text.len() as u64);
-    write_framed(alloc, 0, &count[4..], text)
+    match wire_core::write_line(alloc, printed) {
+        Ok(bytes) => write_framed(alloc, 0, bytes.as_slice(), &[]),
+        Err(fault) => Err(fault),
+    }
 }
 
 /// The bytes of a name that a change may change, with their number in front. Refused is a frame of 2^32 bytes or more.

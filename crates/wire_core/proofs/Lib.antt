@@ -5,6 +5,7 @@ pub mod CallLaws
 pub mod BeatLaws
 pub mod RequestLaws
 pub mod OutLaws
+pub mod LineLaws
 pub mod Loops
 pub mod TextLaws
 pub mod Appending

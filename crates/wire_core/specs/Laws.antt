@@ -1,11 +1,13 @@
 -- What holds of the bytes of messages.
 use Rattle.std.specs.Prelude.{◌≡◌, ◌≢◌, ◌<◌, ℕ, List, ◌∷◌, length, slice_index, Ok, Err}
+use Rattle.node_core.specs.declared.lines.Line.{Line}
 use Rattle.tags_cell.specs.declared.messages.requests.Request.{Request}
 use Rattle.tags_cell.specs.declared.messages.outs.Out.{Out}
 use Rattle.wire_core.specs.declared.faults.WireFault.TheVariants.{BadVersion}
 use Rattle.wire_core.specs.Forms.{Form, version, length_end, written, read_whole}
 use Rattle.wire_core.specs.Requests.{request}
 use Rattle.wire_core.specs.Outs.{out_message, out_written}
+use Rattle.wire_core.specs.Lines.{line}
 
 abbrev pub AreBytes : List ℕ → Type 0
 AreBytes bytes = (i : ℕ) → slice_index bytes i < 256
@@ -26,6 +28,13 @@ WrittenOutIsRead = (message : Out) (bytes : List ℕ) → out_message.is message
 abbrev pub ReadOutWasWritten : Type 0
 ReadOutWasWritten =
     (bytes : List ℕ) (message : Out) → AreBytes bytes → read_whole out_message bytes ≡ Ok message → out_message.is message × (out_written message ≡ Ok bytes)
+
+-- the same of a line
+abbrev pub WrittenLineIsRead : Type 0
+WrittenLineIsRead = (printed : Line) (bytes : List ℕ) → line.is printed → written line printed ≡ Ok bytes → read_whole line bytes ≡ Ok printed
+
+abbrev pub ReadLineWasWritten : Type 0
+ReadLineWasWritten = (bytes : List ℕ) (printed : Line) → AreBytes bytes → read_whole line bytes ≡ Ok printed → line.is printed × (written line printed ≡ Ok bytes)
 
 -- a format: its version, and the layout that this version stands for, of what a client sends and of what a master sends
 pub record Format : Type 1 where

@@ -5,4 +5,5 @@ pub mod Calls
 pub mod Beats
 pub mod Requests
 pub mod Outs
+pub mod Lines
 pub mod Laws

@@ -1,4 +1,4 @@
-//! Of which kind a message, a call, a result or an event is: the byte in front of its fields.
+//! Of which kind a message, a call, a result, an event or a line is: the byte in front of its fields.
 
 /// Of which kind a request is.
 #[derive(Clone, Copy)]
@@ -116,4 +116,87 @@ pub(crate) const EVENT_KINDS: [EventKind; 9] = [
     EventKind::Locked,
     EventKind::Conflict,
     EventKind::Lost,
+];
+
+/// Of which kind a change of the map is.
+#[derive(Clone, Copy)]
+pub enum ModKind {
+    Put,
+    Gone,
+}
+
+pub(crate) const MOD_KINDS: [ModKind; 2] = [ModKind::Put, ModKind::Gone];
+
+/// Of which kind it is how a call ended, as it is printed.
+#[derive(Clone, Copy)]
+pub enum AnswerKind {
+    Opened,
+    Closed,
+    Poisoned,
+    Viewed,
+    Stated,
+    Names,
+    Sequencer,
+    Okay,
+    Refused,
+}
+
+pub(crate) const ANSWER_KINDS: [AnswerKind; 9] = [
+    AnswerKind::Opened,
+    AnswerKind::Closed,
+    AnswerKind::Poisoned,
+    AnswerKind::Viewed,
+    AnswerKind::Stated,
+    AnswerKind::Names,
+    AnswerKind::Sequencer,
+    AnswerKind::Okay,
+    AnswerKind::Refused,
+];
+
+/// Of which kind a line is.
+#[derive(Clone, Copy)]
+pub enum LineKind {
+    Up,
+    Down,
+    Recovered,
+    Started,
+    Ended,
+    Applied,
+    Granted,
+    Acked,
+    Expired,
+    Locked,
+    Freed,
+    Lapsed,
+    Reopened,
+    Served,
+    Done,
+    Told,
+    Jeopardy,
+    Safe,
+    Lost,
+    Refused,
+}
+
+pub(crate) const LINE_KINDS: [LineKind; 20] = [
+    LineKind::Up,
+    LineKind::Down,
+    LineKind::Recovered,
+    LineKind::Started,
+    LineKind::Ended,
+    LineKind::Applied,
+    LineKind::Granted,
+    LineKind::Acked,
+    LineKind::Expired,
+    LineKind::Locked,
+    LineKind::Freed,
+    LineKind::Lapsed,
+    LineKind::Reopened,
+    LineKind::Served,
+    LineKind::Done,
+    LineKind::Told,
+    LineKind::Jeopardy,
+    LineKind::Safe,
+    LineKind::Lost,
+    LineKind::Refused,
 ];

@@ -4,12 +4,15 @@ ghost use Rattle.plain.specs.Results.{Gives};
 ghost use Rattle.wire_core.specs.Forms.{Form, short_of, begin_at, written, read_whole};
 ghost use Rattle.wire_core.specs.Requests.{request};
 ghost use Rattle.wire_core.specs.Outs.{out_message, out_written};
+ghost use Rattle.wire_core.specs.Lines.{line};
 
 use crate::faults::WireFault;
 use crate::inputs::Input;
+use crate::lines::{put_line_body, read_line_body};
 use crate::outputs::put_byte;
 use crate::outs::{has_bytes, put_out_body, read_out_body};
 use crate::requests::{put_request_body, read_request_body};
+use node_core::Line;
 use plain::Bytes;
 use std::alloc::Global;
 use tags_cell::{Out, Request};
@@ -71,6 +74,31 @@ pub fn read_out(alloc: Global, bytes: &[u8]) -> Result<Out, WireFault>
         return Err(WireFault::Extra);
     }
     Ok(message)
+}
+
+/// The bytes of a line. Refused is a line of 2^32 bytes or more.
+pub fn write_line(alloc: Global, printed: &Line) -> Result<Bytes, WireFault>
+    ensures bytes { Gives WireFault.NoMemory result (written line printed.now) }
+    ensures back { IfOk result (λ bytes. read_whole line bytes ≡ Ok printed.now) }
+{
+    let mut out = Vec::new(alloc);
+    put_byte(&mut out, VERSION)?;
+    put_line_body(&mut out, printed)?;
+    whole(out)
+}
+
+/// The line of all of these bytes; or what is wrong with them, the first from the left. It takes memory for what stands there,
+/// whatever a count or a length in the bytes says.
+pub fn read_line(alloc: Global, bytes: &[u8]) -> Result<Line, WireFault>
+    ensures line { Gives WireFault.NoMemory result (read_whole line bytes.now) }
+    ensures back { IfOk result (λ printed. written line printed ≡ Ok bytes.now) }
+{
+    let mut input = begin(bytes)?;
+    let printed = read_line_body(alloc, &mut input)?;
+    if !input.is_empty() {
+        return Err(WireFault::Extra);
+    }
+    Ok(printed)
 }
 
 // All bytes of a message, if they aren't too many.

@@ -39,7 +39,7 @@ fn put_new_handle(out: &mut Vec<u8>, handle: &NewHandle) -> Result<(), AllocErro
 }
 
 #[tactic(auto, unfolding(crate::specs::Outs::node))]
-fn read_node(alloc: Global, input: &mut Input) -> Result<Node, WireFault>
+pub(crate) fn read_node(alloc: Global, input: &mut Input) -> Result<Node, WireFault>
     ensures { Reads (λ x. x) result input.new (node.read input.old) }
 {
     Ok(Node {
@@ -56,7 +56,7 @@ fn read_node(alloc: Global, input: &mut Input) -> Result<Node, WireFault>
 }
 
 #[tactic(auto, unfolding(crate::specs::Outs::node))]
-fn put_node(out: &mut Vec<u8>, seen: &Node) -> Result<(), AllocError>
+pub(crate) fn put_node(out: &mut Vec<u8>, seen: &Node) -> Result<(), AllocError>
     ensures { OnOk result (Appends node seen.now out.old.items out.new.items) }
 {
     put_kind(out, seen.kind)?;
@@ -102,7 +102,7 @@ fn put_view(out: &mut Vec<u8>, seen: &View) -> Result<(), AllocError>
 }
 
 #[tactic(auto, unfolding(crate::specs::Outs::stat))]
-fn read_stat(alloc: Global, input: &mut Input) -> Result<Stat, WireFault>
+pub(crate) fn read_stat(alloc: Global, input: &mut Input) -> Result<Stat, WireFault>
     ensures { Reads (λ x. x) result input.new (stat.read input.old) }
 {
     Ok(Stat {
@@ -120,7 +120,7 @@ fn read_stat(alloc: Global, input: &mut Input) -> Result<Stat, WireFault>
 }
 
 #[tactic(auto, unfolding(crate::specs::Outs::stat))]
-fn put_stat(out: &mut Vec<u8>, told: &Stat) -> Result<(), AllocError>
+pub(crate) fn put_stat(out: &mut Vec<u8>, told: &Stat) -> Result<(), AllocError>
     ensures { OnOk result (Appends stat told.now out.old.items out.new.items) }
 {
     put_kind(out, told.kind)?;
@@ -136,7 +136,10 @@ fn put_stat(out: &mut Vec<u8>, told: &Stat) -> Result<(), AllocError>
 }
 
 #[tactic(auto, unfolding(crate::specs::Outs::components))]
-fn read_components(alloc: Global, input: &mut Input) -> Result<Items<Component>, WireFault>
+pub(crate) fn read_components(
+    alloc: Global,
+    input: &mut Input,
+) -> Result<Items<Component>, WireFault>
     ensures { Reads (λ x. x) result input.new (components.read input.old) }
 {
     let count = input.count()?;
@@ -160,7 +163,7 @@ fn components_of(
 }
 
 #[tactic(auto, unfolding(crate::specs::Outs::components))]
-fn put_components(out: &mut Vec<u8>, items: &[Component]) -> Result<(), AllocError>
+pub(crate) fn put_components(out: &mut Vec<u8>, items: &[Component]) -> Result<(), AllocError>
     ensures { OnOk result (Appends components items.now out.old.items out.new.items) }
 {
     put_count(out, items.len())?;

@@ -11,8 +11,8 @@
 //! A client and a token are words, a principal is bytes behind their length in four, a reason is one byte. A token is shown to
 //! the client that was given the number and to nobody else: who has it may take the number up again.
 
+use crate::components::is_component;
 use crate::fields::Fields;
-use crate::heads::is_component;
 use thiserror::Error;
 
 /// The version of greetings.

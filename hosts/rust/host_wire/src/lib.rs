@@ -2,29 +2,32 @@
 //!
 //! A stream is blocks, each behind its length in four bytes, big-endian. The first block each way greets: the client says who it
 //! is ([`Hello`]), the server which number the connection is bound to ([`Welcome`]). Every later block is one message between
-//! client and master, its bytes as `docs/FORMATS.md` lays them out; and a server that doesn't hand a call on says why ([`Notice`]).
+//! client and master, and what a master and its server say to each other are blocks too: their bytes the library of `crates/cell_server` knows alone. A
+//! server that doesn't hand a call on says why ([`Notice`]).
 
 mod addresses;
+mod asked;
 mod blocks;
-mod deeds;
+mod components;
 mod fields;
 mod greetings;
-mod heads;
-pub mod messages;
+mod heard;
+mod library;
 mod names;
 mod notices;
 mod said;
 mod shown;
 
 pub use addresses::{Address, NoAddress};
+pub use asked::{Act, Asked, Deed};
 pub use blocks::{Blocks, framed, put_block, write_block};
-pub use deeds::{Act, Deed};
+pub use components::is_component;
 pub use fields::Fields;
 pub use greetings::{GREETING_LIMIT, Hello, Malformed, TurnedAway, Welcome};
-pub use heads::{Head, is_component};
+pub use heard::{Frame, Heard, Locked, Printed, Put, Text, Told};
 pub use names::common_name;
-pub use notices::{Notice, write_store_refused};
-pub use said::{Answer, Said};
+pub use notices::Notice;
+pub use said::{Answer, Said, write_store_refused};
 pub use shown::{LockShown, NodeShown, SessionShown, Shown, Status, WaitShown};
 
 /// The longest block that a client sends, in bytes: a frame that carries it to the master has at most 1,048,576, ten of them

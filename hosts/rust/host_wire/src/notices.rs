@@ -2,11 +2,10 @@
 //! master is up.
 
 use crate::fields::Fields;
-use crate::messages::of_master::{NOTICE, REPLY};
-use crate::messages::{REFUSAL, VERSION};
 
-/// The byte of the refusal 15, that the store refused.
-const STORE_REFUSED: u8 = 14;
+/// How a notice begins, where the messages of a master have their version and their kind: of that version, and of a kind that no
+/// master sends.
+const HEAD: [u8; 2] = [2, 4];
 
 /// Why a server doesn't hand the call of this number on to its master: a block before the reply, which then is that the store
 /// refused. With the number 0, which no call has, that another master is up: what the client sent to the last one may be lost.
@@ -34,7 +33,7 @@ impl Notice {
     /// Its bytes.
     #[must_use]
     pub fn write(&self) -> Vec<u8> {
-        let mut out = vec![VERSION, NOTICE];
+        let mut out = HEAD.to_vec();
         out.extend_from_slice(&self.number.to_be_bytes());
         out.extend_from_slice(self.reason.as_bytes());
         out
@@ -44,20 +43,11 @@ impl Notice {
     #[must_use]
     pub fn read(block: &[u8]) -> Option<Notice> {
         let mut fields = Fields(block);
-        if fields.take(2)? != [VERSION, NOTICE] {
+        if fields.take(2)? != HEAD {
             return None;
         }
         Some(Notice { number: fields.word()?, reason: String::from_utf8_lossy(fields.0).into_owned() })
     }
-}
-
-/// The bytes of a master's reply that the store refused.
-#[must_use]
-pub fn write_store_refused(client: u64, epoch: u64, number: u64) -> Vec<u8> {
-    let mut out = vec![VERSION, REPLY];
-    out.extend([client, epoch, number].iter().flat_map(|word| word.to_be_bytes()));
-    out.extend_from_slice(&[0, REFUSAL, STORE_REFUSED]);
-    out
 }
 
 #[cfg(test)]
@@ -72,11 +62,5 @@ mod tests {
         for other in [&b"\x02\x02\0\0\0\0\0\0\0\x01"[..], b"\x02\x04\0", b""] {
             assert_eq!(Notice::read(other), None);
         }
-    }
-
-    #[test]
-    fn a_refused_reply_has_its_bytes() {
-        let wanted = b"\x02\x02\0\0\0\0\0\0\0\x07\0\0\0\0\0\0\0\x02\0\0\0\0\0\0\0\x05\0\x07\x0e";
-        assert_eq!(write_store_refused(7, 2, 5), wanted);
     }
 }

@@ -1,12 +1,16 @@
-//! What a master says to a client, as far as a host has to know it. Nothing else of such a message is read outside the client library.
+//! What a master says to a client, as far as a host has to know it.
 
-use crate::fields::Fields;
-use crate::messages::of_master::{ALIVE, REFUSED, REPLY, STARTED};
-use crate::messages::{REFUSAL, VERSION};
+use crate::library::{SaidParts, said, store_refused};
 use std::time::Duration;
 
+/// The kinds of messages, as the library numbers them.
+const STARTED: u32 = 1;
+const ALIVE: u32 = 2;
+const REPLY: u32 = 3;
+const REFUSED: u32 = 4;
+
 /// The refusal that another master is up.
-const OLD_EPOCH: u8 = 28;
+const OLD_EPOCH: u32 = 28;
 
 /// A message of a master.
 #[derive(Clone, Copy, Debug, PartialEq, Eq)]
@@ -27,26 +31,28 @@ pub enum Answer {
     /// The session goes on for so long; and whether that comes with invalidations or events, which the next Beat acknowledges.
     Alive(Duration, bool),
     /// The call has ended: by which refusal, where its result is one.
-    Reply(Option<u8>),
+    Reply(Option<u32>),
     /// It was refused.
-    Refused(u8),
+    Refused(u32),
 }
 
 impl Said {
-    /// What these bytes say; None of another block, and where they are cut before that.
+    /// What these bytes say; None where they are no message of a master.
     #[must_use]
     pub fn read(message: &[u8]) -> Option<Said> {
-        let mut fields = Fields(message);
-        let (version, kind) = (fields.byte()?, fields.byte()?);
-        if version != VERSION {
-            return None;
-        }
-        let (client, _epoch, number) = (fields.word()?, fields.word()?, fields.word()?);
-        let answer = match kind {
-            STARTED => Answer::Started(Duration::from_millis(fields.word()?)),
-            ALIVE => Answer::Alive(Duration::from_millis(fields.word()?), fields.count()? > 0 || fields.count()? > 0),
-            REPLY => Answer::Reply(result(&mut fields)?),
-            REFUSED => Answer::Refused(refusal(&mut fields)?),
+        Said::of(said(message)?)
+    }
+
+    /// What these parts of a message say.
+    #[must_use]
+    pub(crate) fn of(parts: SaidParts) -> Option<Said> {
+        let SaidParts { what, fault, client, number, span, brings, .. } = parts;
+        let span = Duration::from_millis(span);
+        let answer = match what {
+            STARTED => Answer::Started(span),
+            ALIVE => Answer::Alive(span, brings == 1),
+            REPLY => Answer::Reply(Some(fault).filter(|fault| *fault > 0)),
+            REFUSED => Answer::Refused(fault),
             _ => return None,
         };
         Some(Said { client, number, answer })
@@ -59,56 +65,41 @@ impl Said {
     }
 }
 
-// A stamp, where there is one, and then the kind of the result.
-fn result(fields: &mut Fields) -> Option<Option<u8>> {
-    if fields.byte()? == 1 {
-        fields.word()?;
-    }
-    if fields.byte()? == REFUSAL { refusal(fields).map(Some) } else { Some(None) }
-}
-
-// (it is numbered from 1, and its byte from 0)
-fn refusal(fields: &mut Fields) -> Option<u8> {
-    fields.byte()?.checked_add(1)
+/// The bytes of a master's reply that the store refused; None where no client or no call has such a number.
+#[must_use]
+pub fn write_store_refused(client: u64, epoch: u64, number: u64) -> Option<Vec<u8>> {
+    store_refused(client, epoch, number)
 }
 
 #[cfg(test)]
 mod tests {
     use super::*;
 
-    fn message(kind: u8, rest: &[u8]) -> Vec<u8> {
-        let words = [7_u64, 2, 5].iter().flat_map(|word| word.to_be_bytes());
-        [VERSION, kind].into_iter().chain(words).chain(rest.iter().copied()).collect()
+    #[test]
+    fn what_a_master_says_is_read() {
+        let parts = |what, fault, brings| SaidParts { what, fault, brings, client: 7, epoch: 2, number: 5, span: 12_000 };
+        let span = Duration::from_millis(12_000);
+        let rows = [
+            (parts(1, 0, 0), Some(Answer::Started(span))),
+            (parts(2, 0, 0), Some(Answer::Alive(span, false))),
+            (parts(2, 0, 1), Some(Answer::Alive(span, true))),
+            (parts(3, 0, 0), Some(Answer::Reply(None))),
+            (parts(3, 15, 0), Some(Answer::Reply(Some(15)))),
+            (parts(4, 28, 0), Some(Answer::Refused(28))),
+            (parts(4, 29, 0), Some(Answer::Refused(29))),
+            (parts(0, 0, 0), None),
+        ];
+        for (parts, answer) in rows {
+            let said = answer.map(|answer| Said { client: 7, number: 5, answer });
+            assert_eq!(Said::of(parts), said, "{parts:?}");
+            assert_eq!(said.is_some_and(|said| said.is_of_old_epoch()), answer == Some(Answer::Refused(28)));
+        }
     }
 
     #[test]
-    fn what_a_master_says_is_read() {
-        let span = Duration::from_millis(12_000);
-        let lease = 12_000_u64.to_be_bytes();
-        let alive = |lists: &[u8]| message(ALIVE, &[&lease, lists].concat());
-        let rows = [
-            (message(STARTED, &lease), Some(Answer::Started(span))),
-            (alive(&[0; 8]), Some(Answer::Alive(span, false))),
-            (alive(b"\0\0\0\x01\0\0\0\0\0\0\0\x03\0\0\0\x05/ls/c\0\0\0\0"), Some(Answer::Alive(span, true))),
-            (alive(b"\0\0\0\0\0\0\0\x01\0\0\0\0\0\0\0\x03\x05"), Some(Answer::Alive(span, true))),
-            (message(REPLY, b"\0\x06"), Some(Answer::Reply(None))),
-            (message(REPLY, b"\0\x07\x0e"), Some(Answer::Reply(Some(15)))),
-            (message(REPLY, b"\x01\0\0\0\0\0\0\0\x09\x07\x05"), Some(Answer::Reply(Some(6)))),
-            (crate::write_store_refused(7, 2, 5), Some(Answer::Reply(Some(15)))),
-            (message(REFUSED, b"\x1b"), Some(Answer::Refused(28))),
-            (message(REFUSED, b"\x1c\0"), Some(Answer::Refused(29))),
-            (message(STARTED, &lease[1..]), None),
-            (alive(&[0; 7]), None),
-            (message(REPLY, b"\0"), None),
-            (message(REFUSED, b""), None),
-            (message(REFUSED, b"\xff"), None),
-            (message(4, b"no room"), None),
-            (b"\x01\x01".to_vec(), None),
-        ];
-        for (bytes, answer) in rows {
-            let said = answer.map(|answer| Said { client: 7, number: 5, answer });
-            assert_eq!(Said::read(&bytes), said, "{bytes:?}");
-            assert_eq!(said.is_some_and(|said| said.is_of_old_epoch()), answer == Some(Answer::Refused(28)));
-        }
+    fn a_reply_that_the_store_refused_is_read_as_it_was_written() {
+        let said = |client| write_store_refused(client, 2, 5).map(|bytes| Said::read(&bytes));
+        assert_eq!(said(7), Some(Some(Said { client: 7, number: 5, answer: Answer::Reply(Some(15)) })));
+        assert_eq!((said(0), Said::read(b""), Said::read(b"\x02\x04")), (None, None, None));
     }
 }

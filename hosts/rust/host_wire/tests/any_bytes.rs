@@ -1,6 +1,6 @@
 //! Whatever bytes come: they are read as what they are, or as nothing.
 
-use host_wire::{Blocks, Deed, Head, Hello, Notice, Said, TurnedAway, Welcome, common_name, framed, is_component};
+use host_wire::{Asked, Blocks, Heard, Hello, Notice, Said, Told, TurnedAway, Welcome, common_name, framed, is_component};
 use proptest::collection::vec;
 use proptest::prelude::*;
 
@@ -20,8 +20,10 @@ proptest! {
         if let Ok(welcome) = Welcome::read(&bytes) {
             prop_assert_eq!(Welcome::write(&welcome), bytes.clone());
         }
-        if let Some(deed) = Deed::read(&bytes) {
-            prop_assert_eq!(Head::read(&bytes).map(|head| head.client), Some(deed.client));
+        let asked = Asked::read(&bytes);
+        prop_assert!(asked.is_none_or(|asked| asked.deed().is_none_or(|deed| asked.is_from(deed.client, ""))));
+        if let Some(heard) = Heard::read(&bytes) {
+            prop_assert!(heard.told() != Told::Other || (bytes[1] > 3 && bytes[1] < 9));
         }
         prop_assert_eq!(Notice::read(&bytes).is_some(), bytes.len() >= 10 && bytes[..2] == [2, 4]);
         prop_assert!(Said::read(&bytes).is_none() || bytes.len() > 26);

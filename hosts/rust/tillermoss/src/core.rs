@@ -7,8 +7,7 @@ use crate::events::Event;
 use crate::library::{Library, Status};
 use crate::lines::{Answer, Line};
 use crate::refusals::Refusal;
-use host_wire::messages::number_of_client;
-use host_wire::{Notice, TurnedAway};
+use host_wire::{Asked, Notice, TurnedAway};
 use std::sync::atomic::{AtomicU64, Ordering};
 use std::sync::mpsc::{Receiver, Sender, channel};
 use std::sync::{Arc, Condvar, Mutex, MutexGuard, PoisonError};
@@ -223,7 +222,7 @@ impl State {
         let status = self.library.beat(clock::now());
         self.learn(status);
         let message = if status == Status::Send { self.library.message() } else { None };
-        let number = message.as_deref().and_then(number_of_client);
+        let number = message.as_deref().and_then(Asked::read).map(|asked| asked.number());
         self.send(message);
         (number, self.library.leased_until())
     }

@@ -98,6 +98,24 @@ struct Schedule {
     is_answered: bool,
 }
 
+// What came from the server, as far as the schedule goes by it.
+#[derive(Clone, Copy, Debug)]
+enum Heard {
+    Said(Said),
+    NewMaster,
+    Other,
+}
+
+impl Heard {
+    fn read(message: &[u8]) -> Heard {
+        match Said::read(message) {
+            Some(said) => Heard::Said(said),
+            None if Notice::read(message).is_some_and(|notice| notice.is_of_new_master()) => Heard::NewMaster,
+            None => Heard::Other,
+        }
+    }
+}
+
 impl Schedule {
     // None was sent yet.
     fn new() -> Schedule {
@@ -123,12 +141,14 @@ impl Schedule {
 
     // A message came. Behind the answer to the last Beat the next one goes: at once where there is something to acknowledge. Where another
     // master is up the last one is lost.
-    fn give(&mut self, now: u64, message: &[u8]) {
-        let Some(said) = Said::read(message) else {
-            if Notice::read(message).is_some_and(|notice| notice.is_of_new_master()) {
+    fn give(&mut self, now: u64, heard: Heard) {
+        let said = match heard {
+            Heard::Said(said) => said,
+            Heard::NewMaster => {
                 self.due = now;
+                return;
             }
-            return;
+            Heard::Other => return,
         };
         let is_answer = self.number == Some(said.number);
         let paced = now.max(self.sent.saturating_add(PACE));
@@ -234,7 +254,7 @@ impl Keeper {
     fn give(&self, schedule: &mut Schedule, message: &[u8]) {
         self.core.lock().give(message);
         self.core.tell();
-        schedule.give(clock::now(), message);
+        schedule.give(clock::now(), Heard::read(message));
     }
 
     // Beats; and sends the call that has no reply yet again, where its message or the reply may be lost.
@@ -264,21 +284,22 @@ async fn write_all(mut write: impl AsyncWrite + Unpin, mut waiting: UnboundedRec
 #[cfg(test)]
 mod tests {
     use super::*;
-    use host_wire::messages::VERSION;
-    use host_wire::messages::of_master::{ALIVE, REFUSED, REPLY, STARTED};
 
-    fn message(kind: u8, number: u8, rest: &[u8]) -> Vec<u8> {
-        let words = [7, 2, u64::from(number)].into_iter().flat_map(u64::to_be_bytes);
-        [VERSION, kind].into_iter().chain(words).chain(rest.iter().copied()).collect()
+    fn said(number: u64, answer: Answer) -> Heard {
+        Heard::Said(Said { client: 7, number, answer })
     }
 
-    // An Alive, which comes with so many invalidations, as far as it is read.
-    fn alive(number: u8, invalidations: u8) -> Vec<u8> {
-        message(ALIVE, number, &[&[0; 11], &[invalidations][..], &[0; 4]].concat())
+    // An Alive; whether it comes with invalidations or events.
+    fn alive(number: u64, brings: bool) -> Heard {
+        said(number, Answer::Alive(Duration::ZERO, brings))
     }
 
-    fn refused(number: u8, refusal: u8) -> Vec<u8> {
-        message(REFUSED, number, &[refusal - 1])
+    fn started(number: u64) -> Heard {
+        said(number, Answer::Started(Duration::ZERO))
+    }
+
+    fn refused(number: u64, refusal: u32) -> Heard {
+        said(number, Answer::Refused(refusal))
     }
 
     #[test]
@@ -311,7 +332,7 @@ mod tests {
             schedule = schedule.sent(schedule.due, (Some(number), 0));
         }
         assert_eq!(dues, [200, 600, 1400, 3000, 6200, 12_600, 22_600, 32_600]);
-        schedule.give(40_000, &alive(8, 0));
+        schedule.give(40_000, alive(8, false));
         assert_eq!((schedule.usual, schedule.sent(40_020, (Some(9), 0)).due), (40_000, 40_220));
     }
 
@@ -323,7 +344,7 @@ mod tests {
             assert_eq!(schedule.silent_from(), silent_from, "{leased_until}");
             schedule = schedule.sent(schedule.due, (Some(8), leased_until));
             assert_eq!(schedule.silent_from(), silent_from, "{leased_until}");
-            schedule.give(6000, &alive(8, 0));
+            schedule.give(6000, alive(8, false));
             assert_eq!(schedule.silent_from(), u64::MAX, "{leased_until}");
         }
         assert_eq!(Schedule::new().silent_from(), u64::MAX);
@@ -331,25 +352,25 @@ mod tests {
 
     #[test]
     fn the_next_beat_goes_behind_an_answer() {
-        let notice = |number| Notice { number, reason: String::new() }.write();
+        let notice = |number| Heard::read(&Notice { number, reason: String::new() }.write());
         let rows = [
-            (1005, alive(7, 0), 1020, true),
-            (1050, alive(7, 0), 1050, true),
-            (1005, alive(7, 1), 1005, true),
-            (1005, message(STARTED, 7, &[0; 8]), 1020, true),
+            (1005, alive(7, false), 1020, true),
+            (1050, alive(7, false), 1050, true),
+            (1005, alive(7, true), 1005, true),
+            (1005, started(7), 1020, true),
             (1005, refused(7, 1), 1020, true),
             (1005, refused(6, 28), 1020, false),
             (1005, notice(0), 1005, false),
             (1005, notice(7), 5000, false),
             (1005, refused(6, 1), 5000, false),
-            (1005, message(STARTED, 6, &[0; 8]), 5000, false),
-            (1005, alive(6, 1), 5000, false),
-            (1005, message(REPLY, 7, &[0; 2]), 5000, false),
+            (1005, started(6), 5000, false),
+            (1005, alive(6, true), 5000, false),
+            (1005, said(7, Answer::Reply(None)), 5000, false),
         ];
-        for (now, message, due, is_answered) in rows {
+        for (now, heard, due, is_answered) in rows {
             let mut schedule = Schedule::new().sent(1000, (Some(7), 5000));
-            schedule.give(now, &message);
-            assert_eq!((schedule.due, schedule.is_answered), (due, is_answered), "{message:?}");
+            schedule.give(now, heard);
+            assert_eq!((schedule.due, schedule.is_answered), (due, is_answered), "{heard:?}");
         }
     }
 }

@@ -11,7 +11,7 @@ use crate::rates::Rate;
 use crate::routes::Routes;
 use crate::settings::Limits;
 use anyhow::Result;
-use host_wire::{Blocks, Deed, GREETING_LIMIT, Head, Hello, Notice, REQUEST_LIMIT, TurnedAway, Welcome, framed, write_store_refused};
+use host_wire::{Asked, Blocks, GREETING_LIMIT, Hello, Notice, REQUEST_LIMIT, Text, TurnedAway, Welcome, framed, write_store_refused};
 use std::collections::HashMap;
 use std::io;
 use std::sync::{Arc, Mutex, MutexGuard, PoisonError, RwLock};
@@ -150,7 +150,7 @@ impl Hall {
     }
 
     /// The store took a write, or refused one. Only the first of many is logged.
-    pub fn note_store(&self, is_refused: bool, line: &str) {
+    pub fn note_store(&self, is_refused: bool, line: Text<'_>) {
         let mut picture = self.picture();
         if picture.is_refused == is_refused {
             return;
@@ -158,7 +158,7 @@ impl Hall {
         picture.is_refused = is_refused;
         drop(picture);
         if is_refused {
-            error!(reason = line, "the store refuses; it is tried again, every two seconds at least");
+            error!(reason = %line, "the store refuses; it is tried again, every two seconds at least");
         } else {
             info!("the store takes writes again");
         }
@@ -287,16 +287,16 @@ impl Hall {
                 Ok(None) => return None,
                 Err(error) => return Some(reason(&error)),
             };
-            if !Head::read(&block).is_some_and(|head| head.is_from(bound.client, &bound.principal)) {
+            let Some(asked) = Asked::read(&block).filter(|asked| asked.is_from(bound.client, &bound.principal)) else {
                 return Some("a message that isn't the client's");
-            }
+            };
             self.wait(&mut rate, bound).await;
             let units = (block.len() / UNIT + 1) as u32;
             let place = (places.clone().acquire_owned().await.ok(), self.room.clone().acquire_many_owned(units).await.ok());
             if !self.routes.is_bound(bound.client, binding) {
                 return Some("its client has a later one");
             }
-            if self.is_let_in(&block, bound, outgoing) {
+            if self.is_let_in(&asked, bound, outgoing) {
                 self.lines.push(Message { client: bound.client, principal: bound.principal.clone(), bytes: block, place });
             }
         }
@@ -313,8 +313,8 @@ impl Hall {
     }
 
     // A call that goes beyond a limit is answered at once.
-    fn is_let_in(&self, message: &[u8], bound: &Bound, outgoing: &Outgoing) -> bool {
-        let Some(deed) = Deed::read(message) else {
+    fn is_let_in(&self, asked: &Asked, bound: &Bound, outgoing: &Outgoing) -> bool {
+        let Some(deed) = asked.deed() else {
             return true;
         };
         let admitted = self.picture().admit(&deed, &bound.principal, &self.limits());
@@ -324,7 +324,9 @@ impl Hall {
         self.metrics.limited();
         info!(client = bound.client, principal = &*bound.principal, %reason, name = deed.name, "a call was refused by a limit");
         outgoing.send(&Notice { number: deed.number, reason }.write());
-        outgoing.send(&write_store_refused(deed.client, deed.epoch, deed.number));
+        if let Some(reply) = write_store_refused(deed.client, deed.epoch, deed.number) {
+            outgoing.send(&reply);
+        }
         false
     }
 }

@@ -14,7 +14,6 @@ mod numbers;
 mod options;
 mod outgoing;
 mod picture;
-mod printed;
 mod pulse;
 mod rates;
 mod restoring;
@@ -26,7 +25,6 @@ mod standby;
 mod starts;
 mod store;
 mod tls;
-mod told;
 
 use clap::Parser;
 use options::{Command, Log, Options};

@@ -5,14 +5,12 @@ use crate::etcd::Rows;
 use crate::etcd::pipes::Kept;
 use crate::lines::Message;
 use crate::outgoing::Outgoing;
-use crate::printed::Printed;
 use crate::pulse::Pulse;
 use crate::settings::Settings;
 use crate::starts::Starts;
 use crate::store::{self, Identity};
-use crate::told::{Frame, Next, Told};
 use anyhow::{Context, Result, bail};
-use host_wire::{ANSWER_LIMIT, Answer, Blocks, Head, Said};
+use host_wire::{ANSWER_LIMIT, Answer, Asked, Blocks, Frame, Heard, Printed, Said, Text, Told};
 use std::collections::VecDeque;
 use std::error::Error;
 use std::fmt::{self, Display, Formatter};
@@ -139,7 +137,7 @@ impl Making {
             bail!("the master has no streams");
         };
         let mut input = Input { stream: Some(stream), waiting: Vec::new(), is_over: false };
-        Frame::Up(0).put(&mut input.waiting)?;
+        input.put(Frame::Up(0))?;
         input.write().await;
         let (begun, mut blocks) = (Instant::now(), Blocks::wide(ANSWER_LIMIT));
         let coming = come_up(hall, &mut output, &mut blocks);
@@ -181,6 +179,13 @@ impl Making {
 }
 
 impl Input {
+    // Puts a frame behind what waits; how many bytes it has.
+    fn put(&mut self, frame: Frame<'_>) -> Result<usize> {
+        let bytes = frame.write().context("a message that is none, or no memory")?;
+        self.waiting.extend_from_slice(&bytes);
+        Ok(bytes.len())
+    }
+
     // Writes of what waits; where nothing does it waits for ever.
     async fn write(&mut self) {
         let Some(stream) = self.stream.as_mut().filter(|_| !self.waiting.is_empty()) else {
@@ -195,25 +200,30 @@ impl Input {
     }
 }
 
+// What a block of the master tells.
+fn read(block: &[u8]) -> Result<Heard<'_>> {
+    Heard::read(block).context("what the master tells isn't understood")
+}
+
 // The answer to the first frame.
-async fn come_up(hall: &Hall, output: &mut ChildStdout, blocks: &mut Blocks) -> Result<Next> {
+async fn come_up(hall: &Hall, output: &mut ChildStdout, blocks: &mut Blocks) -> Result<Option<u64>> {
     let mut is_up = false;
     loop {
         let block = blocks.next_of(output).await?.context("it ended")?;
-        match Told::read(&block)? {
+        match read(&block)?.told() {
             Told::End(next) if is_up => return Ok(next),
             Told::End(_) => bail!("it told nothing"),
-            Told::Line(line) => {
-                let printed = Printed::read(line);
+            Told::Line(printed) => {
+                let line = Text(&block);
                 follow(hall, line, printed, None);
                 match printed {
                     Printed::Up(_) => is_up = true,
-                    Printed::Refused(_) if printed.is_store_refused() => return Err(StoreRefused(line.to_owned()).into()),
+                    Printed::Refused(_) if printed.is_store_refused() => return Err(StoreRefused(line.to_string()).into()),
                     Printed::Refused(_) => bail!("{line}"),
                     _ => {}
                 }
             }
-            Told::Message(..) => {}
+            Told::Message(..) | Told::Other => {}
             Told::Bad(reason) => bail!("it takes no frames: {reason}"),
         }
     }
@@ -232,15 +242,15 @@ impl Display for StoreRefused {
 impl Error for StoreRefused {}
 
 // What a line tells is noted and, where an operator wants to know it, logged.
-fn follow(hall: &Hall, line: &str, printed: Printed<'_>, from: Option<&(u64, Arc<str>)>) {
-    trace!(target: "tillermossd::master", line);
+fn follow(hall: &Hall, line: Text<'_>, printed: Printed<'_>, from: Option<&(u64, Arc<str>)>) {
+    trace!(target: "tillermossd::master", %line);
     let mut principal = from.map(|(_, principal)| principal.clone());
     let named = principal.as_deref();
     match printed {
         Printed::Up(epoch) => info!(%epoch, "a master is up"),
         Printed::Recovered => info!("the master has recovered"),
         Printed::Refused(_) => {
-            debug!(client = from.map(|(client, _)| *client), principal = named, reason = line, "a message or a sweep was refused");
+            debug!(client = from.map(|(client, _)| *client), principal = named, reason = %line, "a message or a sweep was refused");
         }
         Printed::Started(client) => {
             debug!(%client, principal = named, "a session started");
@@ -354,7 +364,7 @@ impl Master {
 
     // A Start of a client that has begun its session too often already: it is let go, as if it got lost.
     fn is_one_too_many(&self, message: &Message) -> bool {
-        let is_start = || Head::read(&message.bytes).is_some_and(|head| head.principal.is_some());
+        let is_start = || Asked::read(&message.bytes).is_some_and(|asked| asked.is_start());
         let is_too_many = self.starts.is_worn_out(message.client) && is_start();
         if is_too_many {
             self.hall.metrics.let_go();
@@ -370,7 +380,7 @@ impl Master {
             Some(message) => Frame::Message(moment, &message.bytes),
             None => Frame::Tick(moment),
         };
-        let bytes = frame.put(&mut self.input.waiting)?;
+        let bytes = self.input.put(frame)?;
         self.bytes_sent += bytes;
         self.pulse.send(moment);
         self.hall.metrics.sent(message.is_some());
@@ -405,18 +415,18 @@ impl Master {
     // What the master tells. Of one whose mastership has ended nothing is passed on: what it told before was done before.
     fn hear(&mut self, block: &[u8]) -> Result<()> {
         self.check_mastership()?;
-        match Told::read(block)? {
-            Told::Message(client, message) => self.pass(client, message),
-            Told::Line(line) => self.note(line),
+        match read(block)?.told() {
+            Told::Message(client, said, message) => self.pass(client, said, message),
+            Told::Line(printed) => self.note(Text(block), printed),
             Told::Bad(reason) => warn!(reason, "the master took no frame of what was sent"),
             Told::End(next) => return self.end(next),
+            Told::Other => {}
         }
         Ok(())
     }
 
     // A line, of the frame whose turn it is.
-    fn note(&mut self, line: &str) {
-        let printed = Printed::read(line);
+    fn note(&mut self, line: Text<'_>, printed: Printed<'_>) {
         let (is_commit, is_refused) = (printed.is_commit(), printed.is_store_refused());
         let from = self.sent.front_mut().and_then(|sent| {
             sent.has_committed |= is_commit;
@@ -433,7 +443,7 @@ impl Master {
     }
 
     // All was told of a frame.
-    fn end(&mut self, next: Next) -> Result<()> {
+    fn end(&mut self, next: Option<u64>) -> Result<()> {
         let sent = self.sent.pop_front();
         let is_refused = sent.as_ref().is_some_and(|sent| sent.is_refused);
         self.pulse.answer(next, is_refused);
@@ -451,18 +461,17 @@ impl Master {
     }
 
     // A message goes to its client, once all was heard that came with it.
-    fn pass(&mut self, client: u64, message: &[u8]) {
-        if let Some(Said { client, number, answer }) = Said::read(message) {
-            if matches!(answer, Answer::Started(_)) {
-                self.starts.tell(client);
-            }
-            match answer {
-                Answer::Started(span) | Answer::Alive(span, _) => self.hall.picture().lease(client, span),
-                Answer::Reply(_) | Answer::Refused(_) => self.hall.picture().answer(client, Some(number)),
-            }
-            if let Answer::Reply(Some(refusal)) = answer {
-                self.hall.metrics.refused(refusal);
-            }
+    fn pass(&mut self, client: u64, said: Said, message: &[u8]) {
+        let Said { number, answer, .. } = said;
+        if matches!(answer, Answer::Started(_)) {
+            self.starts.tell(client);
+        }
+        match answer {
+            Answer::Started(span) | Answer::Alive(span, _) => self.hall.picture().lease(client, span),
+            Answer::Reply(_) | Answer::Refused(_) => self.hall.picture().answer(client, Some(number)),
+        }
+        if let Answer::Reply(Some(refusal)) = answer {
+            self.hall.metrics.refused(refusal);
         }
         self.woken.extend(self.hall.routes.put(client, message));
     }
@@ -485,7 +494,7 @@ impl Master {
 
     // It goes in order: its store is closed.
     async fn stop(&mut self) -> Result<Ending> {
-        Frame::Down.put(&mut self.input.waiting)?;
+        self.input.put(Frame::Down)?;
         self.input.is_over = true;
         loop {
             tokio::select! {

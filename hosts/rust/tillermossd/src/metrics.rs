@@ -1,6 +1,6 @@
 //! What is counted, as Prometheus reads it.
 
-use crate::printed::Printed;
+use host_wire::Printed;
 use prometheus::{
     Gauge, Histogram, IntCounter, IntCounterVec, IntGauge, IntGaugeVec, Registry, TextEncoder, histogram_opts, opts,
     register_gauge_with_registry, register_histogram_with_registry, register_int_counter_vec_with_registry,
@@ -105,7 +105,7 @@ impl Metrics {
     }
 
     /// A call or a message was refused, by this number.
-    pub fn refused(&self, number: u8) {
+    pub fn refused(&self, number: u32) {
         self.refusals.with_label_values(&[&number.to_string()]).inc();
     }
 

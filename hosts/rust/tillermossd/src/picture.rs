@@ -1,10 +1,9 @@
 //! What the cell looks like from outside: its nodes, sessions, locks and rights, and who waits for what. It is made of the store's
 //! rows before a master is started, and then follows what the master tells and what goes past the server.
 
-use crate::printed::{Locked, Printed, Put};
 use crate::settings::Limits;
 use anyhow::Result;
-use host_wire::{Act, Deed};
+use host_wire::{Act, Deed, Locked, Printed, Put};
 use rusqlite::Connection;
 use std::collections::{BTreeMap, BTreeSet, HashMap};
 use std::sync::Arc;
@@ -287,8 +286,8 @@ impl Picture {
         self.answer(deed.client, None);
         let old = self.nodes.get(deed.name);
         let (nodes, bytes) = match deed.act {
-            Act::Create(length) if old.is_none() => (1, length as u64),
-            Act::Set(length) => (0, (length as u64).saturating_sub(old.map_or(0, |old| old.length))),
+            Act::Create(length) if old.is_none() => (1, length),
+            Act::Set(length) => (0, length.saturating_sub(old.map_or(0, |old| old.length))),
             _ => (0, 0),
         };
         let checks = [
@@ -353,21 +352,23 @@ mod tests {
         Deed { client, epoch: 1, number: 5, name, act }
     }
 
-    fn cell(lines: &[&str]) -> Picture {
+    fn cell(lines: &[Printed]) -> Picture {
         let mut picture = Picture::default();
         for line in lines {
-            picture.follow(Printed::read(line), Some(&"ann".into()));
+            picture.follow(*line, Some(&"ann".into()));
         }
         picture
     }
 
-    const LINES: &[&str] = &[
-        "up 1",
-        "started 1",
-        "started 2",
-        "applied 1 1 put /ls/c/f file 4 1 1 base base base permanent 3 616263",
-        "granted 1 2 /ls/c/f",
-        "locked 1 4 x 1",
+    const FILE: Put = Put { name: "/ls/c/f", instance: 4, is_file: true, is_ephemeral: false, generation: 1, length: 3 };
+
+    const LINES: &[Printed] = &[
+        Printed::Up(1),
+        Printed::Started(1),
+        Printed::Started(2),
+        Printed::Put(1, FILE),
+        Printed::Granted(1, 2, "/ls/c/f"),
+        Printed::Locked(Locked { client: 1, instance: 4, is_shared: false, generation: 1 }),
     ];
 
     #[test]
@@ -376,21 +377,21 @@ mod tests {
         assert_eq!((picture.epoch, picture.sessions.len(), picture.rights(), picture.bytes()), (1, 2, 1, 3));
         assert_eq!(picture.nodes["/ls/c/f"].length, 3);
         assert_eq!(picture.locks[&4], Lock { is_shared: false, holders: vec![1], generation: 1 });
-        let rows: &[(&str, usize, usize, usize, usize)] = &[
-            ("applied 1 2 gone /ls/c/f", 0, 2, 1, 0),
-            ("freed 1 4", 1, 2, 1, 0),
-            ("lapsed 1 4", 1, 2, 1, 1),
-            ("reopened 4", 1, 2, 1, 0),
-            ("acked 1", 1, 2, 0, 1),
-            ("expired 1", 1, 2, 0, 1),
-            ("ended 2", 1, 1, 1, 1),
-            ("up 2", 1, 2, 0, 1),
+        let rows: &[(Printed, usize, usize, usize, usize)] = &[
+            (Printed::Gone("/ls/c/f"), 0, 2, 1, 0),
+            (Printed::Freed(1, 4), 1, 2, 1, 0),
+            (Printed::Lapsed(1, 4), 1, 2, 1, 1),
+            (Printed::Reopened(4), 1, 2, 1, 0),
+            (Printed::Acked(1), 1, 2, 0, 1),
+            (Printed::Expired(1), 1, 2, 0, 1),
+            (Printed::Ended(2), 1, 1, 1, 1),
+            (Printed::Up(2), 1, 2, 0, 1),
         ];
         for (line, nodes, sessions, rights, locks) in rows {
             let mut picture = cell(LINES);
-            picture.follow(Printed::read(line), None);
+            picture.follow(*line, None);
             let found = (picture.nodes.len(), picture.sessions.len(), picture.rights(), picture.locks.len());
-            assert_eq!(found, (*nodes, *sessions, *rights, *locks), "{line}");
+            assert_eq!(found, (*nodes, *sessions, *rights, *locks), "{line:?}");
         }
     }
 

@@ -1,13 +1,9 @@
 //! When the master is to be given a tick.
 
-use crate::told::Next;
 use std::time::Duration;
 
 /// Between two ticks there are so many milliseconds at least.
 const LEAST: u64 = 5;
-
-/// How many milliseconds after the last frame a tick is due where the master doesn't tell.
-const UNTOLD: u64 = 50;
 
 /// How many milliseconds behind a frame in which the store refused the next tick is due: each time in a row twice as many, from the
 /// first on until the last. A disk that is full has room a little later; meanwhile it is ticks that answer Beats, which are due three
@@ -19,13 +15,13 @@ const REFUSED: (u64, u64) = (100, 2000);
 #[derive(Clone, Copy, Debug)]
 pub struct Pulse {
     last: u64,
-    next: Next,
+    next: Option<u64>,
     pause: u64,
 }
 
 impl Pulse {
-    /// Behind the first frame's answer, whose moment this was, and whose mark told this.
-    pub fn new(moment: u64, next: Next) -> Pulse {
+    /// Behind the first frame's answer, whose moment this was, and whose mark told this deadline, if any.
+    pub fn new(moment: u64, next: Option<u64>) -> Pulse {
         Pulse { last: moment, next, pause: REFUSED.0 }
     }
 
@@ -35,18 +31,14 @@ impl Pulse {
     }
 
     /// A frame was answered; whether the store refused in it. Then there is something to do at once, and it is tried a little later.
-    pub fn answer(&mut self, next: Next, is_refused: bool) {
+    pub fn answer(&mut self, next: Option<u64>, is_refused: bool) {
         (self.next, self.pause) =
-            if is_refused { (Next::At(self.last.saturating_add(self.pause)), (2 * self.pause).min(REFUSED.1)) } else { (next, REFUSED.0) };
+            if is_refused { (Some(self.last.saturating_add(self.pause)), (2 * self.pause).min(REFUSED.1)) } else { (next, REFUSED.0) };
     }
 
     /// How long from this moment on there is no tick, where no frame waits for its answer; None before something else happens.
     pub fn rest(&self, now: u64) -> Option<Duration> {
-        let due = match self.next {
-            Next::Nothing => return None,
-            Next::Untold => self.last.saturating_add(UNTOLD),
-            Next::At(moment) => moment.max(self.last.saturating_add(LEAST)),
-        };
+        let due = self.next?.max(self.last.saturating_add(LEAST));
         Some(Duration::from_millis(due.saturating_sub(now)))
     }
 }
@@ -58,13 +50,11 @@ mod tests {
     #[test]
     fn a_tick_is_due_at_the_next_deadline() {
         let rows = [
-            (Next::Nothing, 1000, None),
-            (Next::At(1500), 1000, Some(500)),
-            (Next::At(1500), 1500, Some(0)),
-            (Next::At(1500), 9999, Some(0)),
-            (Next::At(900), 1000, Some(5)),
-            (Next::Untold, 1000, Some(50)),
-            (Next::Untold, 1020, Some(30)),
+            (None, 1000, None),
+            (Some(1500), 1000, Some(500)),
+            (Some(1500), 1500, Some(0)),
+            (Some(1500), 9999, Some(0)),
+            (Some(900), 1000, Some(5)),
         ];
         for (next, now, wanted) in rows {
             let pulse = Pulse::new(1000, next);
@@ -74,23 +64,23 @@ mod tests {
 
     #[test]
     fn the_last_answer_says_the_next_deadline() {
-        let mut pulse = Pulse::new(0, Next::At(10));
+        let mut pulse = Pulse::new(0, Some(10));
         pulse.send(24);
-        pulse.answer(Next::At(30), false);
+        pulse.answer(Some(30), false);
         assert_eq!(pulse.rest(25), Some(Duration::from_millis(5)));
-        pulse.answer(Next::Nothing, false);
+        pulse.answer(None, false);
         assert_eq!(pulse.rest(25), None);
     }
 
     #[test]
     fn what_the_store_refused_is_tried_at_growing_times() {
-        let mut pulse = Pulse::new(1000, Next::At(1000));
+        let mut pulse = Pulse::new(1000, Some(1000));
         for wanted in [100, 200, 400, 800, 1600, 2000, 2000] {
-            pulse.answer(Next::At(1000), true);
+            pulse.answer(Some(1000), true);
             assert_eq!(pulse.rest(1000), Some(Duration::from_millis(wanted)));
         }
-        pulse.answer(Next::Nothing, false);
-        pulse.answer(Next::At(1000), true);
+        pulse.answer(None, false);
+        pulse.answer(Some(1000), true);
         assert_eq!(pulse.rest(1000), Some(Duration::from_millis(100)));
     }
 }

@@ -1,9 +1,6 @@
 //! Calls by bytes, as `docs/FORMATS.md` lays them out.
 
-use crate::plain::{Plain, message};
-use host_wire::messages::REFUSAL;
-use host_wire::messages::of_client::CALL;
-use host_wire::messages::of_master::{REFUSED, REPLY};
+use crate::plain::{CALL, Plain, REFUSAL, REFUSED, REPLY, message};
 use sha2::{Digest, Sha256};
 
 fn counted(bytes: &[u8]) -> Vec<u8> {

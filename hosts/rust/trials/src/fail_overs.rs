@@ -2,9 +2,8 @@
 
 use crate::calls::{ask, call, handle, open_call, read_call};
 use crate::far::far_from;
-use crate::plain::{Plain, again, message, new, start as start_of, start_numbered};
+use crate::plain::{BEAT, Plain, again, message, new, start as start_of, start_numbered};
 use crate::servers::{Kill, Start, folder};
-use host_wire::messages::of_client::BEAT;
 use std::io;
 use std::net::Shutdown;
 use std::sync::atomic::{AtomicBool, Ordering};

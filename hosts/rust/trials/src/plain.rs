@@ -1,12 +1,23 @@
-//! Connections by bytes, without the client library.
+//! Connections by bytes, without the client library. An attacker lays its messages out by itself: no library writes what it sends.
 
-use host_wire::messages::VERSION;
-use host_wire::messages::of_client::START;
-use host_wire::messages::of_master::STARTED;
 use host_wire::{Blocks, Hello, TurnedAway, Welcome, write_block};
 use std::io::{self, Write};
 use std::net::TcpStream;
 use std::time::Duration;
+
+/// The version of messages.
+const VERSION: u8 = 2;
+
+/// The kinds of a client's messages.
+const START: u8 = 0;
+pub(crate) const BEAT: u8 = 1;
+pub(crate) const CALL: u8 = 2;
+
+/// The kinds of a master's messages; and of the results of calls that of a refusal.
+const STARTED: u8 = 0;
+pub(crate) const REPLY: u8 = 2;
+pub(crate) const REFUSED: u8 = 3;
+pub(crate) const REFUSAL: u8 = 7;
 
 /// A connection to a server at `tcp:`.
 #[derive(Debug)]

@@ -1,9 +1,8 @@
-use Rattle.serve_cell.specs.declared.tellings.Told.TheVariants.{Line}
-use Rattle.serve_cell.proofs.Hearings.{text_made, text_refused}
+use Rattle.serve_cell.proofs.Hearings.{line_reads, line_refuses}
 use Rattle.serve_cell.proofs.heard.read_line.Goals as goal
 
 pub returns-in-Ok : goal.returns-in-Ok
-returns-in-Ok c = text_made Line _ _ c.in-Ok.ensures
+returns-in-Ok c = line_reads c.args.bytes.now _ c.requires c.in-Ok.ensures.line
 
 pub returns-in-Err : goal.returns-in-Err
-returns-in-Err c = λ other. text_refused Line _ _ (c.in-Err.ensures other)
+returns-in-Err c = λ other. line_refuses c.args.bytes.now _ c.requires (c.in-Err.ensures.line other)

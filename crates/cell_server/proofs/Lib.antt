@@ -1,0 +1,3 @@
+pub mod Behind
+pub mod Numbers
+pub mod Frames

@@ -1,0 +1,12 @@
+pub use Rattle.wire_core.specs.Forms
+pub use Rattle.wire_core.specs.Requests
+pub use Rattle.wire_core.specs.Outs
+pub use Rattle.serve_cell.specs.Blocks
+pub use Rattle.serve_cell.specs.Frames
+pub use Rattle.serve_cell.specs.Told
+pub mod Codes
+pub mod Shown
+pub mod Asked
+pub mod Said
+pub mod Heard
+pub mod Written

@@ -1,0 +1,155 @@
+//! The bytes between a server, its clients and its master, for programs in other languages: what stands under `extern "C"` here
+//! stands in include/cell_server.h. Nothing is kept between two calls.
+#![tactic(auto)]
+
+mod asked;
+mod codes;
+mod heard;
+mod laws;
+mod rooms;
+mod said;
+mod shown;
+mod written;
+
+ghost use Rattle.std.specs.Prelude.{[]};
+ghost use Rattle.wire_core.specs.Forms.{Form, read_whole};
+ghost use Rattle.wire_core.specs.Requests.{request};
+ghost use Rattle.wire_core.specs.Outs.{out_message};
+ghost use Rattle.serve_cell.specs.declared.frames.Frame.TheVariants as frames;
+ghost use Rattle.serve_cell.specs.Blocks.{framed};
+ghost use Rattle.serve_cell.specs.Frames.{frame};
+ghost use Rattle.serve_cell.specs.Told.{told};
+ghost use Rattle.cell_server.specs.Codes.{Shows, Tells};
+ghost use Rattle.cell_server.specs.Asked.{asked_parts, asked_name};
+ghost use Rattle.cell_server.specs.Said.{said_parts, said_name};
+ghost use Rattle.cell_server.specs.Heard.{heard_parts, heard_name, block_text};
+ghost use Rattle.cell_server.specs.Written.{message_frame, store_refused};
+
+pub use asked::Asked;
+use asked::tell_asked;
+pub use heard::Heard;
+use heard::{block_text, tell_heard};
+pub use laws::message_stands_behind;
+use rooms::put;
+pub use said::Said;
+use said::tell_said;
+use serve_cell::{Frame, write_frame};
+use std::alloc::Global;
+use written::{message_frame, store_refused};
+
+/// What the client's message of these bytes asks for, by its parts; its name, or its principal, goes into the room, if it fits. 0; or
+/// 1 for want of memory, and 2 to 8 for what is wrong with the bytes, the first from the left: then nothing is written.
+#[unsafe(no_mangle)]
+pub extern "C" fn cell_server_asked(
+    alloc: Global,
+    message: &[u8],
+    out: &mut Asked,
+    name: &mut [u8],
+) -> u32
+    ensures { Tells asked_parts asked_name (read_whole request message.now) out.old out.new name.old name.new result }
+{
+    tell_asked(alloc, message, out, name)
+}
+
+/// What the master's message of these bytes says, by its parts: 0; or 1 for want of memory, and 2 to 8 for what is wrong with the
+/// bytes: then nothing is written.
+#[unsafe(no_mangle)]
+pub extern "C" fn cell_server_said(alloc: Global, message: &[u8], out: &mut Said) -> u32
+    ensures { Tells said_parts said_name (read_whole out_message message.now) out.old out.new [] [] result }
+{
+    tell_said(alloc, message, out)
+}
+
+/// What a master tells in the block of these bytes, without their number in front, by its parts; its name goes into the room, if it
+/// fits. 0; or 1 for want of memory, and 2 to 8 for what is wrong with the bytes: then nothing is written.
+#[unsafe(no_mangle)]
+pub extern "C" fn cell_server_heard(
+    alloc: Global,
+    block: &[u8],
+    out: &mut Heard,
+    name: &mut [u8],
+) -> u32
+    ensures { Tells heard_parts heard_name (read_whole told block.now) out.old out.new name.old name.new result }
+{
+    tell_heard(alloc, block, out, name)
+}
+
+/// The line that a master tells in the block of these bytes, as it is printed, without LF: 0, and it goes into the room, if it fits,
+/// and `length` is how long it is. Else 1 for want of memory, and 2 to 8 for what is wrong with the bytes, 6 where it is another block:
+/// then nothing is written.
+#[unsafe(no_mangle)]
+pub extern "C" fn cell_server_text(
+    alloc: Global,
+    block: &[u8],
+    room: &mut [u8],
+    length: &mut usize,
+) -> u32
+    ensures { Shows (block_text block.now) room.old room.new length.old length.new result }
+{
+    put(block_text(alloc, block), room, length)
+}
+
+/// The frame by which a master comes up at a moment, with the number of its bytes in front: 0, or 1 for want of memory.
+#[unsafe(no_mangle)]
+pub extern "C" fn cell_server_up(
+    alloc: Global,
+    moment: u64,
+    room: &mut [u8],
+    length: &mut usize,
+) -> u32
+    ensures { Shows (framed frame (frames.Up moment)) room.old room.new length.old length.new result }
+{
+    put(write_frame(alloc, &Frame::Up(moment)), room, length)
+}
+
+/// The frame by which the client's message of these bytes comes to a master at a moment, with the number of its bytes in front: 0; or
+/// 1 for want of memory, and 2 to 8 for what is wrong with the message: then nothing is written.
+#[unsafe(no_mangle)]
+pub extern "C" fn cell_server_message(
+    alloc: Global,
+    moment: u64,
+    message: &[u8],
+    room: &mut [u8],
+    length: &mut usize,
+) -> u32
+    ensures { Shows (message_frame moment message.now) room.old room.new length.old length.new result }
+{
+    put(message_frame(alloc, moment, message), room, length)
+}
+
+/// The frame by which a master does what there is to do at a moment, with the number of its bytes in front: 0, or 1 for want of memory.
+#[unsafe(no_mangle)]
+pub extern "C" fn cell_server_tick(
+    alloc: Global,
+    moment: u64,
+    room: &mut [u8],
+    length: &mut usize,
+) -> u32
+    ensures { Shows (framed frame (frames.Tick moment)) room.old room.new length.old length.new result }
+{
+    put(write_frame(alloc, &Frame::Tick(moment)), room, length)
+}
+
+/// The frame by which a master goes, with the number of its bytes in front: 0, or 1 for want of memory.
+#[unsafe(no_mangle)]
+pub extern "C" fn cell_server_down(alloc: Global, room: &mut [u8], length: &mut usize) -> u32
+    ensures { Shows (framed frame frames.Down) room.old room.new length.old length.new result }
+{
+    put(write_frame(alloc, &Frame::Down), room, length)
+}
+
+/// The bytes of a master's reply to a call, by its client, its epoch and its number, that the store refused it: 0; or 1 for want of
+/// memory, and 7 where no client or no call has such a number: then nothing is written.
+#[unsafe(no_mangle)]
+pub extern "C" fn cell_server_store_refused(
+    alloc: Global,
+    client: u64,
+    epoch: u64,
+    number: u64,
+    room: &mut [u8],
+    length: &mut usize,
+) -> u32
+    ensures { Shows (store_refused client epoch number) room.old room.new length.old length.new result }
+{
+    put(store_refused(alloc, client, epoch, number), room, length)
+}
