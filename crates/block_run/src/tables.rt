@@ -71,12 +71,22 @@ pub(crate) fn parts<'l, 'a>(
     Ok(parts)
 }
 
-/// Puts bytes in hexadecimal, in any number of words, behind others.
+/// Puts bytes in hexadecimal, in any number of words, behind others. A word `N*BYTES` stands for these bytes N times.
 pub(crate) fn put_digits(alloc: Global, bytes: &mut Vec<u8>, digits: &str) -> Result<(), Stop> {
     for word in digits.split(' ') {
-        let Ok(some) = hex::decode(alloc, word) else {
-            return Err(Stop::Bad("not bytes in hexadecimal"));
-        };
+        match word.split_once('*') {
+            Some((count, some)) => put_times(alloc, bytes, count.parse().unwrap_or(0), some)?,
+            None => put_times(alloc, bytes, 1, word)?,
+        }
+    }
+    Ok(())
+}
+
+fn put_times(alloc: Global, bytes: &mut Vec<u8>, count: u64, digits: &str) -> Result<(), Stop> {
+    let Ok(some) = hex::decode(alloc, digits) else {
+        return Err(Stop::Bad("not bytes in hexadecimal"));
+    };
+    for _ in 0..count {
         bytes.extend_from_slice(some.as_slice())?;
     }
     Ok(())

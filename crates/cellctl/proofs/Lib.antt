@@ -1,1 +1,4 @@
 mod Overs
+mod Lefts
+mod News
+mod Buffers

@@ -1,7 +1,9 @@
--- What a run over a store leaves, from what its calls say.
-use Rattle.std.proofs.Common.{◌≡◌, ◌≤◌, ℕ, List, [], ◌∷◌, Option, refl, sym, ap, subst, ◌∙◌, arith}
+-- What was done over a store, from what its calls say.
+use Rattle.std.proofs.Common.{◌≡◌, ◌≤◌, ℕ, List, [], ◌∷◌, Option, Result, Ok, Err, refl, sym, ap, subst, ◌∙◌, arith}
+use Rattle.std.specs.Prelude.{IfOk}
 use Rattle.sqlite_disk.specs.declared.Disk.{Ghosts}
 use Rattle.sqlite_disk.specs.declared.Files.{Files}
+use Rattle.sqlite_wal.specs.Reads.{AreClean}
 use Rattle.sqlite_wal.specs.Recovery.{Image}
 use Rattle.sqlite_trees.specs.View.{doubt}
 use Rattle.sqlite.specs.State.{State, HasCleanDisk}
@@ -9,45 +11,105 @@ use Rattle.sqlite.specs.Start.{FindsIn}
 use Rattle.settings_core.specs.Settings.{Settled}
 use Rattle.rows_cell.specs.Stores.{Store}
 use Rattle.world_core.specs.World.{WorldView, IsUndoubted, opened, store_in}
-use Rattle.script_cell.specs.Ran.{EndsWith, EndsSurely}
+use Rattle.script_cell.specs.Ran.{EndsWith, EndsWell, EndsSurely}
+use Rattle.serve_cell.specs.Seats.{Hosted, without_master}
+use Rattle.serve_cell.specs.declared.stops.Stop.TheVariants.{NoMemory}
+use Rattle.serve_cell.specs.declared.stops.GroupStop.{GroupStop}
+use Rattle.serve_cell.specs.declared.stops.GroupStop.TheVariants.{Stopped}
+use Rattle.serve_cell.specs.Groups.{EndsGroups}
+use Rattle.serve_cell.proofs.Doubts.{ends_groups_grow}
+use Rattle.serve_cell.proofs.Grouped.{ends_roomless as roomless}
 use Rattle.rows_sql.specs.Adopting.{Adopts}
 use Rattle.rows_sql.specs.Closed.{StandsAlone}
-use Rattle.cellctl.specs.Closed.{taken, RanOver, RanAt}
+use Rattle.cellctl.specs.Led.{Known, ScriptLeads, ScriptLeadsSurely, served_status, EndsServing, FramesLead}
+use Rattle.cellctl.specs.Closed.{taken, DoneOver, DoneAt}
 
-as_taken : (settings : Settled) (s : Store) → s.cell ≡ settings.cell → s.may_leave ≡ s.rows ∷ [] → s.refusals ≡ 0 → s.doubt ≡ 0 → s ≡ taken settings s.rows
+-- ---- a store that was taken over
+
+pub as_taken : (settings : Settled) (s : Store) → s.cell ≡ settings.cell → s.may_leave ≡ s.rows ∷ [] → s.refusals ≡ 0 → s.doubt ≡ 0 → s ≡ taken settings s.rows
 as_taken settings s cell left none sure =
     subst (λ x. s ≡ record { cell = settings.cell; rows = s.rows; may_leave = s.rows ∷ []; refusals = 0; doubt = x }) sure
     (subst (λ x. s ≡ record { cell = settings.cell; rows = s.rows; may_leave = s.rows ∷ []; refusals = x; doubt = s.doubt }) none
     (subst (λ x. s ≡ record { cell = settings.cell; rows = s.rows; may_leave = x; refusals = s.refusals; doubt = s.doubt }) left
     (subst (λ x. s ≡ record { cell = x; rows = s.rows; may_leave = s.may_leave; refusals = s.refusals; doubt = s.doubt }) cell refl)))
 
-module _ {D : Type 0} (g : Ghosts D) (settings : Settled) (had : State) (text : Option (List ℕ)) (status : ℕ) (files : Files D) (a b : Option (List ℕ)) (first closing : Store) (old new : WorldView) where
-  pub ran_over : first.cell ≡ settings.cell → first.may_leave ≡ first.rows ∷ [] → first.refusals ≡ 0 → doubt had.is_clean ≤ first.doubt → (first.doubt ≡ 0 → Adopts settings had first.rows)
-      → old ≡ opened first settings.lease → (IsUndoubted new → IsUndoubted old × EndsWith status (EndsSurely text old new) a b)
-      → closing ≡ store_in new → (closing.doubt ≡ 0) × StandsAlone g files closing.rows → RanOver g settings had text status files a b
-  ran_over cell left none doubted adopts opens ran closes stands =
-      let end = ran (sym (ap (λ (s : Store). s.doubt) closes) ∙ stands.0) in
-      let sure : first.doubt ≡ 0 = sym (ap (λ (w : WorldView). w.doubt) opens) ∙ end.0 in
-      record {
-        clean = omega (arith, doubted, sure);
-        first = first.rows;
-        last = new;
-        adopts = adopts sure;
-        ran = subst (λ s. EndsWith status (EndsSurely text (opened s settings.lease) new) a b) (as_taken settings first cell left none sure) (subst (λ w. EndsWith status (EndsSurely text w new) a b) opens end.1);
-        stands = subst (λ (s : Store). StandsAlone g files s.rows) closes stands.1;
-      }
+-- as a connection that had this state was taken over
+pub record IsFirst (settings : Settled) (had : State) (first : Store) : Type 0 where
+  pub cell : first.cell ≡ settings.cell
+  pub left : first.may_leave ≡ first.rows ∷ []
+  pub none : first.refusals ≡ 0
+  pub doubted : doubt had.is_clean ≤ first.doubt
+  pub adopts : first.doubt ≡ 0 → Adopts settings had first.rows
 
-pub ran_at : {D : Type 0} (g : Ghosts D) (settings : Settled) (had : State) (held : Image) (text : Option (List ℕ)) (status : ℕ) (files : Files D) (a b : Option (List ℕ)) → (HasCleanDisk had → FindsIn held had) → RanOver g settings had text status files a b → RanAt g settings held text status files a b
-ran_at g settings had held text status files a b finds ran =
-    let found = finds ran.clean in
+pub adopted_as : (settings : Settled) (had : State) (first : Store) → IsFirst settings had first → first.doubt ≡ 0 → (first ≡ taken settings first.rows) × Adopts settings had first.rows
+adopted_as settings had first is sure = (as_taken settings first is.cell is.left is.none sure, is.adopts sure)
+
+-- ---- a store that was closed
+
+pub done_over : {D : Type 0} (g : Ghosts D) (settings : Settled) (had : State) (files : Files D) (Leads : Store → Store → Type 0) (first last : Store) → IsFirst settings had first
+    → (last.doubt ≡ 0 → (first.doubt ≡ 0) × Leads first last) → (last.doubt ≡ 0) × StandsAlone g files last.rows → DoneOver g settings had Leads files
+done_over g settings had files Leads first last is led stands =
+    let end = led stands.0 in
+    record {
+      clean = omega (arith, is.doubted, end.0);
+      first = first.rows;
+      last = last;
+      adopts = is.adopts end.0;
+      led = subst (λ s. Leads s last) (as_taken settings first is.cell is.left is.none end.0) end.1;
+      stands = stands.1;
+    }
+
+pub done_at : {D : Type 0} (g : Ghosts D) (settings : Settled) (had : State) (held : Image) (files : Files D) (Leads : Store → Store → Type 0) → (HasCleanDisk had → FindsIn held had)
+    → DoneOver g settings had Leads files → DoneAt g settings held Leads files
+done_at g settings had held files Leads finds done =
+    let found = finds done.clean in
     record {
       had = had.committed;
       holds = found.holds;
       reads = found.reads;
-      listed = ran.adopts.has.listed;
-      first = ran.first;
-      last = ran.last;
-      takes = ran.adopts.takes;
-      ran = ran.ran;
-      stands = ran.stands;
+      listed = done.adopts.has.listed;
+      first = done.first;
+      last = done.last;
+      takes = done.adopts.takes;
+      led = done.led;
+      stands = done.stands;
     }
+
+pub closed_at : {D X : Type 0} (g : Ghosts D) (settings : Settled) (had : State) (held : Image) (Leads : ℕ → Store → Store → Type 0) (r : Result (ℕ × Files D) X) → (HasCleanDisk had → FindsIn held had)
+    → IfOk r (λ x. AreClean g x.1.log x.1.db → DoneOver g settings had (Leads x.0) x.1) → IfOk r (λ x. AreClean g x.1.log x.1.db → DoneAt g settings held (Leads x.0) x.1)
+closed_at g settings had held Leads (Ok x) finds done clean = done_at g settings had held x.1 (Leads x.0) finds (done clean)
+closed_at g settings had held Leads (Err e) finds done = tt
+
+-- ---- a script
+
+module _ (lease : ℕ) (text before after : Known) (status : ℕ) (first last : Store) (old new : WorldView) (opens : old ≡ opened first lease) (closes : last ≡ store_in new) where
+  pub script_led : EndsWith status (EndsWell text old new) before after → ScriptLeads lease text before after status first last
+  script_led ran = (new, subst (λ w. EndsWith status (EndsWell text w new) before after) opens ran, closes)
+
+  pub script_led_surely : (IsUndoubted new → IsUndoubted old × EndsWith status (EndsSurely text old new) before after) → last.doubt ≡ 0
+      → (first.doubt ≡ 0) × ScriptLeadsSurely lease text before after status first last
+  script_led_surely ran sure =
+      let end = ran (sym (ap (λ (s : Store). s.doubt) closes) ∙ sure) in
+      (sym (ap (λ (w : WorldView). w.doubt) opens) ∙ end.0, (new, subst (λ w. EndsWith status (EndsSurely text w new) before after) opens end.1, closes))
+
+-- ---- frames
+
+pub ends_serving : (lease : ℕ) (text there before after : Known) (status : ℕ) (ended : Result (Unit {0}) GroupStop) (old new : Hosted) → there ≡ text → status ≡ served_status ended
+    → EndsGroups lease there old ended new before after → EndsServing lease text before after status old new
+ends_serving lease text there before after status ended old new same is e = (ended, is, subst (λ u. EndsGroups lease u old ended new before after) same e)
+
+-- before the first, for want of memory
+pub ends_roomless : (lease : ℕ) (text before : Known) (old : Hosted) → EndsServing lease text before before 4 old old
+ends_roomless lease text before old = (Err (Stopped NoMemory), refl, roomless lease text old before)
+
+module _ (lease : ℕ) (text before after : Known) (status : ℕ) (first last : Store) (old new : Hosted) (opens : old ≡ without_master first) (closes : last ≡ new.store)
+    (served : EndsServing lease text before after status old new) where
+  pub frames_led : FramesLead lease text before after status first last
+  frames_led = (new, subst (λ h. EndsServing lease text before after status h new) opens served, closes)
+
+  pub frames_led_surely : last.doubt ≡ 0 → (first.doubt ≡ 0) × FramesLead lease text before after status first last
+  frames_led_surely sure =
+      let grown = ends_groups_grow lease text old served.0 new before after served.2 in
+      let from : old.store.doubt ≡ first.doubt = ap (λ (h : Hosted). h.store.doubt) opens in
+      let to : last.doubt ≡ new.store.doubt = ap (λ (s : Store). s.doubt) closes in
+      (omega (arith, grown, from, to, sure), frames_led)

@@ -1,5 +1,5 @@
--- What a run over the store in two files did.
-use Rattle.std.specs.Prelude.{◌≡◌, ℕ, List, [], ◌∷◌, Option}
+-- What was done over the store in two files, which was then closed.
+use Rattle.std.specs.Prelude.{◌≡◌, [], ◌∷◌, ℕ, List, Option}
 use Rattle.sqlite_disk.specs.declared.Disk.{Ghosts}
 use Rattle.sqlite_disk.specs.declared.Files.{Files}
 use Rattle.sqlite_wal.specs.Recovery.{Image}
@@ -10,33 +10,46 @@ use Rattle.sqlite.specs.Files.{HoldsDatabase, AreFoundIn}
 use Rattle.settings_core.specs.Settings.{Settled}
 use Rattle.rows_cell.specs.declared.tables.Rows.{Rows}
 use Rattle.rows_cell.specs.Stores.{Store}
-use Rattle.world_core.specs.World.{WorldView, opened}
-use Rattle.script_cell.specs.Ran.{EndsWith, EndsSurely}
 use Rattle.rows_sql.specs.Adopting.{Adopts, Takes}
 use Rattle.rows_sql.specs.Closed.{StandsAlone}
+use Rattle.cellctl.specs.Led.{Known, ScriptLeadsSurely, FramesLead}
 
 -- a store of these rows that was just taken over: a crash leaves them, nothing was refused, nothing is in doubt
 abbrev pub taken : Settled → Rows → Store
 taken settings rows = record { cell = settings.cell; rows = rows; may_leave = rows ∷ []; refusals = 0; doubt = 0 }
 
--- a script ended so over a store that had this state, and the store was closed: it led from the rows that it was taken over
--- as to those that stand in the database file alone
-pub record RanOver {D : Type 0} (g : Ghosts D) (settings : Settled) (had : State) (text : Option (List ℕ)) (status : ℕ) (files : Files D) (before after : Option (List ℕ)) : Type 0 where
+-- over a connection that had this state: what was done led from the store that it was taken over as to one whose rows stand
+-- in the database file alone
+pub record DoneOver {D : Type 0} (g : Ghosts D) (settings : Settled) (had : State) (Leads : Store → Store → Type 0) (files : Files D) : Type 0 where
   pub clean : HasCleanDisk had
   pub first : Rows
-  pub last : WorldView
+  pub last : Store
   pub adopts : Adopts settings had first
-  pub ran : EndsWith status (EndsSurely text (opened (taken settings first) settings.lease) last) before after
-  pub stands : StandsAlone g files last.world.rows
+  pub led : Leads (taken settings first) last
+  pub stands : StandsAlone g files last.rows
 
 -- the same over the database that these files held
-pub record RanAt {D : Type 0} (g : Ghosts D) (settings : Settled) (held : Image) (text : Option (List ℕ)) (status : ℕ) (files : Files D) (before after : Option (List ℕ)) : Type 0 where
+pub record DoneAt {D : Type 0} (g : Ghosts D) (settings : Settled) (held : Image) (Leads : Store → Store → Type 0) (files : Files D) : Type 0 where
   pub had : Database
   pub holds : (db : Trees) → HoldsDatabase held db → had.trees ≡ db
   pub reads : AreFoundIn held had.trees
   pub listed : IsDatabase had
   pub first : Rows
-  pub last : WorldView
+  pub last : Store
   pub takes : Takes settings had first
-  pub ran : EndsWith status (EndsSurely text (opened (taken settings first) settings.lease) last) before after
-  pub stands : StandsAlone g files last.world.rows
+  pub led : Leads (taken settings first) last
+  pub stands : StandsAlone g files last.rows
+
+-- a script ended so over it
+abbrev pub RanOver : {D : Type 0} → Ghosts D → Settled → State → Known → ℕ → Files D → Known → Known → Type 0
+RanOver g settings had text status files before after = DoneOver g settings had (ScriptLeadsSurely settings.lease text before after status) files
+
+abbrev pub RanAt : {D : Type 0} → Ghosts D → Settled → Image → Known → ℕ → Files D → Known → Known → Type 0
+RanAt g settings held text status files before after = DoneAt g settings held (ScriptLeadsSurely settings.lease text before after status) files
+
+-- frames were served so over it
+abbrev pub ServedOver : {D : Type 0} → Ghosts D → Settled → State → Known → ℕ → Files D → Known → Known → Type 0
+ServedOver g settings had text status files before after = DoneOver g settings had (FramesLead settings.lease text before after status) files
+
+abbrev pub ServedAt : {D : Type 0} → Ghosts D → Settled → Image → Known → ℕ → Files D → Known → Known → Type 0
+ServedAt g settings held text status files before after = DoneAt g settings held (FramesLead settings.lease text before after status) files

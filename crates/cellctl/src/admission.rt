@@ -53,9 +53,27 @@ fn warn_of_secret(rt: &HostRuntime, path: &str, is_known: bool) {
 pub(crate) fn admit(rt: &HostRuntime, chosen: &Chosen, path: &str, log: &str) -> Result<(), u8>
     ensures { IfErr result IsExit }
 {
+    admit_as(rt, chosen, path, log, true)
+}
+
+/// The same of a store whose frames are served: it warns of nothing.
+pub(crate) fn admit_served(
+    rt: &HostRuntime,
+    chosen: &Chosen,
+    path: &str,
+    log: &str,
+) -> Result<(), u8>
+    ensures { IfErr result IsExit }
+{
+    admit_as(rt, chosen, path, log, false)
+}
+
+fn admit_as(rt: &HostRuntime, chosen: &Chosen, path: &str, log: &str, warns: bool) -> Result<(), u8>
+    ensures { IfErr result IsExit }
+{
     match Connection::open_from(rt, path, false, Unknown) {
         Ok(mut conn) => {
-            let admitted = admit_warned(rt, chosen, path, &mut conn);
+            let admitted = admit_open(rt, chosen, path, &mut conn, warns);
             let store = conn.into_store();
             if admitted.is_err() {
                 remove_empty(rt, log);
@@ -67,6 +85,22 @@ pub(crate) fn admit(rt: &HostRuntime, chosen: &Chosen, path: &str, log: &str) ->
             drop(left);
             Ok(())
         }
+    }
+}
+
+fn admit_open<S: Alter>(
+    rt: &HostRuntime,
+    chosen: &Chosen,
+    path: &str,
+    conn: &mut Connection<S>,
+    warns: bool,
+) -> Result<(), u8>
+    ensures { IfErr result IsExit }
+{
+    if warns {
+        admit_warned(rt, chosen, path, conn)
+    } else {
+        admit_quietly(rt, chosen, path, conn)
     }
 }
 
@@ -92,8 +126,7 @@ fn admit_warned<S: Alter>(
     Ok(())
 }
 
-/// Refuses the store of another cell, like `admit`, where it is open.
-pub(crate) fn admit_open<S: Alter>(
+fn admit_quietly<S: Alter>(
     rt: &HostRuntime,
     chosen: &Chosen,
     path: &str,

@@ -2,7 +2,7 @@
 ghost use Rattle.std.specs.Prelude.{◌≡◌, IfOk};
 ghost use Rattle.std.specs.Io.KnownBytes.{Appends};
 ghost use Rattle.cellctl.specs.Exits.{IsExit};
-ghost use Rattle.cellctl.specs.Tested.{status_of, verdict_line};
+ghost use Rattle.cellctl.specs.Tested.{status_of, verdict_line, TestsRead, ReportsRead};
 
 use crate::exits::tell_unwritten;
 use crate::findings::{find, tell_finding};
@@ -13,17 +13,48 @@ use rows_sql::{inspect_file, verdict};
 use std::alloc::Global;
 use std::fs;
 use std::io::{self, Write};
+use std::marker::Model;
+
+/// The bytes of the files of a store: the database and the log beside it, which has none where it isn't there.
+#[derive(Drop)]
+struct StoreBytes {
+    log: Vec<u8>,
+    db: Vec<u8>,
+}
+
+impl Model for StoreBytes {
+    ghost use Rattle.sqlite_wal.specs.Recovery.{Image};
+
+    ghost Value = { Image };
+
+    ghost view = { λ b. record { log = b.log.items; db = b.db.items } };
+}
 
 /// Tests the store at a path by the name of a cell, prints what is found, and answers the exit status: 0 where it is sound,
 /// 3 where it is refused, 1 where that can't be written. Why it is refused goes to the standard error.
 pub(crate) fn check_store(rt: &HostRuntime, cell: &Component, path: &str) -> Result<u8>
     ensures { IfOk result IsExit }
 {
-    let tested = tested(rt, cell, path);
+    let read = read_store(rt, path);
+    report(rt, cell, path, &read, &mut rt.stdout())
+}
+
+// Tests a store that was read, or says why it wasn't, and answers the status.
+fn report<W: Write>(
+    rt: &HostRuntime,
+    cell: &Component,
+    path: &str,
+    read: &Result<StoreBytes, StoreFault>,
+    output: &mut W,
+) -> Result<u8>
+    ensures exit { IfOk result IsExit }
+    ensures tested { IfOk result (λ status. ReportsRead cell.now read.now status (W.contents output.old) (W.contents output.new)) }
+{
+    let tested = tested(rt.alloc(), cell, read);
     if tested_status(&tested) == 4 {
         bail!("out of memory");
     }
-    match tell_tested(rt.alloc(), &tested, &mut rt.stdout()) {
+    match tell_tested(rt.alloc(), &tested, output) {
         Ok(status) => {
             if status != 0 {
                 let _ = tell_finding(rt, cell, path, &find(rt, cell, path));
@@ -60,25 +91,39 @@ fn tested_status(tested: &Result<Counts, StoreFault>) -> u8
     }
 }
 
+// By the bytes that were read: the database is opened in memory, and nothing is written.
+fn tested(
+    alloc: Global,
+    cell: &Component,
+    read: &Result<StoreBytes, StoreFault>,
+) -> Result<Counts, StoreFault>
+    ensures { TestsRead cell.now read.now result }
+{
+    match read {
+        Ok(bytes) => inspect_file(alloc, bytes.db.as_slice(), bytes.log.as_slice(), cell),
+        Err(fault) => Err(*fault),
+    }
+}
+
 // The files lie where a link leads, as for a run.
-fn tested(rt: &HostRuntime, cell: &Component, path: &str) -> Result<Counts, StoreFault> {
+fn read_store(rt: &HostRuntime, path: &str) -> Result<StoreBytes, StoreFault> {
     match fs::canonicalize(rt, path) {
-        Ok(real) => tested_at(rt, cell, real.as_str()),
+        Ok(real) => read_at(rt, real.as_str()),
         Err(error) => Err(unread_fault(error.kind())),
     }
 }
 
-// Reads the file and what stands beside it, and writes nothing: the database is opened in memory.
-fn tested_at(rt: &HostRuntime, cell: &Component, path: &str) -> Result<Counts, StoreFault> {
+// The file and what stands beside it.
+fn read_at(rt: &HostRuntime, path: &str) -> Result<StoreBytes, StoreFault> {
     let alloc = rt.alloc();
-    let Some(database) = read(rt, path)? else {
+    let Some(db) = read(rt, path)? else {
         return Err(StoreFault::Damaged);
     };
     if has_journal(rt, format!(in alloc; "{path}-journal")?.as_str())? {
         return Err(StoreFault::Refused);
     }
     let log = read_log(rt, format!(in alloc; "{path}-wal")?.as_str())?;
-    inspect_file(alloc, database.as_slice(), log.as_slice(), cell)
+    Ok(StoreBytes { log, db })
 }
 
 // The bytes of a file; none where there is no such file.

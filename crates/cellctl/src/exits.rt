@@ -1,5 +1,5 @@
 //! How the program ends where something can't be read or written.
-ghost use Rattle.cellctl.specs.Exits.{IsExit};
+ghost use Rattle.cellctl.specs.Exits.{IsExit, IsUnwritten};
 
 use crate::troubles::{Subject, output_trouble, tell};
 use std::io;
@@ -16,7 +16,8 @@ pub(crate) fn unread_status(kind: io::ErrorKind) -> u8
 
 /// Tells why the standard output can't be written, and answers the exit status.
 pub(crate) fn tell_unwritten(rt: &HostRuntime, error: &io::Error) -> u8
-    ensures { IsExit result }
+    ensures exit { IsExit result }
+    ensures unwritten { IsUnwritten result }
 {
     tell(rt, Subject::Output, "", output_trouble(error))
 }

@@ -2,7 +2,7 @@
 ghost use Rattle.std.specs.Prelude.{IfOk};
 ghost use Rattle.cellctl.specs.Exits.{IsExit};
 
-use crate::serves::serve_seat;
+use crate::serves::{Frames, serve_seat};
 use crate::settings::settings;
 use crate::texts::Trouble;
 use crate::troubles::{Subject, tell, trouble_of};
@@ -58,7 +58,12 @@ fn serve_pipes(
     let cell = settings.cell().clone().context("naming the cell")?;
     match FrameRecords::open(rt.alloc(), cell, asked, answered) {
         Ok(records) => {
-            let (seat, status) = serve_seat(rt, settings, Seat::Down(records));
+            let frames = Frames {
+                reader: rt.reader(),
+                errors: rt.stderr(),
+            };
+            let seat = Seat::Down(records);
+            let (seat, status) = serve_seat(rt.alloc(), settings, seat, frames, &mut rt.stdout());
             drop(seat.close());
             Ok(status)
         }

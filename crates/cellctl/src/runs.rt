@@ -1,16 +1,22 @@
-//! A run over a store in files.
-ghost use Rattle.std.specs.Prelude.{IfOk};
+//! A run over a store.
+ghost use Rattle.std.specs.Prelude.{◌≡◌, IfOk, IfErr, OnErr};
+ghost use Rattle.sqlite_trees.specs.View.{IsClean};
 ghost use Rattle.sqlite_wal.specs.Reads.{AreClean};
 ghost use Rattle.sqlite_wal.specs.Files.{image_at};
 ghost use Rattle.sqlite.specs.Files.{file_state};
+ghost use Rattle.sqlite.specs.Held.{state};
+ghost use Rattle.rows_sql.specs.Creation.{no_schema};
 ghost use Rattle.script_cell.specs.Stops.{IsStatus};
+ghost use Rattle.cellctl.specs.Anew.{RanAnew};
 ghost use Rattle.cellctl.specs.Closed.{RanOver, RanAt};
+ghost use Rattle.cellctl.specs.Led.{ScriptLeads};
+ghost use Rattle.cellctl.specs.Left.{LeavesOver, LeavesAt};
 
 use rows_cell::StoreFault;
 use rows_sql::SqlRecords;
 use script_cell::script_on;
 use settings_core::Settings;
-use sqlite::{Connection, Error, FileStore, Files, Leftover, MemStore};
+use sqlite::{Alter, Connection, Error, FileStore, Files, Leftover};
 use sqlite_disk::{Disk, Start};
 use sqlite_std_file::FileFrom;
 use std::alloc::Global;
@@ -30,11 +36,9 @@ pub(crate) struct Script<I, E> {
 pub(crate) enum Unclosed<D: Disk> {
     /// They can't be opened.
     Unopened(Error, Option<Leftover<D>>),
-    /// It is another cell's, which was told, and the program ends with this status.
-    OtherCell(u8, FileStore<D>),
     /// The store isn't taken over.
     Refused(StoreFault, FileStore<D>),
-    /// A script ended over it with this status, and it can't be closed.
+    /// What was to be done over it ended with this status, and it can't be closed.
     Open(u8, Error, FileStore<D>),
 }
 
@@ -49,6 +53,7 @@ pub(crate) fn run_path<S: Start, I: Read + Drop, W: Write, E: Write + Drop>(
     writer: &mut W,
 ) -> Result<(u8, Files<FileFrom<S>>), Unclosed<FileFrom<S>>>
     ensures closed { IfOk result (λ r. AreClean ⟦<FileFrom<S> as Disk>⟧ r.1.log r.1.db → RanAt ⟦<FileFrom<S> as Disk>⟧ settings.now (image_at S.Start) (I.remaining script.reader) r.0 r.1 (W.contents writer.old) (W.contents writer.new)) }
+    ensures left { IfErr result (LeavesAt settings.now (image_at S.Start) (ScriptLeads settings.now.lease (I.remaining script.reader) (W.contents writer.old) (W.contents writer.new)) (W.contents writer.old) (W.contents writer.new)) }
     ensures status { IfOk result (λ r. IsStatus r.0) }
 {
     match Connection::open_from(rt, path, false, start) {
@@ -69,6 +74,8 @@ pub(crate) fn run_files<D: Disk + Drop, I: Read + Drop, W: Write, E: Write + Dro
     // Where nobody else wrote the files, and the disk gave back what was written: it led from the rows that they had to
     // those that they have, and the laws of runs hold of it.
     ensures closed { IfOk result (λ r. AreClean D.Disk r.1.log r.1.db → RanOver D.Disk settings.now (file_state conn) (I.remaining script.reader) r.0 r.1 (W.contents writer.old) (W.contents writer.new)) }
+    // Else it is said what a crash leaves.
+    ensures left { IfErr result (LeavesOver settings.now conn (ScriptLeads settings.now.lease (I.remaining script.reader) (W.contents writer.old) (W.contents writer.new)) (W.contents writer.old) (W.contents writer.new)) }
     ensures status { IfOk result (λ r. IsStatus r.0) }
 {
     let Script {
@@ -88,14 +95,16 @@ pub(crate) fn run_files<D: Disk + Drop, I: Read + Drop, W: Write, E: Write + Dro
     }
 }
 
-/// Runs a script over a new store in memory.
+/// Runs a script over a new store in memory, whose rows are those of a new cell: all laws of runs hold of it.
 pub(crate) fn run_new<I: Read + Drop, W: Write, E: Write + Drop>(
     alloc: Global,
     settings: &Settings,
     script: Script<I, E>,
     writer: &mut W,
 ) -> Result<u8, StoreFault>
-    ensures { IfOk result IsStatus }
+    ensures ran { IfOk result (λ status. RanAnew settings.now (I.remaining script.reader) status (W.contents writer.old) (W.contents writer.new)) }
+    ensures none { OnErr result (W.contents writer.new ≡ W.contents writer.old) }
+    ensures status { IfOk result IsStatus }
 {
     match Connection::open_in_memory(alloc) {
         Ok(conn) => run_empty(alloc, settings, conn, script, writer),
@@ -103,15 +112,17 @@ pub(crate) fn run_new<I: Read + Drop, W: Write, E: Write + Drop>(
     }
 }
 
-// The same over a connection of memory that has no table yet.
-fn run_empty<I: Read + Drop, W: Write, E: Write + Drop>(
+// The same over a connection that has no table yet. Where its store takes no wrong answer as true, as memory, nothing is in doubt.
+fn run_empty<S: Alter + Drop, I: Read + Drop, W: Write, E: Write + Drop>(
     alloc: Global,
     settings: &Settings,
-    conn: Connection<MemStore>,
+    conn: Connection<S>,
     script: Script<I, E>,
     writer: &mut W,
 ) -> Result<u8, StoreFault>
-    ensures { IfOk result IsStatus }
+    ensures ran { IfOk result (λ status. ((store : S) → IsClean (S.Store.view store)) → (state S.Store conn).committed.schema ≡ no_schema → RanAnew settings.now (I.remaining script.reader) status (W.contents writer.old) (W.contents writer.new)) }
+    ensures none { OnErr result (W.contents writer.new ≡ W.contents writer.old) }
+    ensures status { IfOk result IsStatus }
 {
     let Script {
         reader,

@@ -1,8 +1,15 @@
 //! A master that another program starts.
-ghost use Rattle.std.specs.Prelude.{IfOk};
+ghost use Rattle.std.specs.Prelude.{◌≡◌, IfOk, IfErr};
+ghost use Rattle.sqlite_wal.specs.Reads.{AreClean};
+ghost use Rattle.sqlite_wal.specs.Files.{image_at};
+ghost use Rattle.sqlite.specs.Files.{file_state};
+ghost use Rattle.serve_cell.specs.Seats.{hosted};
+ghost use Rattle.cellctl.specs.Closed.{ServedOver, ServedAt};
 ghost use Rattle.cellctl.specs.Exits.{IsExit};
+ghost use Rattle.cellctl.specs.Led.{served_status, EndsServing, FramesLead};
+ghost use Rattle.cellctl.specs.Left.{LeavesOver, LeavesAt};
 
-use crate::admission::{admit_open, make_file};
+use crate::admission::{admit_served, make_file};
 use crate::runs::Unclosed;
 use crate::settings::{Chosen, settings};
 use crate::stores::{left_open, tell_unfound};
@@ -12,16 +19,21 @@ use rows_sql::SqlRecords;
 use serve_cell::{GroupStop, Seat, Stop, serve_groups};
 use settings_core::Settings;
 use sqlite::{Connection, FileStore, Files};
-use sqlite_disk::Unknown;
-use sqlite_std_file::File;
+use sqlite_disk::{Disk, Start, Unknown};
+use sqlite_std_file::FileFrom;
+use std::alloc::Global;
 use std::fs;
-use std::io::{self, BufReader};
+use std::io::{self, BufReader, Read, Write};
 
 /// How many bytes are read at once.
 const READ_SIZE: usize = 0x1_0000;
 
-/// The status behind the last frame, and the files of the store, which is closed.
-type Served = Result<(u8, Files<File>), Unclosed<File>>;
+/// Frames, and who is told why they are served no further.
+#[derive(Drop)]
+pub(crate) struct Frames<I, E> {
+    pub(crate) reader: I,
+    pub(crate) errors: E,
+}
 
 /// Answers the frames of standard input over the store in the file at a path, which is made where there is none, with the
 /// settings of a file or the standard ones. At the end the store is closed: its rows stand in the one file. Where it can't be
@@ -40,7 +52,7 @@ fn serve_at(rt: &HostRuntime, chosen: &Chosen, path: &str) -> Result<u8>
     ensures { IfOk result IsExit }
 {
     match fs::canonicalize(rt, path) {
-        Ok(real) => serve_real(rt, chosen, real.as_str()),
+        Ok(real) => serve_there(rt, chosen, real.as_str()),
         Err(error) => match error.kind() {
             io::ErrorKind::NotFound => {
                 let _ = make_file(rt, path);
@@ -51,12 +63,34 @@ fn serve_at(rt: &HostRuntime, chosen: &Chosen, path: &str) -> Result<u8>
     }
 }
 
+// Looks whose the store is, before it is taken over.
+fn serve_there(rt: &HostRuntime, chosen: &Chosen, path: &str) -> Result<u8>
+    ensures { IfOk result IsExit }
+{
+    let log = format!(in rt.alloc(); "{path}-wal").context("naming the log")?;
+    match admit_served(rt, chosen, path, log.as_str()) {
+        Ok(()) => serve_real(rt, chosen, path),
+        Err(status) => Ok(status),
+    }
+}
+
 // Behind the last frame the log is removed: the database file alone has the rows.
 fn serve_real(rt: &HostRuntime, chosen: &Chosen, path: &str) -> Result<u8>
     ensures { IfOk result IsExit }
 {
     let log = format!(in rt.alloc(); "{path}-wal").context("naming the log")?;
-    match serve_file(rt, chosen, path) {
+    let frames = Frames {
+        reader: rt.reader(),
+        errors: rt.stderr(),
+    };
+    match serve_file(
+        rt,
+        &chosen.settings,
+        path,
+        Unknown,
+        frames,
+        &mut rt.stdout(),
+    ) {
         Ok((status, files)) => {
             let _ = fs::remove_file(rt, log.as_str());
             drop(files);
@@ -66,98 +100,108 @@ fn serve_real(rt: &HostRuntime, chosen: &Chosen, path: &str) -> Result<u8>
     }
 }
 
-fn serve_file(rt: &HostRuntime, chosen: &Chosen, path: &str) -> Served
-    ensures { IfOk result (λ r. IsExit r.0) }
+/// Answers all frames over the store in the files at a path, which are made where there are none, and closes it: what
+/// `serve_store` says, of what the files held. `S` stands for that, as in `run_path`.
+fn serve_file<S: Start, I: Read + Drop, W: Write, E: Write + Drop>(
+    rt: &HostRuntime,
+    settings: &Settings,
+    path: &str,
+    start: S,
+    frames: Frames<I, E>,
+    writer: &mut W,
+) -> Result<(u8, Files<FileFrom<S>>), Unclosed<FileFrom<S>>>
+    ensures closed { IfOk result (λ r. AreClean ⟦<FileFrom<S> as Disk>⟧ r.1.log r.1.db → ServedAt ⟦<FileFrom<S> as Disk>⟧ settings.now (image_at S.Start) (I.remaining frames.reader) r.0 r.1 (W.contents writer.old) (W.contents writer.new)) }
+    ensures left { IfErr result (LeavesAt settings.now (image_at S.Start) (FramesLead settings.now.lease (I.remaining frames.reader) (W.contents writer.old) (W.contents writer.new)) (W.contents writer.old) (W.contents writer.new)) }
+    ensures status { IfOk result (λ r. IsExit r.0) }
 {
-    match Connection::open_from(rt, path, false, Unknown) {
-        Ok(conn) => serve_seen(rt, chosen, path, conn),
+    match Connection::open_from(rt, path, false, start) {
+        Ok(conn) => serve_store(rt.alloc(), settings, conn, frames, writer),
         Err((error, left)) => Err(Unclosed::Unopened(error, left)),
     }
 }
 
-// Looks whose the store is, before it is taken over.
-fn serve_seen(
-    rt: &HostRuntime,
-    chosen: &Chosen,
-    path: &str,
-    mut conn: Connection<FileStore<File>>,
-) -> Served
-    ensures { IfOk result (λ r. IsExit r.0) }
-{
-    match admit_open(rt, chosen, path, &mut conn) {
-        Ok(()) => serve_store(rt, &chosen.settings, conn),
-        Err(status) => Err(Unclosed::OtherCell(status, conn.into_store())),
-    }
-}
-
-fn serve_store(rt: &HostRuntime, settings: &Settings, conn: Connection<FileStore<File>>) -> Served
-    ensures { IfOk result (λ r. IsExit r.0) }
-{
-    match SqlRecords::adopt(rt.alloc(), conn, settings) {
-        Ok(records) => serve_records(rt, settings, records),
-        Err((fault, store)) => Err(Unclosed::Refused(fault, store)),
-    }
-}
-
-// Answers all frames, and closes the store.
-fn serve_records(
-    rt: &HostRuntime,
+/// Takes the store of a connection over, answers all frames, gives the status behind the last one, and closes the store, whatever
+/// that is: so its rows stand in the database file alone.
+fn serve_store<D: Disk + Drop, I: Read + Drop, W: Write, E: Write + Drop>(
+    alloc: Global,
     settings: &Settings,
-    records: SqlRecords<FileStore<File>>,
-) -> Served
-    ensures { IfOk result (λ r. IsExit r.0) }
+    conn: Connection<FileStore<D>>,
+    frames: Frames<I, E>,
+    writer: &mut W,
+) -> Result<(u8, Files<D>), Unclosed<D>>
+    // Where nobody else wrote the files, and the disk gave back what was written: the frames led from the rows that they had
+    // to those that they have.
+    ensures closed { IfOk result (λ r. AreClean D.Disk r.1.log r.1.db → ServedOver D.Disk settings.now (file_state conn) (I.remaining frames.reader) r.0 r.1 (W.contents writer.old) (W.contents writer.new)) }
+    // Else it is said what a crash leaves.
+    ensures left { IfErr result (LeavesOver settings.now conn (FramesLead settings.now.lease (I.remaining frames.reader) (W.contents writer.old) (W.contents writer.new)) (W.contents writer.old) (W.contents writer.new)) }
+    ensures status { IfOk result (λ r. IsExit r.0) }
 {
-    let (seat, status) = serve_seat(rt, settings, Seat::Down(records));
+    let records = match SqlRecords::adopt(alloc, conn, settings) {
+        Ok(records) => records,
+        Err((fault, store)) => return Err(Unclosed::Refused(fault, store)),
+    };
+    let (seat, status) = serve_seat(alloc, settings, Seat::Down(records), frames, writer);
     match seat.close().close() {
         Ok(files) => Ok((status, files)),
         Err((error, store)) => Err(Unclosed::Open(status, error, store)),
     }
 }
 
-/// Answers all frames of standard input, and gives the status behind the last one.
-pub(crate) fn serve_seat<R: Records>(
-    rt: &HostRuntime,
+/// Answers all frames, and gives the status behind the last one.
+pub(crate) fn serve_seat<R: Records, I: Read + Drop, W: Write, E: Write + Drop>(
+    alloc: Global,
     settings: &Settings,
     seat: Seat<R>,
+    frames: Frames<I, E>,
+    writer: &mut W,
 ) -> (Seat<R>, u8)
-    ensures { IsExit result.1 }
+    ensures served { EndsServing settings.now.lease (I.remaining frames.reader) (W.contents writer.old) (W.contents writer.new) result.1 (hosted R.store seat) (hosted R.store result.0) }
+    ensures exit { IsExit result.1 }
 {
-    let alloc = rt.alloc();
-    let Ok(mut input) = BufReader::with_capacity(alloc, READ_SIZE, rt.reader()) else {
+    let Frames { reader, mut errors } = frames;
+    let Ok(mut input) = BufReader::with_capacity(alloc, READ_SIZE, reader) else {
         return (seat, 4);
     };
-    let mut output = rt.stdout();
-    let (seat, ended) = serve_groups(alloc, settings.lease(), seat, &mut input, &mut output);
-    (seat, ended_status(rt, &ended))
+    let (seat, ended) = serve_groups(alloc, settings.lease(), seat, &mut input, writer);
+    tell_ended(&ended, &mut errors);
+    (seat, ended_status(&ended))
 }
 
-fn ended_status(rt: &HostRuntime, ended: &Result<(), GroupStop>) -> u8
-    ensures { IsExit result }
+fn ended_status(ended: &Result<(), GroupStop>) -> u8
+    ensures status { result ≡ served_status ended.now }
+    ensures exit { IsExit result }
 {
     match ended {
         Ok(()) => 0,
-        Err(GroupStop::Stopped(stop)) => stopped_status(rt, stop),
+        Err(GroupStop::Stopped(Stop::Unread)) => 1,
+        Err(GroupStop::Stopped(Stop::Unwritten)) => 1,
+        Err(GroupStop::Stopped(Stop::NoMemory)) => 4,
+        Err(GroupStop::Refused(_)) => 3,
+    }
+}
+
+// Tells why frames are served no further. Where these words can't be written, the status still tells.
+fn tell_ended<E: Write>(ended: &Result<(), GroupStop>, errors: &mut E) {
+    match ended {
+        Ok(()) => {}
+        Err(GroupStop::Stopped(stop)) => tell_stopped(stop, errors),
         Err(GroupStop::Refused(fault)) => {
-            let _ = eprintln!(rt;
+            let _ = writeln!(
+                errors,
                 "cellctl: the store refused what several frames changed: {fault}"
             );
-            3
         }
     }
 }
 
-fn stopped_status(rt: &HostRuntime, stop: &Stop) -> u8
-    ensures { IsExit result }
-{
+fn tell_stopped<E: Write>(stop: &Stop, errors: &mut E) {
     match stop {
-        Stop::Unwritten => 1,
+        Stop::Unwritten => {}
         Stop::Unread => {
-            let _ = eprintln!(rt; "cellctl: the input can't be read");
-            1
+            let _ = writeln!(errors, "cellctl: the input can't be read");
         }
         Stop::NoMemory => {
-            let _ = eprintln!(rt; "cellctl: out of memory");
-            4
+            let _ = writeln!(errors, "cellctl: out of memory");
         }
     }
 }

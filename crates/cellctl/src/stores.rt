@@ -227,11 +227,6 @@ pub(crate) fn left_open(
             drop(left);
             tell_finding(rt, cell, path, &find_unopened(rt, cell, path, &error))
         }
-        Unclosed::OtherCell(status, store) => {
-            remove_empty(rt, log);
-            drop(store);
-            refused_status(status)
-        }
         Unclosed::Refused(fault, store) => {
             remove_empty(rt, log);
             drop(store);
@@ -242,16 +237,6 @@ pub(crate) fn left_open(
             let _ = eprintln!(rt; "cellctl: closing the store {path}: {error}");
             unclosed_status(status, &error)
         }
-    }
-}
-
-// The status of a store that isn't taken over for whose it is.
-fn refused_status(status: u8) -> u8
-    ensures { IsExit result }
-{
-    match status {
-        4 => 4,
-        _ => 3,
     }
 }
 

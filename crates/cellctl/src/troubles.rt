@@ -1,5 +1,6 @@
 //! What is told of a trouble, and the exit status that it has.
-ghost use Rattle.cellctl.specs.Exits.{IsExit};
+ghost use Rattle.std.specs.Prelude.{◌≡◌};
+ghost use Rattle.cellctl.specs.Exits.{IsExit, IsUnwritten};
 
 use crate::texts::{Trouble, words_of};
 use std::io;
@@ -17,7 +18,8 @@ pub(crate) enum Subject {
 
 /// Tells of a trouble, what cures it, and the exit status, which is the answer.
 pub(crate) fn tell(rt: &HostRuntime, subject: Subject, path: &str, trouble: Trouble) -> u8
-    ensures { IsExit result }
+    ensures exit { IsExit result }
+    ensures output { subject ≡ Subject.Output → IsUnwritten result }
 {
     let status = status_of(subject, trouble);
     let noun = noun_of(subject);
@@ -28,7 +30,8 @@ pub(crate) fn tell(rt: &HostRuntime, subject: Subject, path: &str, trouble: Trou
 }
 
 fn status_of(subject: Subject, trouble: Trouble) -> u8
-    ensures { IsExit result }
+    ensures exit { IsExit result }
+    ensures output { subject ≡ Subject.Output → IsUnwritten result }
 {
     match (subject, trouble) {
         (_, Trouble::NoMemory) => 4,

@@ -1,9 +1,10 @@
 -- What is done and written, step behind step.
-use Rattle.std.proofs.Common.{◌≡◌, inl, inr, ◌∷◌, [], ◌++◌, ◌≤◌, ◌<◌, ◌+◌, zero, suc, List, ℕ, Bool, true, false, length, take, slice_index_or, Option, None, Some, Result, Ok, Err, refl, sym, ap, subst, arith, ◌∙◌}
+use Rattle.std.proofs.Common.{◌≡◌, inl, inr, ◌∷◌, [], ◌++◌, ◌≤◌, ◌<◌, ◌+◌, zero, suc, List, ℕ, Bool, true, false, length, take, drop, slice_index_or, Option, None, Some, Result, Ok, Err, refl, sym, ap, subst, arith, ◌∙◌}
 use Rattle.std.specs.Prelude.{IfOk, IfErr, OnOk, OnErr, is_some, not, ◌&&◌}
 use Rattle.std.specs.Io.KnownBytes.{Appends, Keeps, IsAtEnd}
 use Rattle.std.specs.Str.Lossy.{utf8_lossy}
-use Rattle.std.proofs.lemmas.List.{append-nil, append_assoc, length-append, take_all}
+use Rattle.std.specs.Result.{IsErr, IsErrAnd}
+use Rattle.std.proofs.lemmas.List.{append-nil, append_assoc, length-append, take_all, take-append-drop}
 use Rattle.node_core.specs.declared.refusals.Fault.{Fault}
 use Rattle.node_core.specs.declared.refusals.Fault.TheVariants.{MasterDown}
 use Rattle.node_core.specs.declared.lines.Line.{Line}
@@ -16,9 +17,14 @@ use Rattle.world_laws.proofs.PartsOfRuns.{take_more}
 use Rattle.script_cell.specs.declared.steps.Parsed.{Parsed}
 use Rattle.script_cell.specs.declared.steps.Parsed.TheVariants as parsed
 use Rattle.script_cell.specs.Readings.{IsParsed}
+use Rattle.script_cell.specs.declared.stops.Stop.{Stop}
+use Rattle.script_cell.specs.declared.stops.Stop.TheVariants.{Unwritten}
+use Rattle.script_cell.specs.Ran.{Writes}
 use Rattle.script_cell.specs.Settling.{Played, played, PlaysMade, PlaysRefused, turn_step, is_waiting, is_idle, Turns, TakesTurn, SettlesBy, Settles}
 use Rattle.script_cell.specs.Texts.{Reading, Advances}
-use Rattle.script_cell.specs.Scripts.{lines_text, told, DoesParsed, DoesLine, DoesLines, IsOfPart, IsOfScript, Wrote}
+use Rattle.write_core.specs.Fronts.{AppendsFront}
+use Rattle.write_core.proofs.Fronts.{front_all, front_behind, front_before, front_keeps}
+use Rattle.script_cell.specs.Scripts.{lines_text, told, DoesParsed, DoesLine, DoesLines, IsOfPart, IsOfScript, Wrote, WroteFront}
 use Rattle.script_cell.proofs.FirstLines.{passes_none, passes_more, passes_all}
 
 -- ---- bytes
@@ -45,6 +51,21 @@ written_more xs i x a b c less is h k =
 pub written_all : (xs : List Line) (i : ℕ) (a b : Option (List ℕ)) → length xs ≤ i → Appends a b (lines_text (take i xs)) → Appends a b (lines_text xs)
 written_all xs i a b all h = subst (λ ys. Appends a b (lines_text ys)) (take_all i xs all) h
 
+-- of the next line a front is written, behind those before
+written_front : (xs : List Line) (i : ℕ) (x : Line) (a b c : Option (List ℕ)) → i < length xs → x ≡ slice_index_or xs i x → Appends a b (lines_text (take i xs)) → AppendsFront b c (lines_text (x ∷ [])) → AppendsFront a c (lines_text xs)
+written_front xs i x a b c less is h k =
+    let rest : List Line = drop (i + 1) xs in
+    let first : lines_text (take i xs) ++ lines_text (x ∷ []) ≡ lines_text (take (i + 1) xs) =
+    sym (ap lines_text (take_more xs i x less is) ∙ both_texts (take i xs) (x ∷ [])) in
+    let all : (lines_text (take i xs) ++ lines_text (x ∷ [])) ++ lines_text rest ≡ lines_text xs =
+    ap (λ bytes. bytes ++ lines_text rest) first ∙ sym (both_texts (take (i + 1) xs) rest) ∙ ap lines_text (take-append-drop (i + 1) xs) in
+    subst (AppendsFront a c) all (front_before a c _ (lines_text rest) (front_behind a b c (lines_text (take i xs)) (lines_text (x ∷ [])) h k))
+
+pub exit_written : (r : Result (Unit {0}) Stop) (stop : Stop) (xs : List Line) (i : ℕ) (x : Line) (a b c : Option (List ℕ)) → IsErr r × IsErrAnd r (λ e. e ≡ stop) → i < length xs → x ≡ slice_index_or xs i x → Appends a b (lines_text (take i xs))
+    → (stop ≡ Unwritten) × AppendsFront b c (lines_text (x ∷ [])) → Writes r xs a c
+exit_written (Ok y) stop xs i x a b c exit less is h k = let none = exit.0 in cc
+exit_written (Err e) stop xs i x a b c exit less is h k = (exit.1 ∙ k.0, written_front xs i x a b c less is h k.1)
+
 pub wrote_then : (P Q R : List Line → Type 0) (a b c : Option (List ℕ)) → ((front back : List Line) → P front → Q back → R (front ++ back)) → Wrote P a b → Wrote Q b c → Wrote R a c
 wrote_then P Q R a b c join h k =
     (h.0 ++ k.0, join h.0 k.0 h.1 k.1, subst (Appends a c) (sym (both_texts h.0 k.0)) (appends_then a b c (lines_text h.0) (lines_text k.0) h.2 k.2))
@@ -54,6 +75,21 @@ wrote_none P a h = ([], h, appends_none a)
 
 pub wrote_as : (P Q : List Line → Type 0) (a b : Option (List ℕ)) → ((printed : List Line) → P printed → Q printed) → Wrote P a b → Wrote Q a b
 wrote_as P Q a b gives h = (h.0, gives h.0 h.1, h.2)
+
+-- ---- fronts
+
+pub front_of : (P : List Line → Type 0) (a b : Option (List ℕ)) → Wrote P a b → WroteFront P a b
+front_of P a b h = (h.0, h.1, front_all a b (lines_text h.0) h.2)
+
+pub front_as : (P Q : List Line → Type 0) (a b : Option (List ℕ)) → ((printed : List Line) → P printed → Q printed) → WroteFront P a b → WroteFront Q a b
+front_as P Q a b gives h = (h.0, gives h.0 h.1, h.2)
+
+pub front_then : (P Q R : List Line → Type 0) (a b c : Option (List ℕ)) → ((front back : List Line) → P front → Q back → R (front ++ back)) → Wrote P a b → WroteFront Q b c → WroteFront R a c
+front_then P Q R a b c join h k =
+    (h.0 ++ k.0, join h.0 k.0 h.1 k.1, subst (AppendsFront a c) (sym (both_texts h.0 k.0)) (front_behind a b c (lines_text h.0) (lines_text k.0) h.2 k.2))
+
+pub front_kept : (P : List Line → Type 0) (a b c : Option (List ℕ)) → WroteFront P a b → Keeps b c → WroteFront P a c
+front_kept P a b c h k = (h.0, h.1, front_keeps a b c (lines_text h.0) h.2 k)
 
 -- ---- settle
 

@@ -25,11 +25,12 @@ use Rattle.script_cell.specs.Readings.{IsParsed}
 use Rattle.script_cell.specs.declared.stops.Stop.{Stop}
 use Rattle.script_cell.specs.declared.stops.Stop.TheVariants.{BadStep, Unread, NoMemory, Unwritten}
 use Rattle.script_cell.specs.Settling.{Played, played, PlaysMade, PlaysRefused, TakesTurn, Turns, SettlesBy, Settles}
-use Rattle.script_cell.specs.Scripts.{told, DoesParsed, DoesLine, DoesLines, IsOfPart, IsOfScript, Wrote}
+use Rattle.write_core.specs.Fronts.{AppendsFront}
+use Rattle.script_cell.specs.Scripts.{lines_text, told, DoesParsed, DoesLine, DoesLines, IsOfPart, IsOfScript, Wrote, WroteFront}
 use Rattle.script_cell.specs.Stops.{status_of}
 use Rattle.script_cell.specs.Texts.{Reading, Advances}
 use Rattle.script_cell.specs.Ran.{Adds, Ran, TellsOfRun, RanWell, IsNoStep, StopsReading, IsDoneBefore, Ends, EndsWell, EndsSurely, EndsAs, EndsIn, EndsWith, Breaks, BreaksLine, Writes, Obeys}
-use Rattle.script_cell.proofs.Doings.{wrote_as, wrote_then, wrote_none, wrote_kept, part_whole}
+use Rattle.script_cell.proofs.Doings.{wrote_as, wrote_then, wrote_none, wrote_kept, front_of, front_as, front_then, front_kept, part_whole}
 
 -- ---- lines of a run, with refusals between them
 
@@ -61,7 +62,7 @@ ran_then old mid new front back h k = record {
   tells = adds_more h.told front k.told back h.tells k.tells;
 }
 
-refusal_ran : (old new : WorldView) (fault : Fault) (printed : List Line) → printed ≡ lines.Refused fault ∷ [] → new ≡ old → Ran old new printed
+pub refusal_ran : (old new : WorldView) (fault : Fault) (printed : List Line) → printed ≡ lines.Refused fault ∷ [] → new ≡ old → Ran old new printed
 refusal_ran old new fault printed is same =
     subst (λ xs. Ran old new xs) (sym is) (record { steps = []; told = []; run = (refl, same); tells = inr (fault, refl, refl) })
 
@@ -204,18 +205,18 @@ step_ran old new step (Ok printed) made refused = made_ran old new step printed 
 step_ran old new step (Err fault) made refused = refused_ran old new step (lines.Refused fault ∷ []) refused
 
 module _ {Y : Type 0} (P : Y → List Line → Type 0) (Q : Stop → List Line → Type 0) (a c : Option (List ℕ)) where
-  unwritten : (stop : Stop) (printed : List Line) → stop ≡ Unwritten → Q Unwritten printed → (let r : Result Y Stop = Err stop in EndsAs r P Q a c)
-  unwritten stop printed is h = subst (λ s. (let r : Result Y Stop = Err s in EndsAs r P Q a c)) (sym is) (printed, h)
+  unwritten : (stop : Stop) (printed : List Line) → stop ≡ Unwritten → Q Unwritten printed → AppendsFront a c (lines_text printed) → (let r : Result Y Stop = Err stop in EndsAs r P Q a c)
+  unwritten stop printed is h k = subst (λ s. (let r : Result Y Stop = Err s in EndsAs r P Q a c)) (sym is) (printed, h, k)
 
   -- lines can't be written
-  pub exit_unwritten : (r : Result Y Stop) (stop : Stop) (printed : List Line) → IsErr r × IsErrAnd r (λ e. e ≡ stop) → stop ≡ Unwritten → Q Unwritten printed → EndsAs r P Q a c
+  pub exit_unwritten : (r : Result Y Stop) (stop : Stop) (printed : List Line) → IsErr r × IsErrAnd r (λ e. e ≡ stop) → (stop ≡ Unwritten) × AppendsFront a c (lines_text printed) → Q Unwritten printed → EndsAs r P Q a c
   exit_unwritten (Ok y) stop printed exit is h = let none = exit.0 in cc
-  exit_unwritten (Err e) stop printed exit is h = unwritten e printed (exit.1 ∙ is) h
+  exit_unwritten (Err e) stop printed exit is h = unwritten e printed (exit.1 ∙ is.0) h is.1
 
 -- what was done and written before, and then what breaks off so
 module _ {X Y : Type 0} (O : X → List Line → Type 0) (P : Y → List Line → Type 0) (old mid new : WorldView) (a b c : Option (List ℕ)) where
   broken_then : (stop : Stop) → Wrote (Ran old mid) a b → (let q : Result X Stop = Err stop in EndsAs q O (Breaks mid new) b c) → (let r : Result Y Stop = Err stop in EndsAs r P (Breaks old new) a c)
-  broken_then Unwritten h k = (h.0 ++ k.0, ran_then old mid new h.0 k.0 h.1 k.1)
+  broken_then Unwritten h k = front_then (Ran old mid) (Ran mid new) (Ran old new) a b c (λ front back f g. ran_then old mid new front back f g) h k
   broken_then NoMemory h k = wrote_then (Ran old mid) (Ran mid new) (Ran old new) a b c (λ front back f g. ran_then old mid new front back f g) h k
   broken_then (BadStep line) h k = absurd k.1
   broken_then (Unread line) h k = absurd k.1
@@ -240,7 +241,8 @@ module _ {X Y : Type 0} (O : X → List Line → Type 0) (P : Y → List Line �
 -- without a master nothing is settled
 pub settles_down : (w : Played) (up : Bool) (a b : Option (List ℕ)) (r : Result (Unit {0}) Stop) → up ≡ is_some w.view.world.master → up ≡ false → Writes r (lines.Refused MasterDown ∷ []) a b → EndsAs r (λ _ printed. Settles w printed w) (Breaks w.view w.view) a b
 settles_down w up a b (Ok x) is down h = (lines.Refused MasterDown ∷ [], subst (λ up. SettlesBy up w (lines.Refused MasterDown ∷ []) w) (sym down ∙ is) (refl, refl), h)
-settles_down w up a b (Err e) is down h = unwritten (λ (x : Unit {0}) printed. Settles w printed w) (Breaks w.view w.view) a b e [] h (ran_none w.view)
+settles_down w up a b (Err e) is down h =
+    unwritten (λ (x : Unit {0}) printed. Settles w printed w) (Breaks w.view w.view) a b e (lines.Refused MasterDown ∷ []) h.0 (refusal_ran w.view w.view MasterDown (lines.Refused MasterDown ∷ []) refl refl) h.1
 
 -- ---- lines
 
@@ -282,7 +284,7 @@ next_line at number count is next few = grind arith
 
 module _ (text rest : Option (List ℕ)) (count : ℕ) (old : WorldView) (new : Played) (a b : Option (List ℕ)) where
   unread_by : (stop : Stop) → (count ≤ 1000000 → StopsReading rest count stop) → Wrote (λ printed. IsOfPart text rest count old printed new) a b → (let r : Result (Unit {0}) Stop = Err stop in EndsIn r (Ends text old new.view r) a b)
-  unread_by Unwritten h k = (k.0, part_ran text rest count old k.0 new k.1)
+  unread_by Unwritten h k = front_of (Ran old new.view) a b (parts_ran text rest count old new a b k)
   unread_by NoMemory h k = parts_ran text rest count old new a b k
   unread_by (BadStep at) h k =
       wrote_as (λ printed. IsOfPart text rest count old printed new) (Ends text old new.view (Err (BadStep at))) a b
@@ -310,7 +312,8 @@ module _ (text : Option (List ℕ)) (mid after : Reading) (old : WorldView) (w n
       (done_before text mid.rest mid.number at old new (front ++ back) (g.0 ∙ next.1.0) stands, (after.line, after.rest, next.0, inl g.1))
 
   broken : (stop : Stop) → Advances true mid after → Wrote (λ printed. IsOfPart text mid.rest mid.number old printed w) a b → (let q : Result (Unit {0}) Stop = Err stop in EndsAs q (λ _ printed. DoesLine w after.line printed new) (BreaksLine after.line after.number w new) b c) → (let r : Result (Unit {0}) Stop = Err stop in EndsIn r (Ends text old new.view r) a c)
-  broken Unwritten next h k = (h.0 ++ k.0, ran_then old w.view new.view h.0 k.0 (part_ran text mid.rest mid.number old h.0 w h.1) k.1)
+  broken Unwritten next h k =
+      front_then (Ran old w.view) (Ran w.view new.view) (Ran old new.view) a b c (λ front back f g. ran_then old w.view new.view front back f g) (parts_ran text mid.rest mid.number old w a b h) k
   broken NoMemory next h k =
       wrote_then (Ran old w.view) (Ran w.view new.view) (Ran old new.view) a b c (λ front back f g. ran_then old w.view new.view front back f g) (parts_ran text mid.rest mid.number old w a b h) k
   broken (BadStep at) next h k =
@@ -339,12 +342,16 @@ module _ (text : Option (List ℕ)) (old new : WorldView) where
       subst (λ s. (let r : Result (Unit {0}) Stop = Err s in EndsIn r (Ends text old new r) a a)) (sym (exit.1 ∙ is))
       (wrote_none (Ran old new) a (subst (λ w. Ran old w []) (sym same) (ran_none old)))
 
-  some_end : (a b : Option (List ℕ)) (r : Result (Unit {0}) Stop) → EndsIn r (Ends text old new r) a b → (printed : List Line) × Ran old new printed
-  some_end a b (Ok x) h = (h.0, ends_ran (Ok x) h.0 h.1)
-  some_end a b (Err (BadStep at)) h = (h.0, ends_ran (Err (BadStep at)) h.0 h.1)
-  some_end a b (Err (Unread at)) h = (h.0, ends_ran (Err (Unread at)) h.0 h.1)
-  some_end a b (Err NoMemory) h = (h.0, h.1)
-  some_end a b (Err Unwritten) h = h
+  all_front : (a b c : Option (List ℕ)) (r : Result (Unit {0}) Stop) → Wrote (Ends text old new r) a b → Keeps b c → WroteFront (Ran old new) a c
+  all_front a b c r h k = front_of (Ran old new) a c (wrote_kept (Ran old new) a b c (wrote_as (Ends text old new r) (Ran old new) a b (ends_ran r) h) k)
+
+  -- a front of it is written, where the writer can't be flushed
+  some_front : (a b c : Option (List ℕ)) (r : Result (Unit {0}) Stop) → EndsIn r (Ends text old new r) a b → Keeps b c → WroteFront (Ran old new) a c
+  some_front a b c (Ok x) h k = all_front a b c (Ok x) h k
+  some_front a b c (Err (BadStep at)) h k = all_front a b c (Err (BadStep at)) h k
+  some_front a b c (Err (Unread at)) h k = all_front a b c (Err (Unread at)) h k
+  some_front a b c (Err NoMemory) h k = all_front a b c (Err NoMemory) h k
+  some_front a b c (Err Unwritten) h k = front_kept (Ran old new) a b c h k
 
   -- what was written stays written
   pub ends_kept : (a b c : Option (List ℕ)) (r : Result (Unit {0}) Stop) → EndsIn r (Ends text old new r) a b → Keeps b c → EndsIn r (Ends text old new r) a c
@@ -352,7 +359,7 @@ module _ (text : Option (List ℕ)) (old new : WorldView) where
   ends_kept a b c (Err (BadStep at)) h k = wrote_kept (Ends text old new (Err (BadStep at))) a b c h k
   ends_kept a b c (Err (Unread at)) h k = wrote_kept (Ends text old new (Err (Unread at))) a b c h k
   ends_kept a b c (Err NoMemory) h k = wrote_kept (Ends text old new (Err NoMemory)) a b c h k
-  ends_kept a b c (Err Unwritten) h k = h
+  ends_kept a b c (Err Unwritten) h k = front_kept (Ends text old new (Err Unwritten)) a b c h k
 
   -- and the laws of runs hold of it
   well : HoldsOfRuns old → (r : Result (Unit {0}) Stop) (printed : List Line) → Ends text old new r printed → EndsWell text old new r printed
@@ -362,7 +369,7 @@ module _ (text : Option (List ℕ)) (old new : WorldView) where
   ends_well laws a b h = (Ok tt, refl, wrote_as (Ends text old new (Ok tt)) (EndsWell text old new (Ok tt)) a b (well laws (Ok tt)) h)
 
   stops_in : HoldsOfRuns old → (a b : Option (List ℕ)) (stop : Stop) → (let r : Result (Unit {0}) Stop = Err stop in EndsIn r (Ends text old new r) a b) → (let r : Result (Unit {0}) Stop = Err stop in EndsIn r (EndsWell text old new r) a b)
-  stops_in laws a b Unwritten h = (h.0, well laws (Err Unwritten) h.0 h.1)
+  stops_in laws a b Unwritten h = front_as (Ends text old new (Err Unwritten)) (EndsWell text old new (Err Unwritten)) a b (well laws (Err Unwritten)) h
   stops_in laws a b NoMemory h = wrote_as (Ends text old new (Err NoMemory)) (EndsWell text old new (Err NoMemory)) a b (well laws (Err NoMemory)) h
   stops_in laws a b (BadStep at) h = wrote_as (Ends text old new (Err (BadStep at))) (EndsWell text old new (Err (BadStep at))) a b (well laws (Err (BadStep at))) h
   stops_in laws a b (Unread at) h = wrote_as (Ends text old new (Err (Unread at))) (EndsWell text old new (Err (Unread at))) a b (well laws (Err (Unread at))) h
@@ -375,10 +382,10 @@ module _ (text : Option (List ℕ)) (old new : WorldView) where
   all_written a b h = wrote_as (Ends text old new (Ok tt)) (IsOfScript text old) a b (λ printed f. f.0) h
 
 -- the last lines can't be written
-pub exit_unflushed : (text other : Option (List ℕ)) (old new : WorldView) (a b c : Option (List ℕ)) (ended r : Result (Unit {0}) Stop) → IsErr r × IsErrAnd r (λ e. e ≡ Unwritten) → EndsIn ended (Ends other old new ended) a b → EndsIn r (Ends text old new r) a c
-exit_unflushed text other old new a b c ended (Ok x) exit h = let none = exit.0 in cc
-exit_unflushed text other old new a b c ended (Err e) exit h =
-    subst (λ s. (let r : Result (Unit {0}) Stop = Err s in EndsIn r (Ends text old new r) a c)) (sym exit.1) (some_end other old new a b ended h)
+pub exit_unflushed : (text other : Option (List ℕ)) (old new : WorldView) (a b c : Option (List ℕ)) (ended r : Result (Unit {0}) Stop) → IsErr r × IsErrAnd r (λ e. e ≡ Unwritten) → EndsIn ended (Ends other old new ended) a b → Keeps b c → EndsIn r (Ends text old new r) a c
+exit_unflushed text other old new a b c ended (Ok x) exit h k = let none = exit.0 in cc
+exit_unflushed text other old new a b c ended (Err e) exit h k =
+    subst (λ s. (let r : Result (Unit {0}) Stop = Err s in EndsIn r (Ends text old new r) a c)) (sym exit.1) (some_front other old new a b c ended h k)
 
 -- ---- where nothing is in doubt
 
@@ -388,7 +395,7 @@ module _ (text : Option (List ℕ)) (old new : WorldView) (none : IsUndoubted ne
 
   sure_in : (a b : Option (List ℕ)) (r : Result (Unit {0}) Stop) → EndsIn r (EndsWell text old new r) a b → EndsIn r (EndsSurely text old new r) a b
   sure_in a b (Ok x) h = wrote_as (EndsWell text old new (Ok x)) (EndsSurely text old new (Ok x)) a b (surely (Ok x)) h
-  sure_in a b (Err Unwritten) h = (h.0, surely (Err Unwritten) h.0 h.1)
+  sure_in a b (Err Unwritten) h = front_as (EndsWell text old new (Err Unwritten)) (EndsSurely text old new (Err Unwritten)) a b (surely (Err Unwritten)) h
   sure_in a b (Err NoMemory) h = wrote_as (EndsWell text old new (Err NoMemory)) (EndsSurely text old new (Err NoMemory)) a b (surely (Err NoMemory)) h
   sure_in a b (Err (BadStep at)) h = wrote_as (EndsWell text old new (Err (BadStep at))) (EndsSurely text old new (Err (BadStep at))) a b (surely (Err (BadStep at))) h
   sure_in a b (Err (Unread at)) h = wrote_as (EndsWell text old new (Err (Unread at))) (EndsSurely text old new (Err (Unread at))) a b (surely (Err (Unread at))) h

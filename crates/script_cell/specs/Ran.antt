@@ -15,11 +15,12 @@ use Rattle.world_laws.specs.Laws.{HoldsOfRun}
 use Rattle.script_cell.specs.declared.stops.Stop.{Stop}
 use Rattle.script_cell.specs.declared.stops.Stop.TheVariants.{BadStep, Unread, NoMemory, Unwritten}
 use Rattle.script_cell.specs.Settling.{Played, played}
-use Rattle.script_cell.specs.Scripts.{lines_text, DoesParsed, IsOfPart, IsOfScript, Wrote}
+use Rattle.script_cell.specs.Scripts.{lines_text, DoesParsed, IsOfPart, IsOfScript, Wrote, WroteFront}
 use Rattle.script_cell.specs.declared.steps.Parsed.{Parsed}
 use Rattle.script_cell.specs.declared.steps.Parsed.TheVariants as parsed
 use Rattle.script_cell.specs.Readings.{IsParsed}
 use Rattle.std.specs.Io.KnownBytes.{Appends}
+use Rattle.write_core.specs.Fronts.{AppendsFront}
 use Rattle.script_cell.specs.Stops.{status_of}
 use Rattle.script_cell.specs.Texts.{Passes}
 
@@ -98,17 +99,17 @@ pub record EndsSurely (text : Option (List ℕ)) (old new : WorldView) (ended : 
   pub holds : HoldsOfRun old ran.steps ran.told new
   pub tells : TellsOfRun old new printed
 
--- lines of which P holds are written whole, unless they can't be written
+-- lines of which P holds are written whole; where they can't be written, a front of them is
 abbrev pub EndsIn : {X : Type 0} → Result X Stop → (List Line → Type 0) → Option (List ℕ) → Option (List ℕ) → Type 0
 EndsIn (Ok x) P before after = Wrote P before after
-EndsIn (Err Unwritten) P before after = (printed : List Line) × P printed
+EndsIn (Err Unwritten) P before after = WroteFront P before after
 EndsIn (Err stop) P before after = Wrote P before after
 
--- what came to an end did what P says; what stopped before did what Q says; and the lines of it are written whole,
--- unless they can't be
+-- what came to an end did what P says; what stopped before did what Q says; and the lines of it are written whole;
+-- where they can't be, a front of them is
 abbrev pub EndsAs : {X : Type 0} → Result X Stop → (X → List Line → Type 0) → (Stop → List Line → Type 0) → Option (List ℕ) → Option (List ℕ) → Type 0
 EndsAs (Ok x) P Q before after = Wrote (P x) before after
-EndsAs (Err Unwritten) P Q before after = (printed : List Line) × Q Unwritten printed
+EndsAs (Err Unwritten) P Q before after = WroteFront (Q Unwritten) before after
 EndsAs (Err stop) P Q before after = Wrote (Q stop) before after
 
 -- a line that is a step stops for want of memory, or as its lines can't be written, and leaves steps
@@ -122,10 +123,10 @@ abbrev pub BreaksLine : List ℕ → ℕ → Played → Played → Stop → List
 BreaksLine line number old new (BadStep at) printed = (at ≡ number) × IsParsed (utf8_lossy line) parsed.Bad × (printed ≡ []) × (new ≡ old)
 BreaksLine line number old new stop printed = Breaks old.view new.view stop printed
 
--- lines are written whole, or can't be written
+-- lines are written whole; or they can't be, and a front of them is
 abbrev pub Writes : {X : Type 0} → Result X Stop → List Line → Option (List ℕ) → Option (List ℕ) → Type 0
 Writes (Ok x) printed before after = Appends before after (lines_text printed)
-Writes (Err stop) printed before after = stop ≡ Unwritten
+Writes (Err stop) printed before after = (stop ≡ Unwritten) × AppendsFront before after (lines_text printed)
 
 -- a line that is a step was obeyed, and one that isn't does nothing
 abbrev pub Obeys : Bool → Played → Parsed → List Line → Played → Type 0
@@ -137,7 +138,7 @@ status_at (Ok x) = 0
 status_at (Err stop) = status_of stop
 
 -- with this status a script came to its end; or to a line that is no step or can't be read, or to want of memory, and
--- what it printed before is written whole; or that can't be written
+-- what it printed before is written whole; or that can't be written, and a front of it is
 abbrev pub EndsWith : ℕ → (Result (Unit {0}) Stop → List Line → Type 0) → Option (List ℕ) → Option (List ℕ) → Type 0
 EndsWith status P before after = (ended : Result (Unit {0}) Stop) × (status ≡ status_at ended) × EndsIn ended (P ended) before after
 

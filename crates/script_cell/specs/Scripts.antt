@@ -6,6 +6,7 @@ use Rattle.node_core.specs.declared.refusals.Fault.{Fault}
 use Rattle.node_core.specs.declared.lines.Line.{Line}
 use Rattle.node_core.specs.declared.lines.Line.TheVariants as lines
 use Rattle.node_core.specs.Texts.{line_text}
+use Rattle.write_core.specs.Fronts.{AppendsFront}
 use Rattle.world_core.specs.World.{WorldView}
 use Rattle.script_cell.specs.declared.steps.Parsed.{Parsed}
 use Rattle.script_cell.specs.declared.steps.Parsed.TheVariants as parsed
@@ -60,3 +61,7 @@ pub record IsOfPart (text after : Option (List ℕ)) (count : ℕ) (old : WorldV
 -- lines of which P holds are written behind the bytes before, where those are known
 abbrev pub Wrote : (List Line → Type 0) → Option (List ℕ) → Option (List ℕ) → Type 0
 Wrote P before after = (printed : List Line) × P printed × Appends before after (lines_text printed)
+
+-- the same, but a front of their bytes alone
+abbrev pub WroteFront : (List Line → Type 0) → Option (List ℕ) → Option (List ℕ) → Type 0
+WroteFront P before after = (printed : List Line) × P printed × AppendsFront before after (lines_text printed)

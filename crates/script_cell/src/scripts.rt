@@ -285,6 +285,8 @@ fn write_refusal<W: Write>(output: &mut W, fault: Fault) -> Result<(), Stop>
 fn write_line<W: Write>(output: &mut W, line: &Line) -> Result<(), Stop>
     ensures { Writes result (line.now ∷ []) (W.contents output.old) (W.contents output.new) }
 {
-    writeln!(output, "{line}")?;
-    Ok(())
+    match write_core::write_line(output, line) {
+        Ok(()) => Ok(()),
+        Err(_) => Err(Stop::Unwritten),
+    }
 }

@@ -7,6 +7,7 @@ use Rattle.node_core.specs.declared.refusals.Fault.{Fault}
 use Rattle.rows_cell.specs.declared.tables.Edit.{Edit}
 use Rattle.rows_cell.specs.Stores.{Store, IsCommitted, IsRefused}
 use Rattle.wire_core.specs.declared.faults.WireFault.{WireFault}
+use Rattle.write_core.specs.Fronts.{AppendsFront}
 use Rattle.serve_cell.specs.Held.{GroupState, store_behind, seen}
 use Rattle.serve_cell.proofs.HeldBack.{behind_none}
 use Rattle.serve_cell.specs.declared.frames.Frame.{Frame}
@@ -21,7 +22,7 @@ use Rattle.serve_cell.specs.declared.groups.Course.{Course}
 use Rattle.serve_cell.specs.declared.groups.Course.TheVariants as courses
 use Rattle.over_core.specs.Kept.{CellState}
 use Rattle.serve_cell.specs.Seats.{Hosted, with_master, without_master}
-use Rattle.serve_cell.specs.Streams.{FoundFrame, FrameIs, Answer, Turn, Turns, AreAnswers, AppendsFront, TakesTurn, DoesFound}
+use Rattle.serve_cell.specs.Streams.{FoundFrame, FrameIs, Answer, Turn, Turns, AreAnswers, TakesTurn, DoesFound}
 use Rattle.serve_cell.specs.Groups.{KeptGroup, LostGroup, TakesGroup, Groups, all_answers, ServedGroups, EndsGroups, Goes, GoesBy, course_of, ServesBehind, together, IsLosing, Gathered, IsKeptAs, IsLostAs, Keeps}
 use Rattle.serve_cell.proofs.Served.{found_turn}
 

@@ -8,7 +8,6 @@ pub mod Writings
 pub mod Hearings
 pub mod Streaming
 pub mod Passages
-pub mod Fronts
 pub mod Served
 pub mod Standings
 pub mod HeldBack

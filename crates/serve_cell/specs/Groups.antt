@@ -7,6 +7,7 @@ use Rattle.rows_cell.specs.declared.tables.Edit.{Edit}
 use Rattle.rows_cell.specs.Stores.{IsCommitted, IsRefused}
 use Rattle.cell_state.specs.State.{MasterState}
 use Rattle.wire_core.specs.declared.faults.WireFault.{WireFault}
+use Rattle.write_core.specs.Fronts.{AppendsFront}
 use Rattle.serve_cell.specs.Held.{GroupState, store_behind, seen}
 use Rattle.serve_cell.specs.declared.frames.Frame.{Frame}
 use Rattle.serve_cell.specs.declared.seats.Reply.{Reply}
@@ -26,7 +27,7 @@ use Rattle.serve_cell.specs.declared.gathers.Tried.{Tried}
 use Rattle.serve_cell.specs.declared.gathers.Tried.TheVariants as tries
 use Rattle.serve_cell.specs.Seats.{Hosted, with_master, without_master, Does, IsDue}
 use Rattle.serve_cell.specs.Replies.{all_told, AreBlocks}
-use Rattle.serve_cell.specs.Streams.{FrameIs, FoundFrame, Answer, Turns, AreAnswers, AppendsFront, MaybeOne}
+use Rattle.serve_cell.specs.Streams.{FrameIs, FoundFrame, Answer, Turns, AreAnswers, MaybeOne}
 
 abbrev Known : Type 0
 Known = Option (List ℕ)

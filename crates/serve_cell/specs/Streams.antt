@@ -5,6 +5,7 @@ use Rattle.plain.specs.Results.{Gives}
 use Rattle.wire_core.specs.declared.faults.WireFault.{WireFault}
 use Rattle.wire_core.specs.declared.faults.WireFault.TheVariants as wire
 use Rattle.wire_core.specs.Forms.{◌>>=◌, read_whole}
+use Rattle.write_core.specs.Fronts.{AppendsFront}
 use Rattle.cell_state.specs.State.{MasterState}
 use Rattle.serve_cell.specs.declared.frames.Frame.{Frame}
 use Rattle.serve_cell.specs.declared.tellings.Told.{Told}
@@ -68,12 +69,6 @@ pub record FrameIs (text : Option (List ℕ)) (sent : Result Frame WireFault) (r
 abbrev pub FoundFrame : Option (Result Frame WireFault) → Option (List ℕ) → Option (List ℕ) → Type 0
 FoundFrame None text rest = IsAtEnd text
 FoundFrame (Some sent) text rest = FrameIs text sent rest
-
--- ---- writing
-
--- known bytes grow by a front of these
-abbrev pub AppendsFront : Option (List ℕ) → Option (List ℕ) → List ℕ → Type 0
-AppendsFront before after bytes = (front : List ℕ) × (left : List ℕ) × (bytes ≡ front ++ left) × Appends before after front
 
 -- ---- answering
 

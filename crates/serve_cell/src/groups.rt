@@ -11,11 +11,11 @@ use crate::inputs::next_frame;
 use crate::seats::Seat;
 use crate::stops::{GroupStop, Stop};
 use crate::streams::{Turned, block_room, serve_found};
-use crate::writes::write_bytes;
 use rows_cell::Records;
 use std::alloc::Global;
 use std::io::{BufReader, Read, Write};
 use wire_core::WireFault;
+use write_core::write_bytes;
 
 /// What became of a group.
 #[derive(Clone, Copy)]

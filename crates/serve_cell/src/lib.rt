@@ -22,7 +22,6 @@ mod stops;
 mod streams;
 mod sweeping;
 mod tellings;
-mod writes;
 
 pub use answers::{Answered, answer};
 pub use blocks::{ANSWER_LIMIT, BLOCK_LIMIT};

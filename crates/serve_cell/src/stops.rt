@@ -1,7 +1,6 @@
 //! Why the frames of a stream are answered no further.
 use node_core::Fault;
 use std::alloc::{AllocError, AllocFailed};
-use std::io;
 use wire_core::WireFault;
 
 /// Why the frames of a stream are answered no further.
@@ -43,16 +42,5 @@ impl From<WireFault> for Stop {
 
     fn from(_e: WireFault) -> Stop {
         Stop::NoMemory
-    }
-}
-
-impl From<io::Error> for Stop {
-    ghost use Rattle.std.specs.Prelude.{◌≡◌};
-    ghost use Rattle.serve_cell.specs.declared.stops.Stop.TheVariants.{Unwritten};
-
-    ghost from_gives = { λ _ e. e ≡ Unwritten };
-
-    fn from(_e: io::Error) -> Stop {
-        Stop::Unwritten
     }
 }

@@ -9,11 +9,11 @@ use crate::inputs::next_frame;
 use crate::outputs::write_reply;
 use crate::seats::{Reply, Seat};
 use crate::stops::Stop;
-use crate::writes::write_bytes;
 use rows_cell::Records;
 use std::alloc::{AllocError, Global};
 use std::io::{Read, Write};
 use wire_core::WireFault;
+use write_core::write_bytes;
 
 /// What became of one turn.
 #[derive(Clone, Copy)]

@@ -1,6 +1,6 @@
 use Rattle.std.proofs.Common.{rules}
-use Rattle.serve_cell.proofs.Fronts.{front_at, front_stops, front_more}
-use Rattle.serve_cell.proofs.writes.write_whole.Goals as goal
+use Rattle.write_core.proofs.Fronts.{front_at, front_stops, front_more}
+use Rattle.write_core.proofs.writes.write_whole.Goals as goal
 
 pub loop-turn-preserved : goal.loop-turn-preserved
 loop-turn-preserved g c = record {

@@ -1,25 +1,30 @@
 //! Bytes that are written to a stream.
-ghost use Rattle.std.specs.Prelude.{◌≡◌, ◌≤◌, length, take, IfOk, IfErr, OnOk, OnErr};
+ghost use Rattle.std.specs.Prelude.{◌≤◌, length, take, IfOk, OnOk, OnErr};
 ghost use Rattle.std.specs.Io.KnownBytes.{Appends, Keeps};
-ghost use Rattle.serve_cell.specs.Streams.{AppendsFront};
+ghost use Rattle.write_core.specs.Fronts.{AppendsFront};
 
-use crate::stops::Stop;
 use std::io::{ErrorKind, Write};
 
+/// What was to be written can't be.
+#[derive(Clone, Copy, Debug)]
+pub struct Unwritten;
+
 /// Writes all of these bytes, and flushes them. Where they can't be written, a front of them is.
-pub(crate) fn write_bytes<W: Write>(writer: &mut W, bytes: &[u8]) -> Result<(), Stop>
+pub fn write_bytes<W: Write>(writer: &mut W, bytes: &[u8]) -> Result<(), Unwritten>
     ensures all { OnOk result (Appends (W.contents writer.old) (W.contents writer.new) bytes.now) }
     ensures front { OnErr result (AppendsFront (W.contents writer.old) (W.contents writer.new) bytes.now) }
-    ensures only { IfErr result (λ stop. stop ≡ Stop.Unwritten) }
 {
     write_whole(writer, bytes)?;
-    Ok(writer.flush()?)
+    match writer.flush() {
+        Ok(()) => Ok(()),
+        Err(_) => Err(Unwritten),
+    }
 }
 
-fn write_whole<W: Write>(writer: &mut W, bytes: &[u8]) -> Result<(), Stop>
+/// Writes all of these bytes, and doesn't flush them. Where they can't be written, a front of them is.
+pub(crate) fn write_whole<W: Write>(writer: &mut W, bytes: &[u8]) -> Result<(), Unwritten>
     ensures all { OnOk result (Appends (W.contents writer.old) (W.contents writer.new) bytes.now) }
     ensures front { OnErr result (AppendsFront (W.contents writer.old) (W.contents writer.new) bytes.now) }
-    ensures only { IfErr result (λ stop. stop ≡ Stop.Unwritten) }
 {
     let mut at = 0;
     for _turn in 0..u64::MAX {
@@ -31,26 +36,25 @@ fn write_whole<W: Write>(writer: &mut W, bytes: &[u8]) -> Result<(), Stop>
             Err(stop) => return Err(stop),
         }
     }
-    Err(Stop::Unwritten)
+    Err(Unwritten)
 }
 
 // One write, again where a signal interrupts it. It is refused where it writes nothing.
-fn write_some<W: Write>(writer: &mut W, bytes: &[u8]) -> Result<usize, Stop>
+fn write_some<W: Write>(writer: &mut W, bytes: &[u8]) -> Result<usize, Unwritten>
     ensures bound { IfOk result (λ count. count ≤ length bytes.now) }
     ensures bytes { IfOk result (λ count. Appends (W.contents writer.old) (W.contents writer.new) (take count bytes.now)) }
     ensures none { OnErr result (Keeps (W.contents writer.old) (W.contents writer.new)) }
-    ensures only { IfErr result (λ stop. stop ≡ Stop.Unwritten) }
 {
     for _turn in 0..u64::MAX {
         match writer.write(bytes) {
-            Ok(0) => return Err(Stop::Unwritten),
+            Ok(0) => return Err(Unwritten),
             Ok(count) => return Ok(count),
             Err(error) => {
                 if error.kind() != ErrorKind::Interrupted {
-                    return Err(Stop::Unwritten);
+                    return Err(Unwritten);
                 }
             }
         }
     }
-    Err(Stop::Unwritten)
+    Err(Unwritten)
 }

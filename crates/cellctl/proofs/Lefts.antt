@@ -1,0 +1,48 @@
+-- What is left of a store that wasn't closed.
+use Rattle.std.proofs.Common.{◌≡◌, ℕ, Option, None, Some, Result, Ok, Err}
+use Rattle.std.specs.Prelude.{IfSome, IfErr}
+use Rattle.sqlite_disk.specs.declared.Disk as disk
+use Rattle.sqlite_disk.specs.declared.Files.{Files}
+use Rattle.sqlite_wal.specs.Recovery.{Image}
+use Rattle.sqlite_store.specs.declared.store.FileStore.{FileStore}
+use Rattle.sqlite_store.specs.FileStore.{view, recovers}
+use Rattle.sqlite_trees.specs.View.{IsClean}
+use Rattle.sqlite.specs.Tree.{Trees}
+use Rattle.sqlite.specs.State.{State, HasCleanDisk}
+use Rattle.sqlite.specs.Held.{Held}
+use Rattle.sqlite.specs.Start.{FindsIn}
+use Rattle.sqlite.specs.Files.{image_of, file_state, IsCleanLeft, FailsToOpenFiles, LeavesFiles}
+use Rattle.sqlite.specs.declared.error.Error.{Error}
+use Rattle.sqlite.specs.declared.file.Leftover.{Leftover}
+use Rattle.settings_core.specs.Settings.{Settled}
+use Rattle.rows_cell.specs.Stores.{Store}
+use Rattle.rows_sql.specs.Keeping.{IsLeft}
+use Rattle.cellctl.specs.Led.{Known}
+use Rattle.cellctl.specs.Left.{CantOpen, IsLeftOpen, LeavesOver, LeavesAt}
+use Rattle.cellctl.specs.declared.runs.Unclosed.{Unclosed}
+use Rattle.cellctl.specs.declared.runs.Unclosed.TheVariants as unclosed
+use Rattle.cellctl.proofs.Overs.{IsFirst, adopted_as}
+
+module _ {D : Type 0} {g : disk.Ghosts D} where
+  pub left_open : (settings : Settled) (had : State) (Leads : Store → Store → Type 0) (first last : Store) (store : FileStore D g) → IsFirst settings had first → Leads first last
+      → (IsClean (view store) → (db : Trees) → recovers store db → IsLeft last.may_leave db) → IsLeftOpen settings had Leads store
+  left_open settings had Leads first last store is led left = record {
+    first = first;
+    last = last;
+    adopted = adopted_as settings had first is;
+    led = led;
+    left = left;
+  }
+
+  pub cant_open : (Log Database : Files D → Type 0) (held : Image) (error : Error) (left : Option (Leftover D g)) → ((files : Files D) → Log files → Database files → image_of g files ≡ held)
+      → IfSome left (λ it. (files : Files D) × Log files × Database files × (IsCleanLeft it → FailsToOpenFiles files it error × LeavesFiles files it)) → CantOpen held error left
+  cant_open Log Database held error None same p = tt
+  cant_open Log Database held error (Some left) same p = (p.0, same p.0 p.1 p.2, p.3)
+
+  -- what is left of a connection is left of its files
+  pub left_at : {X : Type 0} (settings : Settled) (held : Image) (conn : Held (FileStore D g)) (Leads : ℕ → Store → Store → Type 0) (before after : Known) (r : Result X (Unclosed D g))
+      → (HasCleanDisk (file_state conn) → FindsIn held (file_state conn)) → IfErr r (LeavesOver settings conn Leads before after) → IfErr r (LeavesAt settings held Leads before after)
+  left_at settings held conn Leads before after (Ok x) finds p = tt
+  left_at settings held conn Leads before after (Err (unclosed.Unopened error left)) finds p = absurd p
+  left_at settings held conn Leads before after (Err (unclosed.Refused fault store)) finds p = (conn, finds, p)
+  left_at settings held conn Leads before after (Err (unclosed.Open status error store)) finds p = (conn, finds, p)

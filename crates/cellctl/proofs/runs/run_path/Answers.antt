@@ -1,0 +1,35 @@
+use Rattle.std.proofs.Common.{ℕ, Bool, true, false, cond, List, refl, ap₂}
+use Rattle.sqlite_disk.specs.Events.{Event, replay}
+use Rattle.sqlite_wal.specs.Recovery.{Image}
+use Rattle.sqlite_wal.specs.Files.{image_at}
+use Rattle.sqlite_std_file.specs.File.{IsFresh}
+use Rattle.sqlite.specs.Files.{file_state}
+use Rattle.cellctl.specs.Led.{ScriptLeads, ScriptLeadsSurely}
+use Rattle.cellctl.proofs.Overs.{closed_at}
+use Rattle.cellctl.proofs.Lefts.{cant_open, left_at}
+use Rattle.cellctl.proofs.runs.run_path.Goals as goal
+
+pub returns-in-Ok-clause-closed : goal.returns-in-Ok-clause-closed
+returns-in-Ok-clause-closed g c =
+    closed_at _ c.args.settings.now (file_state c.in-Ok.conn) (image_at g.S.Start)
+    (ScriptLeadsSurely c.args.settings.now.lease (g.I.Read.remaining c.args.script.reader) (g.W.Write.contents c.args.writer.now) (g.W.Write.contents c.run_files.new.writer)) c.run_files.result
+    c.in-Ok.ensures.found c.run_files.ensures.closed
+
+pub returns-in-Ok-clause-left : goal.returns-in-Ok-clause-left
+returns-in-Ok-clause-left g c =
+    left_at c.args.settings.now (image_at g.S.Start) c.in-Ok.conn
+    (ScriptLeads c.args.settings.now.lease (g.I.Read.remaining c.args.script.reader) (g.W.Write.contents c.args.writer.now) (g.W.Write.contents c.run_files.new.writer))
+    (g.W.Write.contents c.args.writer.now) (g.W.Write.contents c.run_files.new.writer) c.run_files.result c.in-Ok.ensures.found c.run_files.ensures.left
+
+abbrev image : List ℕ → List ℕ → Image
+image log db = record { log = log; db = db }
+
+abbrev seen : List ℕ → List ℕ → Bool → List Event → List ℕ
+seen log db is_log history = (replay (cond is_log log db) history).seen
+
+pub returns-in-Err-clause-left : goal.returns-in-Err-clause-left
+returns-in-Err-clause-left g c = (
+  cant_open (λ files. IsFresh true files.log) (λ files. IsFresh false files.db) (image_at g.S.Start) c.in-Err.error c.in-Err.left
+      (λ files log db. ap₂ image (ap₂ (seen g.S.Start.log g.S.Start.db) log.0 log.1) (ap₂ (seen g.S.Start.log g.S.Start.db) db.0 db.1)) c.in-Err.ensures.cause,
+  refl,
+)

@@ -1,0 +1,13 @@
+use Rattle.serve_cell.specs.Seats.{hosted}
+use Rattle.cellctl.proofs.Buffers.{remaining_of}
+use Rattle.cellctl.proofs.Overs.{ends_serving, ends_roomless}
+use Rattle.cellctl.proofs.serves.serve_seat.Goals as goal
+
+pub returns-clause-served : goal.returns-clause-served
+returns-clause-served g c =
+    ends_serving _ (g.I.Read.remaining c.args.frames.reader) _ _ _ _ _ _ _ (remaining_of g.I.Read.remaining c.in-Ok.input _ c.in-Ok.ensures.inner c.in-Ok.ensures.empty c.in-Ok.ensures.capacity)
+    c.ended_status.ensures.status c.serve_groups-seat.ensures
+
+pub returns-else-with_capacity-clause-served : goal.returns-else-with_capacity-clause-served
+returns-else-with_capacity-clause-served g c =
+    ends_roomless c.args.settings.now.lease (g.I.Read.remaining c.args.frames.reader) (g.W.Write.contents c.args.writer.now) (hosted g.R.Records.store c.args.seat)

@@ -1,0 +1,34 @@
+use Rattle.std.proofs.Common.{refl}
+use Rattle.sqlite.specs.Files.{file_state}
+use Rattle.serve_cell.specs.Seats.{hosted, without_master}
+use Rattle.cellctl.specs.Led.{FramesLead}
+use Rattle.cellctl.proofs.Overs.{done_over, frames_led, frames_led_surely}
+use Rattle.cellctl.proofs.Lefts.{left_open}
+use Rattle.cellctl.proofs.serves.serve_store.Goals as goal
+
+pub returns-in-Ok-close-clause-closed : goal.returns-in-Ok-close-clause-closed
+returns-in-Ok-close-clause-closed g c clean =
+    let lease = c.args.settings.now.lease in
+    let text = g.I.Read.remaining c.args.frames.reader in
+    let before = g.W.Write.contents c.args.writer.now in
+    let after = g.W.Write.contents c.serve_seat-seat.new.writer in
+    let status = c.serve_seat-seat.status in
+    done_over g.D.Disk c.args.settings.now (file_state c.args.conn) c.in-Ok-close.files (FramesLead lease text before after status) c.in-Ok.records c.close.result
+    (record { cell = c.in-Ok.ensures.cell; left = c.in-Ok.ensures.left; none = c.in-Ok.ensures.counted; doubted = c.in-Ok.ensures.doubted; adopts = c.in-Ok.ensures.rows })
+    (frames_led_surely lease text before after status c.in-Ok.records c.close.result (without_master c.in-Ok.records) (hosted (λ s. s) c.serve_seat-seat.seat) refl c.close.ensures c.serve_seat-seat.ensures.served)
+    (c.in-Ok-close.ensures.closed clean)
+
+pub returns-in-Err-close-clause-left : goal.returns-in-Err-close-clause-left
+returns-in-Err-close-clause-left g c =
+    let lease = c.args.settings.now.lease in
+    let text = g.I.Read.remaining c.args.frames.reader in
+    let before = g.W.Write.contents c.args.writer.now in
+    let after = g.W.Write.contents c.serve_seat-seat.new.writer in
+    let status = c.serve_seat-seat.status in
+    left_open c.args.settings.now (file_state c.args.conn) (FramesLead lease text before after status) c.in-Ok.records c.close.result c.in-Err-close.store
+    (record { cell = c.in-Ok.ensures.cell; left = c.in-Ok.ensures.left; none = c.in-Ok.ensures.counted; doubted = c.in-Ok.ensures.doubted; adopts = c.in-Ok.ensures.rows })
+    (frames_led lease text before after status c.in-Ok.records c.close.result (without_master c.in-Ok.records) (hosted (λ s. s) c.serve_seat-seat.seat) refl c.close.ensures c.serve_seat-seat.ensures.served)
+    c.in-Err-close.ensures.refused
+
+pub returns-in-Err-clause-left : goal.returns-in-Err-clause-left
+returns-in-Err-clause-left g c = (record { back = c.in-Err.ensures.back; damaged = c.in-Err.ensures.damaged; full = c.in-Err.ensures.full }, refl)

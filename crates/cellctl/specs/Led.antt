@@ -1,0 +1,47 @@
+-- What leads from one store to another.
+use Rattle.std.specs.Prelude.{◌≡◌, ℕ, List, Option, Result, Ok, Err}
+use Rattle.rows_cell.specs.Stores.{Store}
+use Rattle.world_core.specs.World.{WorldView, opened, store_in}
+use Rattle.script_cell.specs.Ran.{EndsWith, EndsWell, EndsSurely}
+use Rattle.serve_cell.specs.declared.stops.Stop.TheVariants as stops
+use Rattle.serve_cell.specs.declared.stops.GroupStop.{GroupStop}
+use Rattle.serve_cell.specs.declared.stops.GroupStop.TheVariants.{Stopped, Refused}
+use Rattle.serve_cell.specs.Seats.{Hosted, without_master}
+use Rattle.serve_cell.specs.Groups.{EndsGroups}
+
+-- bytes that are left in a stream, or that one holds, where they are known
+abbrev pub Known : Type 0
+Known = Option (List ℕ)
+
+-- ---- a script
+
+-- with this status a script ended on a new world over a store, which is what it left of it: the laws of runs hold, where nothing
+-- is in doubt
+abbrev pub ScriptLeads : ℕ → Known → Known → Known → ℕ → Store → Store → Type 0
+ScriptLeads lease text before after status first last =
+    (new : WorldView) × EndsWith status (EndsWell text (opened first lease) new) before after × (last ≡ store_in new)
+
+-- the same where nothing is in doubt: they hold
+abbrev pub ScriptLeadsSurely : ℕ → Known → Known → Known → ℕ → Store → Store → Type 0
+ScriptLeadsSurely lease text before after status first last =
+    (new : WorldView) × EndsWith status (EndsSurely text (opened first lease) new) before after × (last ≡ store_in new)
+
+-- ---- frames
+
+-- 0 behind the last frame; 1 where frames can't be read or their answers can't be written; 4 where memory ran out; 3 where the
+-- store refused what a group of them changed
+abbrev pub served_status : Result (Unit {0}) GroupStop → ℕ
+served_status (Ok x) = 0
+served_status (Err (Stopped stops.Unread)) = 1
+served_status (Err (Stopped stops.Unwritten)) = 1
+served_status (Err (Stopped stops.NoMemory)) = 4
+served_status (Err (Refused fault)) = 3
+
+-- with this status the frames of a text were served over what was hosted
+abbrev pub EndsServing : ℕ → Known → Known → Known → ℕ → Hosted → Hosted → Type 0
+EndsServing lease text before after status old new =
+    (ended : Result (Unit {0}) GroupStop) × (status ≡ served_status ended) × EndsGroups lease text old ended new before after
+
+-- the same over a store with no master, and what they left of it
+abbrev pub FramesLead : ℕ → Known → Known → Known → ℕ → Store → Store → Type 0
+FramesLead lease text before after status first last = (new : Hosted) × EndsServing lease text before after status (without_master first) new × (last ≡ new.store)

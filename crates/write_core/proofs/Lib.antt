@@ -1,0 +1,3 @@
+pub mod Fronts
+mod Rooms
+mod Parts
