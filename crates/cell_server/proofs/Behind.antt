@@ -1,5 +1,5 @@
 -- In a block that tells a message all bytes of it stand behind the first ten.
-use Rattle.std.proofs.Common.{◌≡◌, ℕ, ◌+◌, ◌<◌, Bool, true, false, cond, List, [], ◌∷◌, ◌++◌, length, drop, Ok, Err, refl, sym, ap, ◌∙◌, arith}
+use Rattle.std.proofs.Common.{◌≡◌, ℕ, ◌<◌, Bool, true, false, cond, List, ◌∷◌, ◌++◌, length, drop, Ok, Err, refl, sym, ap, ◌∙◌, arith}
 use Rattle.std.specs.Prelude.{nat_lt}
 use Rattle.std.proofs.Math.Seq.{drop-append_seam}
 use Rattle.std.proofs.lemmas.Bool.{lt-ltb, ltb-true}
@@ -8,9 +8,9 @@ use Rattle.byteorder.specs.Endian.{big_bytes}
 use Rattle.byteorder.specs.Numbers.{length-bytes_high_first}
 use Rattle.tags_cell.specs.declared.messages.outs.Out.{Out}
 use Rattle.wire_core.specs.declared.faults.WireFault.TheVariants.{TooLong}
-use Rattle.wire_core.specs.Forms.{Form, version, length_end, written, read_whole}
+use Rattle.wire_core.specs.Forms.{version, length_end, read_whole}
 use Rattle.wire_core.specs.Fields.{word, client}
-use Rattle.wire_core.specs.Outs.{out_message, has_bytes, out_written}
+use Rattle.wire_core.specs.Outs.{out_message, out_written}
 use Rattle.wire_core.proofs.FormLaws.{IsBytes, read_was_written, written_begins}
 use Rattle.wire_core.proofs.OutLaws.{has_bytes_form, form_written}
 use Rattle.serve_cell.specs.declared.tellings.Told.TheVariants as tells

@@ -4,7 +4,7 @@ use Rattle.plain.specs.Results.{Gives}
 use Rattle.tags_cell.specs.declared.messages.requests.Request.{Request}
 use Rattle.wire_core.specs.declared.faults.WireFault.{WireFault}
 use Rattle.wire_core.specs.declared.faults.WireFault.TheVariants.{NoMemory}
-use Rattle.wire_core.specs.Forms.{◌>>=◌, Form, read_whole}
+use Rattle.wire_core.specs.Forms.{◌>>=◌, read_whole}
 use Rattle.wire_core.specs.Requests.{request}
 use Rattle.serve_cell.specs.declared.frames.Frame.TheVariants as frames
 use Rattle.serve_cell.specs.Blocks.{framed}

@@ -1,5 +1,5 @@
 -- Numbers of clients and of calls, as tests.
-use Rattle.std.proofs.Common.{◌≡◌, ℕ, Bool, true, false, cond, List, Result, Ok, Err, refl, sym, ap, subst, ◌∙◌, arith}
+use Rattle.std.proofs.Common.{◌≡◌, ℕ, Bool, true, false, cond, List, Result, Err, sym, ap, subst, ◌∙◌, arith}
 use Rattle.std.proofs.lemmas.Bool.Decides.{nat_tests}
 use Rattle.plain.specs.Results.{Gives}
 use Rattle.tags_cell.specs.Numbers.{IsClientNumber, is_client_number, IsOrdinal}

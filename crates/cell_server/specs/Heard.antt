@@ -1,8 +1,6 @@
 -- What a master tells, by its parts.
-use Rattle.std.specs.Prelude.{ℕ, ◌+◌, ◌-◌, List, [], length, Option, Some, None, Result, Ok, Err}
-use Rattle.node_core.specs.declared.kinds.Kind.{Kind}
+use Rattle.std.specs.Prelude.{ℕ, ◌+◌, List, [], length, Option, Some, None, Result, Ok, Err}
 use Rattle.node_core.specs.declared.kinds.Kind.TheVariants as kinds
-use Rattle.node_core.specs.declared.nodes.Node.{Node}
 use Rattle.node_core.specs.declared.views.Mod.{Mod}
 use Rattle.node_core.specs.declared.views.Mod.TheVariants as mods
 use Rattle.node_core.specs.declared.lines.Line.{Line}
@@ -11,7 +9,7 @@ use Rattle.node_core.specs.Refusals.{fault_number}
 use Rattle.node_core.specs.Texts.{line_text}
 use Rattle.wire_core.specs.declared.faults.WireFault.{WireFault}
 use Rattle.wire_core.specs.declared.faults.WireFault.TheVariants.{BadKind}
-use Rattle.wire_core.specs.Forms.{◌>>=◌, Form, read_whole}
+use Rattle.wire_core.specs.Forms.{◌>>=◌, read_whole}
 use Rattle.wire_core.specs.Fields.{kind_place, life_place, lock_mode_place}
 use Rattle.wire_core.specs.Lines.{line_kind, line_place, mod_kind, mod_place}
 use Rattle.serve_cell.specs.declared.standing.Counts.{Counts}

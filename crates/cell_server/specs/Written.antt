@@ -9,7 +9,7 @@ use Rattle.tags_cell.specs.declared.messages.outs.Out.{Out}
 use Rattle.tags_cell.specs.declared.messages.outs.Out.TheVariants as outs
 use Rattle.wire_core.specs.declared.faults.WireFault.{WireFault}
 use Rattle.wire_core.specs.declared.faults.WireFault.TheVariants.{BadNumber}
-use Rattle.wire_core.specs.Forms.{◌>>=◌, Form, read_whole}
+use Rattle.wire_core.specs.Forms.{◌>>=◌, read_whole}
 use Rattle.wire_core.specs.Requests.{request}
 use Rattle.wire_core.specs.Outs.{out_written}
 use Rattle.wire_core.specs.Laws.{AreBytes}
