@@ -6,6 +6,7 @@ use crate::errors::Error;
 use crate::events::Event;
 use crate::library::{Library, Status};
 use crate::lines::{Answer, Line};
+use crate::outgoing::Outgoing;
 use crate::refusals::Refusal;
 use host_wire::messages::number_of_client;
 use host_wire::{Notice, TurnedAway};
@@ -13,7 +14,6 @@ use std::sync::atomic::{AtomicU64, Ordering};
 use std::sync::mpsc::{Receiver, Sender, channel};
 use std::sync::{Arc, Condvar, Mutex, MutexGuard, PoisonError};
 use std::time::Duration;
-use tokio::sync::mpsc::UnboundedSender;
 
 /// So long at most who waits for a change doesn't look again.
 const LOOK: Duration = Duration::from_millis(50);
@@ -98,7 +98,7 @@ struct Watcher {
 pub struct State {
     library: Library,
     turns: Arc<AtomicU64>,
-    outgoing: Option<UnboundedSender<Vec<u8>>>,
+    outgoing: Option<Arc<Outgoing>>,
     notice: Option<Notice>,
     waiter: Option<Sender<Result<Reply, Error>>>,
     new_watcher: Option<Sender<Event>>,
@@ -183,7 +183,7 @@ impl State {
     }
 
     /// From here on messages go this way. A Beat goes first, and the outstanding call again.
-    pub fn connect(&mut self, outgoing: UnboundedSender<Vec<u8>>) {
+    pub fn connect(&mut self, outgoing: Arc<Outgoing>) {
         self.outgoing = Some(outgoing);
     }
 
@@ -206,14 +206,15 @@ impl State {
 
     /// The connection is gone.
     pub fn disconnect(&mut self) {
-        self.outgoing = None;
+        if let Some(outgoing) = self.outgoing.take() {
+            outgoing.end();
+        }
     }
 
     // Without a connection a message is lost, and goes again with the next one.
     fn send(&self, message: Option<Vec<u8>>) {
         if let (Some(outgoing), Some(message)) = (&self.outgoing, message) {
-            // (where the writer is gone the connection is, too)
-            let _ = outgoing.send(message);
+            outgoing.send(&message);
         }
     }
 

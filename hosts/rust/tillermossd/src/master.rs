@@ -7,6 +7,7 @@ use crate::lines::Message;
 use crate::outgoing::Outgoing;
 use crate::printed::Printed;
 use crate::pulse::Pulse;
+use crate::serving::Reading;
 use crate::settings::Settings;
 use crate::starts::Starts;
 use crate::store::{self, Identity};
@@ -28,6 +29,7 @@ use tempfile::TempDir;
 use tokio::io::AsyncWriteExt;
 use tokio::process::{Child, ChildStdin, ChildStdout, Command};
 use tokio::sync::{mpsc, oneshot};
+use tokio::task::spawn_blocking;
 use tokio::time::{sleep, timeout};
 use tracing::{debug, error, info, trace, warn};
 
@@ -129,8 +131,9 @@ pub struct Master {
 }
 
 impl Making {
-    /// Starts a master, and waits until it is up. It may have one frame at a time for a while.
-    pub async fn start(&self, hall: &Arc<Hall>, is_alone: bool) -> Result<Master> {
+    /// Starts a master, and waits until it is up; meanwhile what the cell looks like is read, where nobody knows it yet. It may have one
+    /// frame at a time for a while.
+    pub async fn start(&self, hall: &Arc<Hall>, is_alone: bool, reading: Option<Reading>) -> Result<Master> {
         // (it is read before the first answer comes)
         let settings = self.settings.write()?;
         let kept = self.rows.as_ref().map(|rows| anyhow::Ok((rows.clone(), rows.keep()?))).transpose()?;
@@ -142,6 +145,9 @@ impl Making {
         Frame::Up(0).put(&mut input.waiting)?;
         input.write().await;
         let (begun, mut blocks) = (Instant::now(), Blocks::wide(ANSWER_LIMIT));
+        if let Some(read) = reading {
+            *hall.picture() = spawn_blocking(read).await??;
+        }
         let coming = come_up(hall, &mut output, &mut blocks);
         let next = timeout(COMING_UP, coming).await.unwrap_or_else(|_| bail!("it took too long"));
         let next = next.context("the master didn't come up")?;
@@ -477,7 +483,7 @@ impl Master {
                 let _ = reply.send(Err(io::Error::new(io::ErrorKind::Unsupported, "the rows stand in etcd")));
                 return;
             };
-            let copied = tokio::task::spawn_blocking(move || store::copy(&path)).await.unwrap_or_else(|error| Err(io::Error::other(error)));
+            let copied = spawn_blocking(move || store::copy(&path)).await.unwrap_or_else(|error| Err(io::Error::other(error)));
             // (who asked may be gone; then the copy is, too)
             let _ = reply.send(copied);
         }

@@ -5,7 +5,7 @@ use crate::numbers::Epochs;
 use anyhow::{Context, Result, bail};
 use nix::sys::statvfs::statvfs;
 use rusqlite::{Connection, OpenFlags};
-use std::fs;
+use std::fs::{self, File};
 use std::io;
 use std::os::unix::fs::MetadataExt;
 use std::path::{Path, PathBuf};
@@ -17,6 +17,12 @@ const OLD_VERSION: u64 = 1;
 /// Behind a path's last letters: SQLite's log.
 const LOG: &str = "wal";
 
+/// So many bytes has a page of a store that the server makes.
+const PAGE: u64 = 1024;
+
+/// A database that has more bytes has a table.
+const BLANK: u64 = 4096;
+
 /// A file beside the store.
 #[must_use]
 pub fn beside(store: &Path, what: &str) -> PathBuf {
@@ -26,10 +32,33 @@ pub fn beside(store: &Path, what: &str) -> PathBuf {
     PathBuf::from(path)
 }
 
-/// Whether there is a store: a file that isn't empty.
-#[must_use]
-pub fn is_there(store: &Path) -> bool {
-    fs::metadata(store).is_ok_and(|file| file.len() > 0)
+/// Whether there is a store: a file that isn't empty, and has tables. (One without them is left by a server that ended early.)
+pub fn is_there(store: &Path) -> Result<bool> {
+    match fs::metadata(store).map_or(0, |file| file.len()) {
+        0 => Ok(false),
+        length if length > BLANK => Ok(true),
+        _ => {
+            let folder = copy(store).with_context(|| format!("reading {}", store.display()))?;
+            let tables = open(&copied(&folder))?.query_row("SELECT count(*) FROM sqlite_master", [], |row| row.get::<_, u64>(0));
+            Ok(tables.map_or(true, |tables| tables > 0))
+        }
+    }
+}
+
+/// Makes the file of a store that isn't there: a database of small pages without tables, which its master makes. A commit writes each
+/// page that it changes whole into the log, and sums it up twice: by small ones that is less. Beside a log that was left it makes none.
+pub fn prepare(store: &Path) -> Result<()> {
+    if beside(store, LOG).exists() {
+        return Ok(());
+    }
+    let folder = tempfile::Builder::new().prefix(&prefix(store)).tempdir_in(above(store))?;
+    let made = copied(&folder);
+    let connection = Connection::open(&made)?;
+    connection.execute_batch(&format!("PRAGMA page_size = {PAGE}; VACUUM;"))?;
+    connection.close().map_err(|(_, error)| error)?;
+    File::open(&made)?.sync_all()?;
+    fs::rename(&made, store)?;
+    Ok(File::open(above(store))?.sync_all()?)
 }
 
 // How the folders of copies are named.
