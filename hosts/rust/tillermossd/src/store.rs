@@ -217,6 +217,31 @@ mod tests {
     }
 
     #[test]
+    fn a_store_is_there_once_it_has_tables() {
+        let folder = tempfile::tempdir().unwrap();
+        let at = |name: &str| folder.path().join(name);
+        prepare(&at("made")).unwrap();
+        assert_eq!(fs::metadata(at("made")).unwrap().len(), PAGE);
+        prepare(&at("full")).unwrap();
+        open(&at("full")).unwrap().execute_batch("CREATE TABLE meta (id)").unwrap();
+        // (its tables stand in its log alone)
+        prepare(&at("logged")).unwrap();
+        let logged = open(&at("logged")).unwrap();
+        logged.execute_batch("PRAGMA journal_mode = WAL; CREATE TABLE meta (id)").unwrap();
+        fs::write(at("empty"), b"").unwrap();
+        fs::write(at("other"), b"no database").unwrap();
+        fs::write(at("long"), [0; BLANK as usize + 1]).unwrap();
+        let rows = [("none", false), ("empty", false), ("made", false), ("full", true), ("logged", true), ("other", true), ("long", true)];
+        for (name, wanted) in rows {
+            assert_eq!(is_there(&at(name)).unwrap(), wanted, "{name}");
+        }
+        let left = at("left");
+        fs::write(beside(&left, LOG), b"a log").unwrap();
+        prepare(&left).unwrap();
+        assert!(!left.exists());
+    }
+
+    #[test]
     fn copies_that_were_left_are_removed() {
         let folder = tempfile::tempdir().unwrap();
         let (store, other) = (folder.path().join("s"), folder.path().join("t"));
