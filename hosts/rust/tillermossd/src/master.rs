@@ -323,6 +323,12 @@ impl Master {
         self.alone_until.is_some_and(|until| Instant::now() < until) || is_short()
     }
 
+    // (the disk is looked at once for what is sent together, and only where there is a second frame)
+    fn takes_one_more(&self, is_alone: &mut Option<bool>) -> bool {
+        let mut is_alone = || *is_alone.get_or_insert_with(|| self.is_alone());
+        self.has_room() && (self.sent.is_empty() || (self.hall.lines.has_some() && !is_alone()))
+    }
+
     fn now(&self) -> u64 {
         self.begun.elapsed().as_millis() as u64
     }
@@ -344,8 +350,8 @@ impl Master {
         if let Some(fault) = self.identity.as_ref().and_then(Identity::fault) {
             return Ok(Some(fault));
         }
-        let is_alone = self.is_alone();
-        while self.has_room() && (self.sent.is_empty() || !is_alone) {
+        let mut is_alone = None;
+        while self.takes_one_more(&mut is_alone) {
             let message = self.hall.lines.take();
             if message.is_none() && !(is_due && self.sent.is_empty()) {
                 break;
