@@ -46,9 +46,10 @@ pub fn is_there(store: &Path) -> Result<bool> {
 }
 
 /// Makes the file of a store that isn't there: a database of small pages without tables, which its master makes. A commit writes each
-/// page that it changes whole into the log, and sums it up twice: by small ones that is less. Beside a log that was left it makes none.
+/// page that it changes whole into the log, and sums it up twice: by small ones that is less. Where there is a file, also an empty one,
+/// or a link, or a log that was left, it makes none.
 pub fn prepare(store: &Path) -> Result<()> {
-    if beside(store, LOG).exists() {
+    if fs::symlink_metadata(store).is_ok() || beside(store, LOG).exists() {
         return Ok(());
     }
     let folder = tempfile::Builder::new().prefix(&prefix(store)).tempdir_in(above(store))?;
@@ -235,6 +236,11 @@ mod tests {
         for (name, wanted) in rows {
             assert_eq!(is_there(&at(name)).unwrap(), wanted, "{name}");
         }
+        prepare(&at("empty")).unwrap();
+        assert_eq!(fs::metadata(at("empty")).unwrap().len(), 0);
+        std::os::unix::fs::symlink(at("elsewhere"), at("link")).unwrap();
+        prepare(&at("link")).unwrap();
+        assert!(at("link").is_symlink() && !at("elsewhere").exists());
         let left = at("left");
         fs::write(beside(&left, LOG), b"a log").unwrap();
         prepare(&left).unwrap();
