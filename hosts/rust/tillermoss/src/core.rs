@@ -6,13 +6,13 @@ use crate::errors::Error;
 use crate::events::Event;
 use crate::library::{Library, Status};
 use crate::lines::{Answer, Line};
+use crate::outgoing::Outgoing;
 use crate::refusals::Refusal;
 use host_wire::{Asked, Notice, TurnedAway};
 use std::sync::atomic::{AtomicU64, Ordering};
 use std::sync::mpsc::{Receiver, Sender, channel};
 use std::sync::{Arc, Condvar, Mutex, MutexGuard, PoisonError};
 use std::time::Duration;
-use tokio::sync::mpsc::UnboundedSender;
 
 /// So long at most who waits for a change doesn't look again.
 const LOOK: Duration = Duration::from_millis(50);
@@ -97,7 +97,7 @@ struct Watcher {
 pub struct State {
     library: Library,
     turns: Arc<AtomicU64>,
-    outgoing: Option<UnboundedSender<Vec<u8>>>,
+    outgoing: Option<Arc<Outgoing>>,
     notice: Option<Notice>,
     waiter: Option<Sender<Result<Reply, Error>>>,
     new_watcher: Option<Sender<Event>>,
@@ -182,7 +182,7 @@ impl State {
     }
 
     /// From here on messages go this way. A Beat goes first, and the outstanding call again.
-    pub fn connect(&mut self, outgoing: UnboundedSender<Vec<u8>>) {
+    pub fn connect(&mut self, outgoing: Arc<Outgoing>) {
         self.outgoing = Some(outgoing);
     }
 
@@ -205,14 +205,15 @@ impl State {
 
     /// The connection is gone.
     pub fn disconnect(&mut self) {
-        self.outgoing = None;
+        if let Some(outgoing) = self.outgoing.take() {
+            outgoing.end();
+        }
     }
 
     // Without a connection a message is lost, and goes again with the next one.
     fn send(&self, message: Option<Vec<u8>>) {
         if let (Some(outgoing), Some(message)) = (&self.outgoing, message) {
-            // (where the writer is gone the connection is, too)
-            let _ = outgoing.send(message);
+            outgoing.send(&message);
         }
     }
 

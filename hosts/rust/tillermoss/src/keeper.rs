@@ -3,20 +3,17 @@
 use crate::clock;
 use crate::core::{Core, End};
 use crate::errors::Error;
+use crate::outgoing::Outgoing;
 use crate::reaching::{Reach, Stream};
 use host_wire::{ANSWER_LIMIT, Answer, Blocks, Hello, Notice, Said, TurnedAway, Welcome, framed};
 use std::io::{self, ErrorKind};
 use std::sync::Arc;
 use std::time::{Duration, Instant};
-use tokio::io::{AsyncRead, AsyncWrite, AsyncWriteExt};
-use tokio::sync::mpsc::{UnboundedReceiver, unbounded_channel};
+use tokio::io::{AsyncRead, AsyncWriteExt};
 use tokio::time::{sleep, timeout};
 
 /// So long a connection may take to be made, and a greeting to be answered.
 const CONNECTING: Duration = Duration::from_secs(5);
-
-/// So long one write to the server may last.
-const WRITING: Duration = Duration::from_secs(10);
 
 /// So many milliseconds between two tries to connect, at first and at most.
 const PAUSES: (u64, u64) = (20, 500);
@@ -217,12 +214,12 @@ impl Keeper {
     // Keeps it over this connection, until that is lost; whether the master was heard of meanwhile.
     async fn keep(&self, connection: Connection, has_heard: &mut bool) -> io::Result<()> {
         let Connection { stream, blocks, .. } = connection;
-        let (outgoing, waiting) = unbounded_channel();
         let (read, write) = tokio::io::split(stream);
-        self.core.lock().connect(outgoing);
+        let outgoing = Arc::new(Outgoing::new(Box::new(write)));
+        self.core.lock().connect(outgoing.clone());
         tokio::select! {
             end = self.hear(read, blocks, has_heard) => end,
-            end = write_all(write, waiting) => end,
+            end = outgoing.write_all() => end,
         }
     }
 
@@ -269,16 +266,6 @@ impl Keeper {
         self.core.tell();
         before.sent(now, beaten)
     }
-}
-
-// Writes what is sent, until nothing is to be sent any more.
-async fn write_all(mut write: impl AsyncWrite + Unpin, mut waiting: UnboundedReceiver<Vec<u8>>) -> io::Result<()> {
-    while let Some(message) = waiting.recv().await {
-        let bytes = framed(&message)?;
-        timeout(WRITING, write.write_all(&bytes)).await.unwrap_or_else(|_| Err(ErrorKind::TimedOut.into()))?;
-        write.flush().await?;
-    }
-    write.shutdown().await
 }
 
 #[cfg(test)]

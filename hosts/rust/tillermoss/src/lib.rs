@@ -29,6 +29,7 @@ mod keeper;
 mod library;
 mod lines;
 mod nodes;
+mod outgoing;
 mod reaching;
 mod refusals;
 mod viewer;

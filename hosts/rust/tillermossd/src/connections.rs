@@ -129,14 +129,14 @@ pub async fn take_all(door: Door, hall: Arc<Hall>) {
 }
 
 impl Hall {
-    /// The hall of a server that begins.
-    pub fn new(numbers: Numbers, picture: Picture, limits: &Limits) -> Result<Hall> {
+    /// The hall of a server that begins. It knows of no node and no session yet.
+    pub fn new(numbers: Numbers, limits: &Limits) -> Result<Hall> {
         Ok(Hall {
             numbers: Mutex::new(numbers),
             routes: Routes::default(),
             lines: Lines::default(),
             room: Arc::new(Semaphore::new(ROOM / UNIT)),
-            picture: Mutex::new(picture),
+            picture: Mutex::default(),
             limits: RwLock::new(limits.clone()),
             metrics: Metrics::new()?,
             lobby: Lobby::default(),

@@ -6,6 +6,7 @@ use crate::etcd::pipes::Kept;
 use crate::lines::Message;
 use crate::outgoing::Outgoing;
 use crate::pulse::Pulse;
+use crate::serving::Reading;
 use crate::settings::Settings;
 use crate::starts::Starts;
 use crate::store::{self, Identity};
@@ -26,6 +27,7 @@ use tempfile::TempDir;
 use tokio::io::AsyncWriteExt;
 use tokio::process::{Child, ChildStdin, ChildStdout, Command};
 use tokio::sync::{mpsc, oneshot};
+use tokio::task::spawn_blocking;
 use tokio::time::{sleep, timeout};
 use tracing::{debug, error, info, trace, warn};
 
@@ -127,8 +129,9 @@ pub struct Master {
 }
 
 impl Making {
-    /// Starts a master, and waits until it is up. It may have one frame at a time for a while.
-    pub async fn start(&self, hall: &Arc<Hall>, is_alone: bool) -> Result<Master> {
+    /// Starts a master, and waits until it is up; meanwhile what the cell looks like is read, where nobody knows it yet. It may have one
+    /// frame at a time for a while.
+    pub async fn start(&self, hall: &Arc<Hall>, is_alone: bool, reading: Option<Reading>) -> Result<Master> {
         // (it is read before the first answer comes)
         let settings = self.settings.write()?;
         let kept = self.rows.as_ref().map(|rows| anyhow::Ok((rows.clone(), rows.keep()?))).transpose()?;
@@ -140,6 +143,9 @@ impl Making {
         input.put(Frame::Up(0))?;
         input.write().await;
         let (begun, mut blocks) = (Instant::now(), Blocks::wide(ANSWER_LIMIT));
+        if let Some(read) = reading {
+            *hall.picture() = spawn_blocking(read).await??;
+        }
         let coming = come_up(hall, &mut output, &mut blocks);
         let next = timeout(COMING_UP, coming).await.unwrap_or_else(|_| bail!("it took too long"));
         let next = next.context("the master didn't come up")?;
@@ -327,6 +333,12 @@ impl Master {
         self.alone_until.is_some_and(|until| Instant::now() < until) || is_short()
     }
 
+    // (the disk is looked at once for what is sent together, and only where there is a second frame)
+    fn takes_one_more(&self, is_alone: &mut Option<bool>) -> bool {
+        let mut is_alone = || *is_alone.get_or_insert_with(|| self.is_alone());
+        self.has_room() && (self.sent.is_empty() || (self.hall.lines.has_some() && !is_alone()))
+    }
+
     fn now(&self) -> u64 {
         self.begun.elapsed().as_millis() as u64
     }
@@ -348,8 +360,8 @@ impl Master {
         if let Some(fault) = self.identity.as_ref().and_then(Identity::fault) {
             return Ok(Some(fault));
         }
-        let is_alone = self.is_alone();
-        while self.has_room() && (self.sent.is_empty() || !is_alone) {
+        let mut is_alone = None;
+        while self.takes_one_more(&mut is_alone) {
             let message = self.hall.lines.take();
             if message.is_none() && !(is_due && self.sent.is_empty()) {
                 break;
@@ -486,7 +498,7 @@ impl Master {
                 let _ = reply.send(Err(io::Error::new(io::ErrorKind::Unsupported, "the rows stand in etcd")));
                 return;
             };
-            let copied = tokio::task::spawn_blocking(move || store::copy(&path)).await.unwrap_or_else(|error| Err(io::Error::other(error)));
+            let copied = spawn_blocking(move || store::copy(&path)).await.unwrap_or_else(|error| Err(io::Error::other(error)));
             // (who asked may be gone; then the copy is, too)
             let _ = reply.send(copied);
         }

@@ -111,6 +111,13 @@ impl Sums {
 }
 
 impl Picture {
+    /// That of the rows of a store.
+    pub fn of(connection: &Connection) -> Result<Picture> {
+        let mut picture = Picture::default();
+        picture.read(connection)?;
+        Ok(picture)
+    }
+
     /// Takes over the rows of a store.
     pub fn read(&mut self, connection: &Connection) -> Result<()> {
         let mut nodes = connection.prepare("SELECT name, instance, kind, life, content_gen, length(content) FROM nodes")?;

@@ -48,9 +48,12 @@ const AGAIN: (Duration, Duration) = (Duration::from_millis(500), Duration::from_
 /// How often the service manager hears that the server lives.
 const WATCHDOG: Duration = Duration::from_secs(5);
 
+/// Reads what the cell looks like, which takes a while: meanwhile the master comes up.
+pub type Reading = Box<dyn FnOnce() -> Result<Picture> + Send>;
+
 /// What was found before a master is started.
 struct Found {
-    picture: Picture,
+    picture: Reading,
     numbers: Numbers,
     settings: Settings,
     warnings: Vec<String>,
@@ -138,8 +141,8 @@ fn look_beside(options: &Options, rows: &Rows) -> Result<Found> {
         ));
     }
     numbers.note(epochs)?;
-    let mut picture = Picture::default();
-    picture.read(&found.tables()?)?;
+    let tables = found.tables()?;
+    let picture = Box::new(move || Picture::of(&tables));
     Ok(Found { picture, numbers, settings, warnings })
 }
 
@@ -162,10 +165,10 @@ fn warnings(options: &Options, has_known_secret: bool) -> Vec<String> {
 
 // Looks at the store and what stands beside it. Nothing is written where they don't go together.
 fn look(options: &Options, path: &Path) -> Result<Found> {
-    let has_store = store::is_there(path);
+    let has_store = store::is_there(path)?;
     let settings = Settings::read(options.settings.as_deref())?;
     let mut numbers = Numbers::open(&beside(path, "numbers"), has_store, options.first)?;
-    let mut picture = Picture::default();
+    let mut picture: Reading = Box::new(|| Ok(Picture::default()));
     let mut epochs = Epochs { last: 0, coming: 1 };
     let mut has_known_secret = settings.has_known_secret();
     if has_store {
@@ -174,15 +177,21 @@ fn look(options: &Options, path: &Path) -> Result<Found> {
         let head = Head::read(&connection)?;
         has_known_secret = head.has_known_secret;
         epochs = head.check(numbers.epochs())?;
-        picture.read(&connection)?;
+        picture = Box::new(move || {
+            let _kept = folder;
+            Picture::of(&connection)
+        });
     }
     let mut warnings = warnings(options, has_known_secret);
     if has_store && fs::metadata(path)?.permissions().mode() & 0o077 != 0 {
         warnings.push(format!("others than its user may read {}", path.display()));
     }
     numbers.note(epochs)?;
-    let settings = if has_store { settings } else { settings.with_secret() };
-    Ok(Found { picture, numbers, settings, warnings })
+    if has_store {
+        return Ok(Found { picture, numbers, settings, warnings });
+    }
+    store::prepare(path).with_context(|| format!("making {}", path.display()))?;
+    Ok(Found { picture, numbers, settings: settings.with_secret(), warnings })
 }
 
 // Whether the master says so itself. (One that can't be started is told of when it is.)
@@ -217,10 +226,10 @@ async fn run(options: Arc<Options>, path: PathBuf, rows: Option<Rows>, found: Fo
         Some(address) => Some(Desk::open(address).await?),
         None => None,
     };
-    let hall = Arc::new(Hall::new(found.numbers, found.picture, &found.settings.limits)?);
+    let hall = Arc::new(Hall::new(found.numbers, &found.settings.limits)?);
     let making = Making { program: options.master.clone().unwrap_or_else(cellctl), store: path, rows, settings: found.settings };
     let (orders, ordered) = mpsc::channel(4);
-    let master = up(&making, &hall, false).await?;
+    let master = up(&making, &hall, false, Some(found.picture)).await?;
     if making.rows.is_none() && hall.picture().nodes.is_empty() {
         // (a store that the master has made; it writes nothing before it gets a frame)
         let folder = store::copy(&making.store)?;
@@ -246,9 +255,9 @@ async fn run(options: Arc<Options>, path: PathBuf, rows: Option<Rows>, found: Fo
     wait(&options, &hall, certificates.as_deref(), &orders, ended, signals).await
 }
 
-// Starts a master, and notes its epoch.
-async fn up(making: &Making, hall: &Arc<Hall>, is_alone: bool) -> Result<Master> {
-    let master = making.start(hall, is_alone).await?;
+// Starts a master, and notes its epoch. What the first one finds is read while it comes up.
+async fn up(making: &Making, hall: &Arc<Hall>, is_alone: bool, reading: Option<Reading>) -> Result<Master> {
+    let master = making.start(hall, is_alone, reading).await?;
     let epoch = hall.picture().epoch;
     hall.numbers.lock().unwrap_or_else(PoisonError::into_inner).note(Epochs { last: epoch, coming: epoch + 1 })?;
     info!(process = master.process(), epoch, "serving");
@@ -294,7 +303,7 @@ async fn up_again(making: &Making, hall: &Arc<Hall>, is_alone: bool, orders: &mu
         if making.rows.as_ref().is_some_and(|rows| !rows.mastership.holds()) {
             bail!("the mastership has ended");
         }
-        match up(making, hall, is_alone).await {
+        match up(making, hall, is_alone, None).await {
             // (over a store that has just refused a change the master itself may find no room to open it)
             Err(error) if is_alone || error.is::<StoreRefused>() => {
                 error!(reason = %format_args!("{error:#}"), "no master comes up; it is tried again")

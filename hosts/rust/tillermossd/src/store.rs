@@ -5,7 +5,7 @@ use crate::numbers::Epochs;
 use anyhow::{Context, Result, bail};
 use nix::sys::statvfs::statvfs;
 use rusqlite::{Connection, OpenFlags};
-use std::fs;
+use std::fs::{self, File};
 use std::io;
 use std::os::unix::fs::MetadataExt;
 use std::path::{Path, PathBuf};
@@ -17,6 +17,12 @@ const OLD_VERSION: u64 = 1;
 /// Behind a path's last letters: SQLite's log.
 const LOG: &str = "wal";
 
+/// So many bytes has a page of a store that the server makes.
+const PAGE: u64 = 1024;
+
+/// A database that has more bytes has a table.
+const BLANK: u64 = 4096;
+
 /// A file beside the store.
 #[must_use]
 pub fn beside(store: &Path, what: &str) -> PathBuf {
@@ -26,10 +32,34 @@ pub fn beside(store: &Path, what: &str) -> PathBuf {
     PathBuf::from(path)
 }
 
-/// Whether there is a store: a file that isn't empty.
-#[must_use]
-pub fn is_there(store: &Path) -> bool {
-    fs::metadata(store).is_ok_and(|file| file.len() > 0)
+/// Whether there is a store: a file that isn't empty, and has tables. (One without them is left by a server that ended early.)
+pub fn is_there(store: &Path) -> Result<bool> {
+    match fs::metadata(store).map_or(0, |file| file.len()) {
+        0 => Ok(false),
+        length if length > BLANK => Ok(true),
+        _ => {
+            let folder = copy(store).with_context(|| format!("reading {}", store.display()))?;
+            let tables = open(&copied(&folder))?.query_row("SELECT count(*) FROM sqlite_master", [], |row| row.get::<_, u64>(0));
+            Ok(tables.map_or(true, |tables| tables > 0))
+        }
+    }
+}
+
+/// Makes the file of a store that isn't there: a database of small pages without tables, which its master makes. A commit writes each
+/// page that it changes whole into the log, and sums it up twice: by small ones that is less. Where there is a file, also an empty one,
+/// or a link, or a log that was left, it makes none.
+pub fn prepare(store: &Path) -> Result<()> {
+    if fs::symlink_metadata(store).is_ok() || beside(store, LOG).exists() {
+        return Ok(());
+    }
+    let folder = tempfile::Builder::new().prefix(&prefix(store)).tempdir_in(above(store))?;
+    let made = copied(&folder);
+    let connection = Connection::open(&made)?;
+    connection.execute_batch(&format!("PRAGMA page_size = {PAGE}; VACUUM;"))?;
+    connection.close().map_err(|(_, error)| error)?;
+    File::open(&made)?.sync_all()?;
+    fs::rename(&made, store)?;
+    Ok(File::open(above(store))?.sync_all()?)
 }
 
 // How the folders of copies are named.
@@ -185,6 +215,36 @@ mod tests {
             let epochs = |(last, coming)| Epochs { last, coming };
             assert_eq!(head.check(noted.map(epochs)).ok(), wanted.map(epochs), "{head:?} {noted:?}");
         }
+    }
+
+    #[test]
+    fn a_store_is_there_once_it_has_tables() {
+        let folder = tempfile::tempdir().unwrap();
+        let at = |name: &str| folder.path().join(name);
+        prepare(&at("made")).unwrap();
+        assert_eq!(fs::metadata(at("made")).unwrap().len(), PAGE);
+        prepare(&at("full")).unwrap();
+        open(&at("full")).unwrap().execute_batch("CREATE TABLE meta (id)").unwrap();
+        // (its tables stand in its log alone)
+        prepare(&at("logged")).unwrap();
+        let logged = open(&at("logged")).unwrap();
+        logged.execute_batch("PRAGMA journal_mode = WAL; CREATE TABLE meta (id)").unwrap();
+        fs::write(at("empty"), b"").unwrap();
+        fs::write(at("other"), b"no database").unwrap();
+        fs::write(at("long"), [0; BLANK as usize + 1]).unwrap();
+        let rows = [("none", false), ("empty", false), ("made", false), ("full", true), ("logged", true), ("other", true), ("long", true)];
+        for (name, wanted) in rows {
+            assert_eq!(is_there(&at(name)).unwrap(), wanted, "{name}");
+        }
+        prepare(&at("empty")).unwrap();
+        assert_eq!(fs::metadata(at("empty")).unwrap().len(), 0);
+        std::os::unix::fs::symlink(at("elsewhere"), at("link")).unwrap();
+        prepare(&at("link")).unwrap();
+        assert!(at("link").is_symlink() && !at("elsewhere").exists());
+        let left = at("left");
+        fs::write(beside(&left, LOG), b"a log").unwrap();
+        prepare(&left).unwrap();
+        assert!(!left.exists());
     }
 
     #[test]

@@ -1,53 +1,210 @@
-//! etcd, by its JSON gateway: a client is a connection that is kept, and a lease.
+//! etcd, by its own messages, as its clients in Go and Java send them: gRPC, which is HTTP/2 with messages of protobuf. A client is a
+//! connection that is kept, and a lease.
 
 use crate::{CONTENT, Measured, Session};
-use serde_json::{Value, json};
-use std::io::{BufRead, BufReader, Read};
+use bytes::Bytes;
+use h2::client::SendRequest;
+use h2::{RecvStream, SendStream};
+use http::Request;
 use std::time::{Duration, Instant};
-use ureq::{Agent, AgentBuilder};
+use tokio::net::TcpStream;
+use tokio::runtime::{Builder, Runtime};
 
-/// So long a lease lasts without being kept, and so often it is kept.
+/// So many seconds a lease lasts without being kept, and so often it is kept.
 const LEASE: u64 = 12;
 const KEPT: Duration = Duration::from_secs(4);
 
-/// The lines that a watch prints.
-type Lines = BufReader<Box<dyn Read + Send + Sync>>;
-
+/// How messages go over a connection that is kept: what is read of it is read while something is asked.
 pub struct Etcd {
-    agent: Agent,
-    address: String,
-    lease: String,
+    runtime: Runtime,
+    sending: SendRequest<Bytes>,
+    lease: u64,
     kept: Instant,
-    held: Option<String>,
-    watch: Option<Lines>,
+    held: Option<Vec<u8>>,
+    watch: Option<Stream>,
 }
 
-fn text(bytes: impl AsRef<[u8]>) -> String {
-    base64::encode(bytes)
+/// A call whose messages come one behind the other. It lasts while what is sent isn't at its end.
+struct Stream {
+    _asking: SendStream<Bytes>,
+    body: RecvStream,
+    came: Vec<u8>,
 }
 
-fn word(value: &Value, name: &str) -> Measured<String> {
-    Ok(value[name].as_str().ok_or_else(|| format!("no {name} in {value}"))?.to_owned())
+/// The fields of a message: numbers, and bytes behind their length. A field that isn't there is 0, or empty.
+#[derive(Clone, Default)]
+struct Fields(Vec<u8>);
+
+impl Fields {
+    fn varint(&mut self, mut number: u64) {
+        while number >= 0x80 {
+            self.0.push(number as u8 | 0x80);
+            number >>= 7;
+        }
+        self.0.push(number as u8);
+    }
+
+    fn number(mut self, field: u8, number: u64) -> Fields {
+        self.0.push(field << 3);
+        self.varint(number);
+        self
+    }
+
+    fn bytes(mut self, field: u8, bytes: impl AsRef<[u8]>) -> Fields {
+        self.0.push(field << 3 | 2);
+        self.varint(bytes.as_ref().len() as u64);
+        self.0.extend(bytes.as_ref());
+        self
+    }
+
+    fn message(self, field: u8, message: &Fields) -> Fields {
+        self.bytes(field, &message.0)
+    }
+
+    fn put(name: &str) -> Fields {
+        Fields::default().bytes(1, name).bytes(2, CONTENT)
+    }
+}
+
+/// A value of a field.
+#[derive(Clone, Copy)]
+enum Value<'a> {
+    Number(u64),
+    Bytes(&'a [u8]),
+}
+
+fn varint(message: &[u8], at: &mut usize) -> Option<u64> {
+    let mut number = 0;
+    for shift in (0..64).step_by(7) {
+        let byte = *message.get(*at)?;
+        *at += 1;
+        number |= u64::from(byte & 0x7f) << shift;
+        if byte < 0x80 {
+            return Some(number);
+        }
+    }
+    None
+}
+
+// The next field's number and value.
+fn next<'a>(message: &'a [u8], at: &mut usize) -> Option<(u64, Value<'a>)> {
+    let key = varint(message, at)?;
+    let value = match key & 7 {
+        0 => Value::Number(varint(message, at)?),
+        2 => {
+            let length = usize::try_from(varint(message, at)?).ok()?;
+            let begin = *at;
+            *at = begin.checked_add(length)?;
+            Value::Bytes(message.get(begin..*at)?)
+        }
+        _ => return None,
+    };
+    Some((key >> 3, value))
+}
+
+// The first value of this field.
+fn field(message: &[u8], number: u64) -> Option<Value<'_>> {
+    let mut at = 0;
+    std::iter::from_fn(|| next(message, &mut at)).find(|(found, _)| *found == number).map(|(_, value)| value)
+}
+
+fn bytes_of(message: &[u8], number: u64) -> Measured<&[u8]> {
+    match field(message, number) {
+        Some(Value::Bytes(bytes)) => Ok(bytes),
+        _ => Err(format!("an answer without field {number}: {message:?}").into()),
+    }
+}
+
+fn number_of(message: &[u8], number: u64) -> Measured<u64> {
+    match field(message, number) {
+        Some(Value::Number(found)) => Ok(found),
+        _ => Err(format!("an answer without field {number}: {message:?}").into()),
+    }
+}
+
+// A message behind the byte that it isn't compressed, and its length.
+fn framed(message: &Fields) -> Measured<Bytes> {
+    let length = u32::try_from(message.0.len())?.to_be_bytes();
+    Ok([&[0][..], &length, &message.0].concat().into())
+}
+
+impl Stream {
+    // The next message; None at the end.
+    async fn message(&mut self) -> Measured<Option<Vec<u8>>> {
+        loop {
+            if let Some((head, rest)) = self.came.split_first_chunk::<5>() {
+                let length = u32::from_be_bytes([head[1], head[2], head[3], head[4]]) as usize;
+                if rest.len() >= length {
+                    let message = rest[..length].to_vec();
+                    self.came.drain(..5 + length);
+                    return Ok(Some(message));
+                }
+            }
+            let Some(some) = self.body.data().await else {
+                return self.end().await;
+            };
+            let some = some?;
+            self.came.extend(&some);
+            self.body.flow_control().release_capacity(some.len())?;
+        }
+    }
+
+    // What it came to.
+    async fn end(&mut self) -> Measured<Option<Vec<u8>>> {
+        let trailers = self.body.trailers().await?.unwrap_or_default();
+        match trailers.get("grpc-status") {
+            Some(status) if status == "0" => Ok(None),
+            _ => Err(format!("refused: {trailers:?}").into()),
+        }
+    }
+}
+
+async fn connected(address: &str) -> Measured<SendRequest<Bytes>> {
+    let stream = TcpStream::connect(address).await?;
+    stream.set_nodelay(true)?;
+    let (sending, connection) = h2::client::handshake(stream).await?;
+    // (where it ends, so does what is asked over it)
+    tokio::spawn(async move { drop(connection.await) });
+    Ok(sending)
+}
+
+async fn begun(sending: &SendRequest<Bytes>, address: &str, path: &str, asked: &Fields, is_whole: bool) -> Measured<Stream> {
+    let request = Request::post(format!("http://{address}/{path}")).header("content-type", "application/grpc").header("te", "trailers");
+    let (answer, mut asking) = sending.clone().ready().await?.send_request(request.body(())?, false)?;
+    asking.send_data(framed(asked)?, is_whole)?;
+    let answer = answer.await?;
+    if let Some(status) = answer.headers().get("grpc-status").filter(|status| *status != "0") {
+        return Err(format!("refused with {status:?}").into());
+    }
+    Ok(Stream { _asking: asking, body: answer.into_body(), came: Vec::new() })
 }
 
 impl Etcd {
     pub fn connect(address: &str) -> Measured<Etcd> {
-        let (agent, address) = (AgentBuilder::new().no_delay(true).build(), address.to_owned());
-        let mut etcd = Etcd { agent, address, lease: String::new(), kept: Instant::now(), held: None, watch: None };
-        etcd.lease = word(&etcd.ask("lease/grant", &json!({ "TTL": LEASE.to_string() }))?, "ID")?;
+        let runtime = Builder::new_current_thread().enable_all().build()?;
+        let sending = runtime.block_on(connected(address))?;
+        let mut etcd = Etcd { runtime, sending, lease: 0, kept: Instant::now(), held: None, watch: None };
+        let granted = etcd.ask("etcdserverpb.Lease/LeaseGrant", &Fields::default().number(1, LEASE))?;
+        etcd.lease = number_of(&granted, 2)?;
         Ok(etcd)
     }
 
-    fn send(&self, path: &str, asked: &Value) -> Measured<ureq::Response> {
-        Ok(self.agent.post(&format!("http://{}/v3/{path}", self.address)).send_string(&asked.to_string())?)
+    fn ask(&self, path: &str, asked: &Fields) -> Measured<Vec<u8>> {
+        self.runtime.block_on(async {
+            let mut stream = begun(&self.sending, "etcd", path, asked, true).await?;
+            let message = stream.message().await?.ok_or("no answer")?;
+            // (a unary call is over behind its trailers)
+            if !path.ends_with("KeepAlive") {
+                stream.message().await?;
+            }
+            Ok(message)
+        })
     }
 
-    fn ask(&self, path: &str, asked: &Value) -> Measured<Value> {
-        Ok(serde_json::from_str(&self.send(path, asked)?.into_string()?)?)
-    }
-
-    fn put(name: &str) -> Value {
-        json!({ "key": text(name), "value": text(CONTENT) })
+    // The next message of the watch.
+    fn told(&mut self) -> Measured<Vec<u8>> {
+        let watch = self.watch.as_mut().ok_or("no watch")?;
+        self.runtime.block_on(watch.message())?.ok_or_else(|| "the watch ended".into())
     }
 }
 
@@ -62,8 +219,9 @@ impl Session for Etcd {
 
     fn make_all(&mut self, names: &[String]) -> Measured<()> {
         for some in names.chunks(100) {
-            let puts: Vec<_> = some.iter().map(|name| json!({ "requestPut": Etcd::put(name) })).collect();
-            self.ask("kv/txn", &json!({ "success": puts }))?;
+            let put = |name: &String| Fields::default().message(2, &Fields::put(name));
+            let puts = some.iter().fold(Fields::default(), |puts, name| puts.message(2, &put(name)));
+            self.ask("etcdserverpb.KV/Txn", &puts)?;
         }
         Ok(())
     }
@@ -73,45 +231,44 @@ impl Session for Etcd {
     }
 
     fn set(&mut self, name: &str) -> Measured<()> {
-        self.ask("kv/put", &Etcd::put(name)).map(|_| ())
+        self.ask("etcdserverpb.KV/Put", &Fields::put(name)).map(|_| ())
     }
 
     fn read(&mut self, name: &str) -> Measured<()> {
-        let answer = self.ask("kv/range", &json!({ "key": text(name) }))?;
-        if answer["kvs"][0]["value"] != text(CONTENT) { Err(format!("read {answer}").into()) } else { Ok(()) }
+        let answer = self.ask("etcdserverpb.KV/Range", &Fields::default().bytes(1, name))?;
+        if bytes_of(bytes_of(&answer, 2)?, 5)? != CONTENT { Err("another content is there".into()) } else { Ok(()) }
     }
 
-    // (the watch goes on; the first one says that it begins)
+    // (the watch goes on; the first message says that it begins)
     fn follow(&mut self, name: &str) -> Measured<()> {
         if self.watch.is_none() {
-            let asked = json!({ "create_request": { "key": text(name) } });
-            self.watch = Some(BufReader::new(self.send("watch", &asked)?.into_reader()));
-            self.watch.as_mut().ok_or("no watch")?.read_line(&mut String::new())?;
+            let asked = Fields::default().message(1, &Fields::default().bytes(1, name));
+            let watch = self.runtime.block_on(begun(&self.sending, "etcd", "etcdserverpb.Watch/Watch", &asked, false))?;
+            self.watch = Some(watch);
+            number_of(&self.told()?, 3)?;
         }
         Ok(())
     }
 
     fn wait_told(&mut self) -> Measured<()> {
-        let mut line = String::new();
-        self.watch.as_mut().ok_or("no watch")?.read_line(&mut line)?;
-        if line.contains("\"events\"") { Ok(()) } else { Err(format!("a watch told {line}").into()) }
+        bytes_of(&self.told()?, 11).map(|_| ())
     }
 
     fn lock(&mut self, name: &str) -> Measured<()> {
-        let answer = self.ask("lock/lock", &json!({ "name": text(name), "lease": self.lease }))?;
-        self.held = Some(word(&answer, "key")?);
+        let answer = self.ask("v3lockpb.Lock/Lock", &Fields::default().bytes(1, name).number(2, self.lease))?;
+        self.held = Some(bytes_of(&answer, 2)?.to_vec());
         Ok(())
     }
 
     fn unlock(&mut self, _: &str) -> Measured<()> {
-        let held = self.held.take();
-        self.ask("lock/unlock", &json!({ "key": held })).map(|_| ())
+        let held = self.held.take().ok_or("it isn't held")?;
+        self.ask("v3lockpb.Lock/Unlock", &Fields::default().bytes(1, held)).map(|_| ())
     }
 
     fn keep(&mut self) -> Measured<()> {
         if self.kept.elapsed() > KEPT {
             self.kept = Instant::now();
-            self.ask("lease/keepalive", &json!({ "ID": self.lease }))?;
+            self.ask("etcdserverpb.Lease/LeaseKeepAlive", &Fields::default().number(1, self.lease))?;
         }
         Ok(())
     }

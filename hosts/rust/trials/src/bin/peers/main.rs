@@ -6,6 +6,7 @@ mod etcd;
 mod zookeeper;
 
 use std::error::Error;
+use std::sync::atomic::{AtomicBool, AtomicU32, Ordering};
 use std::thread;
 use std::time::{Duration, Instant};
 
@@ -16,7 +17,7 @@ type Measured<T> = Result<T, Box<dyn Error + Send + Sync>>;
 const CONTENT: [u8; 64] = [b'a'; 64];
 
 /// So many files each of the reading clients reads, and so many clients read.
-const FILES: u32 = 500;
+const FILES: u32 = 2000;
 const READERS: u32 = 8;
 
 /// So many threads fill a service, and so many names stand in one directory.
@@ -100,31 +101,35 @@ fn main() -> Measured<()> {
     Ok(())
 }
 
-// Does it with each session in a thread of its own, again and again for so long; how often a second all of them did it.
+// Does it with each session in a thread of its own, again and again for so long; how often a second all of them did it. (The sessions
+// end behind that.)
 fn all_at_once(
     sessions: Vec<Box<dyn Session>>,
     lasting: Duration,
     deed: impl Fn(&mut dyn Session, u32) -> Measured<()> + Sync,
 ) -> Measured<f64> {
     let begun = Instant::now();
-    let counts = thread::scope(|scope| {
+    let count = AtomicU32::new(0);
+    let numbered = (0..).zip(sessions).collect();
+    let sessions = each_by_itself(numbered, |(number, session): &mut (u32, Box<dyn Session>)| {
+        while begun.elapsed() < lasting {
+            deed(&mut **session, *number)?;
+            count.fetch_add(1, Ordering::Relaxed);
+        }
+        Ok(())
+    });
+    let spent = begun.elapsed().as_secs_f64();
+    sessions.map(|_| f64::from(count.into_inner()) / spent)
+}
+
+// Does it with each of them in a thread of its own; gives them back.
+fn each_by_itself<S: Send>(some: Vec<S>, deed: impl Fn(&mut S) -> Measured<()> + Sync) -> Measured<Vec<S>> {
+    thread::scope(|scope| {
         let deed = &deed;
-        let doing: Vec<_> = (0..)
-            .zip(sessions)
-            .map(|(number, mut session)| {
-                scope.spawn(move || -> Measured<u32> {
-                    let mut count = 0;
-                    while begun.elapsed() < lasting {
-                        deed(&mut *session, number)?;
-                        count += 1;
-                    }
-                    Ok(count)
-                })
-            })
-            .collect();
-        doing.into_iter().map(|doing| doing.join().map_err(|_| "a thread failed")?).collect::<Measured<Vec<u32>>>()
-    })?;
-    Ok(f64::from(counts.iter().sum::<u32>()) / begun.elapsed().as_secs_f64())
+        let each = |mut one: S| scope.spawn(move || deed(&mut one).map(|()| one));
+        let doing: Vec<_> = some.into_iter().map(each).collect();
+        doing.into_iter().map(|doing| doing.join().map_err(|_| "a thread failed")?).collect()
+    })
 }
 
 // Writes a second, each client's to a file of its own.
@@ -143,33 +148,23 @@ fn reads(service: Service<'_>, sessions: u32) -> Measured<f64> {
     let names: Vec<_> = (0..FILES).map(|number| format!("read{sessions}-{number}")).collect();
     let mut readers = service.sessions(READERS)?;
     readers[0].make_all(&names)?;
-    for reader in &mut readers {
-        names.iter().try_for_each(|name| reader.open(name))?;
-    }
+    readers = each_by_itself(readers, |reader| names.iter().try_for_each(|name| reader.open(name)))?;
     let mut idle = service.sessions(sessions.saturating_sub(READERS))?;
-    let is_over = std::sync::atomic::AtomicBool::new(false);
+    let is_over = AtomicBool::new(false);
     thread::scope(|scope| {
         let keeping = scope.spawn(|| -> Measured<()> {
-            while !is_over.load(std::sync::atomic::Ordering::SeqCst) {
+            while !is_over.load(Ordering::SeqCst) {
                 idle.iter_mut().try_for_each(|session| session.keep())?;
                 thread::sleep(Duration::from_millis(100));
             }
             Ok(())
         });
         let begun = Instant::now();
-        let read = read_all(readers, &names);
+        let read = each_by_itself(readers, |reader| names.iter().try_for_each(|name| reader.read(name)));
         let spent = begun.elapsed().as_secs_f64();
-        is_over.store(true, std::sync::atomic::Ordering::SeqCst);
+        is_over.store(true, Ordering::SeqCst);
         keeping.join().map_err(|_| "a thread failed")??;
-        read.map(|()| f64::from(READERS * FILES) / spent)
-    })
-}
-
-fn read_all(readers: Vec<Box<dyn Session>>, names: &[String]) -> Measured<()> {
-    thread::scope(|scope| {
-        let reading: Vec<_> =
-            readers.into_iter().map(|mut reader| scope.spawn(move || names.iter().try_for_each(|name| reader.read(name)))).collect();
-        reading.into_iter().try_for_each(|reading| reading.join().map_err(|_| "a thread failed")?)
+        read.map(|_| f64::from(READERS * FILES) / spent)
     })
 }
 
@@ -210,7 +205,7 @@ fn fill(service: Service<'_>, count: u32) -> Measured<f64> {
     for directory in 0..count.div_ceil(CHILDREN) {
         first.make_directory(&format!("fill{directory}"))?;
     }
-    let (begun, next) = (Instant::now(), std::sync::atomic::AtomicU32::new(0));
+    let (begun, next) = (Instant::now(), AtomicU32::new(0));
     thread::scope(|scope| {
         let filling: Vec<_> = (0..FILLERS).map(|_| scope.spawn(|| fill_some(service, count, &next))).collect();
         filling.into_iter().try_for_each(|filling| filling.join().map_err(|_| "a thread failed")?)
@@ -218,10 +213,10 @@ fn fill(service: Service<'_>, count: u32) -> Measured<f64> {
     Ok(f64::from(count) / begun.elapsed().as_secs_f64())
 }
 
-fn fill_some(service: Service<'_>, count: u32, next: &std::sync::atomic::AtomicU32) -> Measured<()> {
+fn fill_some(service: Service<'_>, count: u32, next: &AtomicU32) -> Measured<()> {
     let mut session = service.session()?;
     loop {
-        let begin = next.fetch_add(100, std::sync::atomic::Ordering::SeqCst);
+        let begin = next.fetch_add(100, Ordering::SeqCst);
         if begin >= count {
             return Ok(());
         }
