@@ -77,7 +77,7 @@ done_at g settings had held files Leads finds done =
 
 pub closed_at : {D X : Type 0} (g : Ghosts D) (settings : Settled) (had : State) (held : Image) (Leads : ℕ → Store → Store → Type 0) (r : Result (ℕ × Files D) X) → (HasCleanDisk had → FindsIn held had)
     → IfOk r (λ x. AreClean g x.1.log x.1.db → DoneOver g settings had (Leads x.0) x.1) → IfOk r (λ x. AreClean g x.1.log x.1.db → DoneAt g settings held (Leads x.0) x.1)
-closed_at g settings had held Leads (Ok x) finds done clean = done_at g settings had held x.1 (Leads x.0) finds (done clean)
+closed_at g settings had held Leads (Ok x) finds done = λ clean. done_at g settings had held x.1 (Leads x.0) finds (done clean)
 closed_at g settings had held Leads (Err e) finds done = tt
 
 -- ---- a script

@@ -1,3 +1,6 @@
+use Rattle.std.proofs.Common.{subst}
+use Rattle.write_core.specs.Fronts.{AppendsFront}
+use Rattle.script_cell.specs.Scripts.{lines_text}
 use Rattle.script_cell.specs.Settling.{played}
 use Rattle.script_cell.proofs.Doings.{turn_refused}
 use Rattle.script_cell.proofs.RunsOf.{made_ran, refused_ran, exit_unwritten}
@@ -5,7 +8,8 @@ use Rattle.script_cell.proofs.scripts.settle_on.Goals as goal
 
 pub returns-in_err-write_lines-in-Ok : goal.returns-in_err-write_lines-in-Ok
 returns-in_err-write_lines-in-Ok g c =
-    exit_unwritten _ _ _ _ c.from_residual.result c.in_err-write_lines-in-Ok.field-0.0 c.in-Ok.turn.lines c.from_residual.ensures c.in_err-write_lines-in-Ok.ensures
+    exit_unwritten _ _ (g.W.Write.contents c.args.output.now) (g.W.Write.contents c.write_lines.new.output) c.from_residual.result c.in_err-write_lines-in-Ok.field-0.0 c.in-Ok.turn.lines c.from_residual.ensures
+    (c.in_err-write_lines-in-Ok.ensures.0, subst (λ lines. AppendsFront (g.W.Write.contents c.args.output.now) (g.W.Write.contents c.write_lines.new.output) (lines_text lines)) c.as_slice.ensures c.in_err-write_lines-in-Ok.ensures.1)
     (made_ran (played c.args.world.now c.args.delivered.now) _ _ _ c.in-Ok.ensures.made)
 
 pub returns-in_err-write_refusal-in-Err : goal.returns-in_err-write_refusal-in-Err
