@@ -94,9 +94,10 @@ module _ (lease : ℕ) (text before after : Known) (status : ℕ) (first last : 
 
 -- ---- frames
 
-pub ends_serving : (lease : ℕ) (text there before after : Known) (status : ℕ) (ended : Result (Unit {0}) GroupStop) (old new : Hosted) → there ≡ text → status ≡ served_status ended
-    → EndsGroups lease there old ended new before after → EndsServing lease text before after status old new
-ends_serving lease text there before after status ended old new same is e = (ended, is, subst (λ u. EndsGroups lease u old ended new before after) same e)
+pub ends_serving : (lease given : ℕ) (text there before after : Known) (status : ℕ) (ended : Result (Unit {0}) GroupStop) (old new : Hosted) → given ≡ lease → there ≡ text → status ≡ served_status ended
+    → EndsGroups given there old ended new before after → EndsServing lease text before after status old new
+ends_serving lease given text there before after status ended old new moment same is e =
+    (ended, is, subst (λ l. EndsGroups l text old ended new before after) moment (subst (λ u. EndsGroups given u old ended new before after) same e))
 
 -- before the first, for want of memory
 pub ends_roomless : (lease : ℕ) (text before : Known) (old : Hosted) → EndsServing lease text before before 4 old old
