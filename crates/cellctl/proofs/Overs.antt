@@ -77,7 +77,7 @@ done_at g settings had held files Leads finds done =
 
 pub closed_at : {D X : Type 0} (g : Ghosts D) (settings : Settled) (had : State) (held : Image) (Leads : ℕ → Store → Store → Type 0) (r : Result (ℕ × Files D) X) → (HasCleanDisk had → FindsIn held had)
     → IfOk r (λ x. AreClean g x.1.log x.1.db → DoneOver g settings had (Leads x.0) x.1) → IfOk r (λ x. AreClean g x.1.log x.1.db → DoneAt g settings held (Leads x.0) x.1)
-closed_at g settings had held Leads (Ok x) finds done clean = done_at g settings had held x.1 (Leads x.0) finds (done clean)
+closed_at g settings had held Leads (Ok x) finds done = λ clean. done_at g settings had held x.1 (Leads x.0) finds (done clean)
 closed_at g settings had held Leads (Err e) finds done = tt
 
 -- ---- a script
@@ -94,9 +94,10 @@ module _ (lease : ℕ) (text before after : Known) (status : ℕ) (first last : 
 
 -- ---- frames
 
-pub ends_serving : (lease : ℕ) (text there before after : Known) (status : ℕ) (ended : Result (Unit {0}) GroupStop) (old new : Hosted) → there ≡ text → status ≡ served_status ended
-    → EndsGroups lease there old ended new before after → EndsServing lease text before after status old new
-ends_serving lease text there before after status ended old new same is e = (ended, is, subst (λ u. EndsGroups lease u old ended new before after) same e)
+pub ends_serving : (lease given : ℕ) (text there before after : Known) (status : ℕ) (ended : Result (Unit {0}) GroupStop) (old new : Hosted) → given ≡ lease → there ≡ text → status ≡ served_status ended
+    → EndsGroups given there old ended new before after → EndsServing lease text before after status old new
+ends_serving lease given text there before after status ended old new moment same is e =
+    (ended, is, subst (λ l. EndsGroups l text old ended new before after) moment (subst (λ u. EndsGroups given u old ended new before after) same e))
 
 -- before the first, for want of memory
 pub ends_roomless : (lease : ℕ) (text before : Known) (old : Hosted) → EndsServing lease text before before 4 old old

@@ -5,9 +5,9 @@ use Rattle.cellctl.proofs.serves.serve_seat.Goals as goal
 
 pub returns-clause-served : goal.returns-clause-served
 returns-clause-served g c =
-    ends_serving _ (g.I.Read.remaining c.args.frames.reader) _ _ _ _ _ _ _ (remaining_of g.I.Read.remaining c.in-Ok.input _ c.in-Ok.ensures.inner c.in-Ok.ensures.empty c.in-Ok.ensures.capacity)
+    ends_serving c.args.settings.now.lease c.lease.result (g.I.Read.remaining c.args.frames.reader) _ _ _ _ _ _ _ c.lease.ensures.lease (remaining_of g.I.Read.remaining c.in-Ok.input _ c.in-Ok.ensures.inner c.in-Ok.ensures.empty c.in-Ok.ensures.capacity)
     c.ended_status.ensures.status c.serve_groups-seat.ensures
 
-pub returns-else-with_capacity-clause-served : goal.returns-else-with_capacity-clause-served
-returns-else-with_capacity-clause-served g c =
+pub returns-in_default-clause-served : goal.returns-in_default-clause-served
+returns-in_default-clause-served g c =
     ends_roomless c.args.settings.now.lease (g.I.Read.remaining c.args.frames.reader) (g.W.Write.contents c.args.writer.now) (hosted g.R.Records.store c.args.seat)
