@@ -4,6 +4,7 @@ use Rattle.std.specs.Prelude.{IfOk}
 use Rattle.sqlite_trees.specs.declared.memory.MemStore.{MemStore}
 use Rattle.sqlite_trees.specs.Memory.{memory_view}
 use Rattle.sqlite_trees.specs.View.{IsClean}
+use Rattle.sqlite_trees.proofs.Doubt.{no_doubt}
 use Rattle.sqlite.specs.Effect.{Database}
 use Rattle.sqlite.specs.Steps.{IsEmpty}
 use Rattle.settings_core.specs.Settings.{Settled}

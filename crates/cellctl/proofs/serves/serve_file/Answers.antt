@@ -1,4 +1,4 @@
-use Rattle.std.proofs.Common.{ℕ, Bool, true, false, cond, List, refl, ap₂}
+use Rattle.std.proofs.Common.{rules, ℕ, Bool, true, false, cond, List, refl, ap₂}
 use Rattle.sqlite_disk.specs.Events.{Event, replay}
 use Rattle.sqlite_wal.specs.Recovery.{Image}
 use Rattle.sqlite_wal.specs.Files.{image_at}
@@ -10,10 +10,7 @@ use Rattle.cellctl.proofs.Lefts.{cant_open, left_at}
 use Rattle.cellctl.proofs.serves.serve_file.Goals as goal
 
 pub returns-in-Ok-clause-closed : goal.returns-in-Ok-clause-closed
-returns-in-Ok-clause-closed g c =
-    closed_at _ c.args.settings.now (file_state c.in-Ok.conn) (image_at g.S.Start)
-    (FramesLead c.args.settings.now.lease (g.I.Read.remaining c.args.frames.reader) (g.W.Write.contents c.args.writer.now) (g.W.Write.contents c.serve_store.new.writer)) c.serve_store.result
-    c.in-Ok.ensures.found c.serve_store.ensures.closed
+returns-in-Ok-clause-closed g c = search (rules, closed_at)
 
 pub returns-in-Ok-clause-left : goal.returns-in-Ok-clause-left
 returns-in-Ok-clause-left g c =
