@@ -1,8 +1,9 @@
 -- What is left of a store that wasn't closed.
 use Rattle.std.proofs.Common.{◌≡◌, ℕ, Option, None, Some, Result, Ok, Err}
-use Rattle.std.specs.Prelude.{IfSome, IfErr}
+use Rattle.std.specs.Prelude.{IfOk, IfSome, IfErr}
 use Rattle.sqlite_disk.specs.declared.Disk as disk
 use Rattle.sqlite_disk.specs.declared.Files.{Files}
+use Rattle.sqlite_wal.specs.Reads.{AreClean}
 use Rattle.sqlite_wal.specs.Recovery.{Image}
 use Rattle.sqlite_store.specs.declared.store.FileStore.{FileStore}
 use Rattle.sqlite_store.specs.FileStore.{view, recovers}
@@ -17,11 +18,12 @@ use Rattle.sqlite.specs.declared.file.Leftover.{Leftover}
 use Rattle.settings_core.specs.Settings.{Settled}
 use Rattle.rows_cell.specs.Stores.{Store}
 use Rattle.rows_sql.specs.Keeping.{IsLeft}
+use Rattle.cellctl.specs.Closed.{DoneOver, DoneAt}
 use Rattle.cellctl.specs.Led.{Known}
 use Rattle.cellctl.specs.Left.{CantOpen, IsLeftOpen, LeavesOver, LeavesAt}
 use Rattle.cellctl.specs.declared.runs.Unclosed.{Unclosed}
 use Rattle.cellctl.specs.declared.runs.Unclosed.TheVariants as unclosed
-use Rattle.cellctl.proofs.Overs.{IsFirst, adopted_as}
+use Rattle.cellctl.proofs.Overs.{IsFirst, adopted_as, closed_at}
 
 module _ {D : Type 0} {g : disk.Ghosts D} where
   pub left_open : (settings : Settled) (had : State) (Leads : Store → Store → Type 0) (first last : Store) (store : FileStore D g) → IsFirst settings had first → Leads first last
@@ -46,3 +48,9 @@ module _ {D : Type 0} {g : disk.Ghosts D} where
   left_at settings held conn Leads before after (Err (unclosed.Unopened error left)) finds p = absurd p
   left_at settings held conn Leads before after (Err (unclosed.Refused fault store)) finds p = (conn, finds, p)
   left_at settings held conn Leads before after (Err (unclosed.Open status error store)) finds p = (conn, finds, p)
+
+  -- what was done over a connection was done over its files
+  pub closed_from : {X : Type 0} (settings : Settled) (held : Image) (conn : Held (FileStore D g)) (Leads : ℕ → Store → Store → Type 0) (r : Result (ℕ × Files D) X)
+      → (HasCleanDisk (file_state conn) → FindsIn held (file_state conn)) → IfOk r (λ x. AreClean g x.1.log x.1.db → DoneOver g settings (file_state conn) (Leads x.0) x.1)
+      → IfOk r (λ x. AreClean g x.1.log x.1.db → DoneAt g settings held (Leads x.0) x.1)
+  closed_from settings held conn Leads r = closed_at g settings (file_state conn) held Leads r

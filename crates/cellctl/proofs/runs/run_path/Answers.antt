@@ -1,16 +1,17 @@
-use Rattle.std.proofs.Common.{rules, ℕ, Bool, true, false, cond, List, refl, ap₂}
+use Rattle.std.proofs.Common.{ℕ, Bool, true, false, cond, List, refl, ap₂}
 use Rattle.sqlite_disk.specs.Events.{Event, replay}
 use Rattle.sqlite_wal.specs.Recovery.{Image}
 use Rattle.sqlite_wal.specs.Files.{image_at}
 use Rattle.sqlite_std_file.specs.File.{IsFresh}
-use Rattle.sqlite.specs.Files.{file_state}
 use Rattle.cellctl.specs.Led.{ScriptLeads, ScriptLeadsSurely}
-use Rattle.cellctl.proofs.Overs.{closed_at}
-use Rattle.cellctl.proofs.Lefts.{cant_open, left_at}
+use Rattle.cellctl.proofs.Lefts.{cant_open, left_at, closed_from}
 use Rattle.cellctl.proofs.runs.run_path.Goals as goal
 
 pub returns-in-Ok-clause-closed : goal.returns-in-Ok-clause-closed
-returns-in-Ok-clause-closed g c = search (rules, closed_at)
+returns-in-Ok-clause-closed g c =
+    closed_from c.args.settings.now (image_at g.S.Start) c.in-Ok.conn
+    (ScriptLeadsSurely c.args.settings.now.lease (g.I.Read.remaining c.args.script.reader) (g.W.Write.contents c.args.writer.now) (g.W.Write.contents c.run_files.new.writer)) c.run_files.result
+    c.in-Ok.ensures.found c.run_files.ensures.closed
 
 pub returns-in-Ok-clause-left : goal.returns-in-Ok-clause-left
 returns-in-Ok-clause-left g c =

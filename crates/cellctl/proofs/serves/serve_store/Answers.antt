@@ -12,10 +12,10 @@ returns-in-Ok-close-clause-closed g c clean =
     let text = g.I.Read.remaining c.args.frames.reader in
     let before = g.W.Write.contents c.args.writer.now in
     let after = g.W.Write.contents c.serve_seat-seat.new.writer in
-    let status = c.serve_seat-seat.status in
+    let status = c.serve_seat-seat.result.1 in
     done_over g.D.Disk c.args.settings.now (file_state c.args.conn) c.in-Ok-close.files (FramesLead lease text before after status) c.in-Ok.records c.close.result
     (record { cell = c.in-Ok.ensures.cell; left = c.in-Ok.ensures.left; none = c.in-Ok.ensures.counted; doubted = c.in-Ok.ensures.doubted; adopts = c.in-Ok.ensures.rows })
-    (frames_led_surely lease text before after status c.in-Ok.records c.close.result (without_master c.in-Ok.records) (hosted (λ s. s) c.serve_seat-seat.seat) refl c.close.ensures c.serve_seat-seat.ensures.served)
+    (frames_led_surely lease text before after status c.in-Ok.records c.close.result (without_master c.in-Ok.records) (hosted (λ s. s) c.serve_seat-seat.result.0) refl c.close.ensures c.serve_seat-seat.ensures.served)
     (c.in-Ok-close.ensures.closed clean)
 
 pub returns-in-Err-close-clause-left : goal.returns-in-Err-close-clause-left
@@ -24,10 +24,10 @@ returns-in-Err-close-clause-left g c =
     let text = g.I.Read.remaining c.args.frames.reader in
     let before = g.W.Write.contents c.args.writer.now in
     let after = g.W.Write.contents c.serve_seat-seat.new.writer in
-    let status = c.serve_seat-seat.status in
+    let status = c.serve_seat-seat.result.1 in
     left_open c.args.settings.now (file_state c.args.conn) (FramesLead lease text before after status) c.in-Ok.records c.close.result c.in-Err-close.store
     (record { cell = c.in-Ok.ensures.cell; left = c.in-Ok.ensures.left; none = c.in-Ok.ensures.counted; doubted = c.in-Ok.ensures.doubted; adopts = c.in-Ok.ensures.rows })
-    (frames_led lease text before after status c.in-Ok.records c.close.result (without_master c.in-Ok.records) (hosted (λ s. s) c.serve_seat-seat.seat) refl c.close.ensures c.serve_seat-seat.ensures.served)
+    (frames_led lease text before after status c.in-Ok.records c.close.result (without_master c.in-Ok.records) (hosted (λ s. s) c.serve_seat-seat.result.0) refl c.close.ensures c.serve_seat-seat.ensures.served)
     c.in-Err-close.ensures.refused
 
 pub returns-in-Err-clause-left : goal.returns-in-Err-clause-left
