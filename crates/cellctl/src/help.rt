@@ -111,20 +111,20 @@ milliseconds. On standard input, 1,048,576 bytes at most:
   02 MOMENT         the master does what there is to do
   03                the master is gone; the end of the input does the same
 On standard output, to each frame in its turn:
-  00 TEXT           a line, its length in four bytes before it
+  00 LINE           a line, all its bytes
   01 CLIENT MESSAGE a message, and the client that it is for, in eight bytes
   02 FAULT          this was no frame: 00 no memory, 01 too long, 02 cut off, 03 bytes behind it, 04 another version,
                     05 no such kind, 06 a number out of its range, 07 not a name; nothing has changed
   03 00             all that is told of the frame stands before, and there is nothing to do at any moment
   03 01 MOMENT      the same, and from this moment on there is something to do, and not before
-All that is told is committed before, and written before more is read. docs/FORMATS.md has the bytes of messages.
+All that is told is committed before, and written before more is read. docs/FORMATS.md has the bytes of both.
 
 A first exchange: a master comes up at moment 1000, and client 1 begins a session for ann.
   to    0000000a0200 00000000000003e8
-  from  0000000a0200 00000004 75702031                                          up 1
+  from  0000000c0200 0200 0000000000000001                                      up 1
         00000003020300
   to    000000230201 00000000000003e8 0200 0000000000000001 0000000000000001 00000003 616e6e
-  from  0000000f0200 00000009 737461727465642031                                started 1
+  from  0000000c0200 0203 0000000000000001                                      started 1
         0000002c0201 0000000000000001 0200 0000000000000001 0000000000000001 0000000000000001 0000000000002ee0
         0000000b020301 00000000000032c8                                       next at 13,000
 
