@@ -5,6 +5,8 @@ mod OwnedHandles
 mod Seats
 mod NamedNodes
 pub mod Appended
+pub mod FirstEntries
+mod IndexedNodes
 mod Noted
 mod Kept
 mod Looked

@@ -15,13 +15,13 @@ use Rattle.node_core.specs.declared.nodes.Node.{Node}
 use Rattle.node_core.specs.Nodes.{Nodes, get_node}
 use Rattle.cell_parts.specs.EphemeralNames.{is_ephemeral, NameTable, is_named, AreNamed, IsNamed, with_name, with_former_name}
 
-abbrev At : List ℕ → List ℕ → Bool
+abbrev pub At : List ℕ → List ℕ → Bool
 At q = is_at (slice_cmp nat_cmp q)
 
 abbrev IsEphemeral : Node → Type 0
 IsEphemeral node = is_ephemeral node.life ≡ true
 
-same_name : (q k : List ℕ) → At q k ≡ true → q ≡ k
+pub same_name : (q k : List ℕ) → At q k ≡ true → q ≡ k
 same_name q k h = exact_bytes q k (eq_at (slice_cmp nat_cmp q k) h)
 
 -- ---- a name more
@@ -65,6 +65,10 @@ named_after (Err e) nodes after names more name node m ok err named =
     let more_names : AreNamed nodes (with_name names name node) = λ q w h is. named_more names name node q (named q w h is) in
     subst P (sym err) (subst Q (sym m) more_names)
 
+-- also where it isn't set
+pub named_still : (nodes : Nodes) (names more : NameTable) (name : List ℕ) (node : Node) → more ≡ with_name names name node → AreNamed nodes names → AreNamed nodes more
+named_still nodes names more name node m named = λ q w h is. ap (λ ns. is_named ns q) m ∙ named_more names name node q (named q w h is)
+
 -- ---- a node goes
 
 named_gone : (nodes : Nodes) (names : NameTable) (name : List ℕ) → IsStrictlySortedBy (slice_cmp nat_cmp) (keys_of nodes) → IsStrictlySortedBy (slice_cmp nat_cmp) (keys_of names) → AreNamed nodes names → AreNamed (remove_entry (At name) nodes) (remove_entry (At name) names)
@@ -84,7 +88,7 @@ named_without nodes after names left name a b sorted in_order named =
 -- ---- a node is set again
 
 -- what is found once the value of a key was set
-found_set : (nodes : Nodes) (name : List ℕ) (node w : Node) (q : List ℕ) → lookup (At q) (set_value (At name) nodes node) ≡ Some w → (lookup (At q) nodes ≡ Some w) ⊎ ((q ≡ name) × (node ≡ w))
+pub found_set : (nodes : Nodes) (name : List ℕ) (node w : Node) (q : List ℕ) → lookup (At q) (set_value (At name) nodes node) ≡ Some w → (lookup (At q) nodes ≡ Some w) ⊎ ((q ≡ name) × (node ≡ w))
 found_set [] name node w q h = inl h
 found_set (e ∷ es) name node w q h =
     (elim (At name e.0) as (λ b. At name e.0 ≡ b → lookup (At q) (cond b ((e.0, node) ∷ es) (e ∷ set_value (At name) es node)) ≡ Some w → (lookup (At q) (e ∷ es) ≡ Some w) ⊎ ((q ≡ name) × (node ≡ w))) [

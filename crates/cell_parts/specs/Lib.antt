@@ -13,6 +13,7 @@ pub mod Claims
 pub mod OpenHandles
 pub mod Listeners
 pub mod EphemeralNames
+pub mod NameIndex
 pub mod Notes
 pub mod Answered
 pub mod Calls

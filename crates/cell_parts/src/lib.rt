@@ -7,6 +7,7 @@ mod candidates;
 mod ephemerals;
 mod handles;
 mod listeners;
+mod name_index;
 mod nodes;
 mod notices;
 mod open_handles;

@@ -1,4 +1,4 @@
-//! The nodes of a cell, and which of them are ephemeral.
+//! The nodes of a cell, which of them are ephemeral, and which stands for an instance.
 ghost use Rattle.std.specs.Prelude.{◌≡◌, true, false, Some, IfOk, OnOk, OnErr};
 ghost use Rattle.std.specs.Option.{option_copied};
 ghost use Rattle.std.specs.BTreeMap.{is_at, insert_entry};
@@ -8,7 +8,9 @@ ghost use Rattle.std.specs.Ordering.{nat_cmp};
 ghost use Rattle.plain.specs.Tables.{with_former};
 ghost use Rattle.node_core.specs.Nodes.{HasNamesInOrder, get_node};
 ghost use Rattle.cell_parts.specs.EphemeralNames.{is_ephemeral, NameTable, AreNamed, IsNamed, with_name, was_ephemeral, with_former_name};
+ghost use Rattle.cell_parts.specs.NameIndex.{name_of, AreIndexed};
 
+use crate::name_index::{NameIndex, first_of, stands_at};
 use names_cell::Name;
 use node_core::{Life, Map, Node};
 use plain::Table;
@@ -16,7 +18,7 @@ use std::alloc::{AllocError, Global};
 use std::marker::Model;
 
 /// The nodes of a cell, by their names. To a contract, the entries in the order of the names' bytes. The ephemeral ones
-/// are found by their names.
+/// are found by their names, and each by its instance.
 #[derive(Drop)]
 pub struct Nodes {
     map: Map,
@@ -24,18 +26,20 @@ pub struct Nodes {
     ephemerals: Table<Name, ()>,
     // Whether each ephemeral node has its name there.
     complete: bool,
+    index: NameIndex,
 }
 
 impl Model for Nodes {
     ghost use Rattle.std.specs.Prelude.{◌≡◌, List, ℕ, true};
     ghost use Rattle.node_core.specs.declared.nodes.Node.{Node};
     ghost use Rattle.cell_parts.specs.EphemeralNames.{AreNamed};
+    ghost use Rattle.cell_parts.specs.NameIndex.{AreIndexed};
 
     ghost Value = { List (List ℕ × Node) };
 
     ghost view = { λ n. n.map };
 
-    ghost invariant = { λ n. n.complete ≡ true → AreNamed n.map n.ephemerals };
+    ghost invariant = { λ n. (n.complete ≡ true → AreNamed n.map n.ephemerals) × (n.index.complete ≡ true → AreIndexed n.map n.index.names) };
 }
 
 impl Nodes {
@@ -44,10 +48,12 @@ impl Nodes {
         ensures { IfOk result (λ nodes. nodes ≡ map) }
     {
         let ephemerals = names_of(alloc, &map)?;
+        let index = index_of(alloc, &map)?;
         Ok(Nodes {
             map,
             ephemerals,
             complete: true,
+            index,
         })
     }
 
@@ -68,6 +74,25 @@ impl Nodes {
         }
     }
 
+    /// The name of an instance's node; of two of one instance the first. Two look-ups, as long as no two nodes had one
+    /// instance, and else a walk over the map up to it.
+    pub fn name_of(&self, instance: u64) -> Option<&Name>
+        ensures { option_copied result ≡ name_of self.now instance }
+    {
+        let _nodes = self.map.as_map();
+        if !self.index.complete {
+            return first_of(&self.map, instance);
+        }
+        let Some(name) = self.index.get(instance) else {
+            return None;
+        };
+        if stands_at(&self.map, name, instance) {
+            Some(name)
+        } else {
+            None
+        }
+    }
+
     /// Sets a node. What stood at the name is given back.
     pub fn set(&mut self, name: Name, node: Node) -> Result<Option<Node>, AllocError>
         ensures ok { OnOk result (self.new ≡ insert_entry (slice_cmp nat_cmp) self.old name node) }
@@ -76,6 +101,7 @@ impl Nodes {
         ensures err { OnErr result (self.new ≡ self.old) }
     {
         add_name(&mut self.ephemerals, &name, &node)?;
+        self.index.add(&self.map, &name, node.instance)?;
         self.map.set(name, node)
     }
 
@@ -88,6 +114,7 @@ impl Nodes {
         if !restore_name(&mut self.ephemerals, name, &former) {
             self.complete = false;
         }
+        self.index.restore(&self.map, name, &former);
         self.map.restore(name, former);
     }
 
@@ -100,6 +127,7 @@ impl Nodes {
         let _count = self.ephemerals.as_map().len();
         let former = self.map.unset(name);
         self.ephemerals.remove(name);
+        self.index.remove(&former);
         former
     }
 }
@@ -121,6 +149,16 @@ fn names_of(alloc: Global, map: &Map) -> Result<Table<Name, ()>, AllocError>
         add_name(&mut names, name, node)?;
     }
     Ok(names)
+}
+
+fn index_of(alloc: Global, map: &Map) -> Result<NameIndex, AllocError>
+    ensures { IfOk result (λ index. index.complete ≡ true → AreIndexed map.now index.names) }
+{
+    let mut index = NameIndex::new(alloc);
+    for (name, node) in map.as_map() {
+        index.add(map, name, node.instance)?;
+    }
+    Ok(index)
 }
 
 // The name of an ephemeral node is put among the others.

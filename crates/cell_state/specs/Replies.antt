@@ -1,8 +1,7 @@
 -- Who is told of a lock, and what is printed of it.
-use Rattle.std.specs.Prelude.{ℕ, Bool, ◌==◌, List, [], ◌∷◌, ◌++◌, map, Option, if◌then◌else◌, find}
-use Rattle.std.specs.Option.{option_map, option_map_or}
+use Rattle.std.specs.Prelude.{ℕ, Bool, List, [], ◌∷◌, ◌++◌, map, if◌then◌else◌}
+use Rattle.std.specs.Option.{option_map_or}
 use Rattle.node_core.specs.declared.lines.Line.{Line}
-use Rattle.node_core.specs.Nodes.{Nodes}
 use Rattle.tags_cell.specs.declared.messages.outs.Out.{Out}
 use Rattle.tags_cell.specs.declared.messages.outs.CallResult.{CallResult}
 use Rattle.tags_cell.specs.declared.messages.outs.Reply.{Reply}
@@ -15,6 +14,7 @@ use Rattle.cell_state.specs.declared.updates.LockPut.{LockPut}
 use Rattle.cell_state.specs.State.{MasterState}
 use Rattle.cell_state.specs.Lookups.{kept_of, reply_of}
 use Rattle.cell_parts.specs.Answered.{answered_by}
+use Rattle.cell_parts.specs.NameIndex.{name_of}
 use Rattle.node_core.specs.declared.refusals.Fault.TheVariants as faults
 use Rattle.node_core.specs.declared.lines.Line.TheVariants as lines
 use Rattle.tags_cell.specs.declared.messages.outs.Out.TheVariants as outs
@@ -58,10 +58,6 @@ locked_lines instance turn = map (locked_line instance turn.lock.generation) tur
 -- a line where this holds
 abbrev pub line_if : Bool → Line → List Line
 line_if holds line = if holds then line ∷ [] else []
-
--- the name of an instance's node
-abbrev pub name_of : Nodes → ℕ → Option (List ℕ)
-name_of nodes instance = option_map (λ entry. entry.0) (find (λ entry. entry.1.instance == instance) nodes)
 
 -- what becomes of the lock of an instance, where its node is there
 abbrev pub puts_of : MasterState → ℕ → LockState → List LockPut

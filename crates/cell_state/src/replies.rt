@@ -1,12 +1,11 @@
 //! Who is told of a lock, and what is printed of it.
 ghost use Rattle.std.specs.Prelude.{◌≡◌, Some, None, map, IfOk};
-ghost use Rattle.cell_state.specs.Replies.{kept_puts, sent, reply_to, replies_to, turn_replies, locked_line, locked_lines, puts_of, name_of, line_if};
+ghost use Rattle.cell_state.specs.Replies.{kept_puts, sent, reply_to, replies_to, turn_replies, locked_line, locked_lines, puts_of, line_if};
 
 use crate::masters::Master;
 use crate::updates::{KeptPut, LockPut};
 use cell_parts::{Taken, answered_by};
 use lock_core::{Claim, Lock, Turn};
-use names_cell::Name;
 use node_core::{Fault, Line};
 use plain::Items;
 use std::alloc::{AllocError, Global};
@@ -139,24 +138,12 @@ pub fn puts_of(master: &Master, instance: u64, lock: Lock) -> Result<Items<LockP
     ensures { IfOk result (λ puts. puts ≡ puts_of master.now instance lock) }
 {
     let mut puts = Items::new(master.alloc());
-    if let Some(name) = name_of(master, instance)? {
+    if let Some(name) = master.tables.nodes().name_of(instance) {
         puts.push(LockPut {
-            name,
+            name: name.clone()?,
             instance,
             lock,
         })?;
     }
     Ok(puts)
-}
-
-// The name of an instance's node. It walks over the map up to that one.
-fn name_of(master: &Master, instance: u64) -> Result<Option<Name>, AllocError>
-    ensures { IfOk result (λ name. name ≡ name_of master.now.nodes instance) }
-{
-    for (name, node) in master.map().as_map() {
-        if node.instance == instance {
-            return Ok(Some(name.clone()?));
-        }
-    }
-    Ok(None)
 }

@@ -68,7 +68,8 @@ use Rattle.over_core.specs.SweepCase.{IsNextApplied, SweepCase, rest, ended, map
 use Rattle.over_core.specs.SweepCase.SweepCase.{Quiet, Recovers, Expires, Departed, AnswersBeat, TurnedAway, StartedAgain, Started, Reopens, Tidies, Spared, Tidied, OfEnded, Ended, Applied, Deleted, Locked, Awaited, Left}
 use Rattle.over_core.proofs.KeptBySweeps.{sessions_ordered, tellings_kept, case_kept}
 use Rattle.over_core.proofs.KeptByTakes.{unnoted, asked_kept, clock_kept}
-use Rattle.over_core.proofs.NamedLocks.{own_entries, own_locks, all_of_found, not_idle, puts_are}
+use Rattle.cell_parts.proofs.FirstEntries.{own_entries, all_of_found}
+use Rattle.over_core.proofs.NamedLocks.{own_locks, not_idle, puts_are}
 use Rattle.over_core.proofs.SessionReads.{lives_in, reads_step, reads_issued}
 use Rattle.over_core.proofs.SweepCases.{first_tellings, swept_case}
 use Rattle.master_laws.specs.Settling.{is_asked, asked_left, deletes, is_going, own_left, HasLessToDo, SweepsLeaveLess, ComesToRest, SettlingEnds}

@@ -53,7 +53,8 @@ use Rattle.cell_state.specs.NameSpace.{name_space, caller}
 use Rattle.cell_state.specs.State.{MasterState}
 use Rattle.cell_state.specs.Lookups.{missing_right, may, is_of_cell, sequencer_fault, lock_under, node_of_handle, new_handle, answer_on}
 use Rattle.cell_state.specs.Lapses.{lapses_of, lapses_puts}
-use Rattle.cell_state.specs.Replies.{name_of, puts_of}
+use Rattle.cell_parts.specs.NameIndex.{name_of}
+use Rattle.cell_state.specs.Replies.{puts_of}
 use Rattle.cell_state.specs.Updates.{with_note, with_locks}
 use Rattle.cell_state.specs.declared.updates.LockPut.{LockPut}
 use Rattle.cell_core.specs.Cases.{TakeCase, taken_by}

@@ -57,7 +57,8 @@ use Rattle.over_core.proofs.LockClaims.{IsFit, reopened_fit, settled_higher, set
 use Rattle.over_core.proofs.LockPuts.{IsPut, instances_of, fit_of, kept_of_fit, puts_fit}
 use Rattle.over_core.proofs.LocksKept.{rows_behind, puts_sound, puts_sorted, puts_map, puts_done, puts_kept, puts_kept_with, put_there}
 use Rattle.over_core.proofs.LocksLapsed.{told_and_waiting, sorted_distinct, unconcerned, locks_among, puts_free, IsLapsing, lapsed_instances, lapsed_fit, lapsed_put, lapsed_waits, waits_in, other_kept}
-use Rattle.over_core.proofs.NamedLocks.{all_of_found, all_kept, own_locks, named_put, puts_are, named_is_put, not_idle}
+use Rattle.cell_parts.proofs.FirstEntries.{all_of_found}
+use Rattle.over_core.proofs.NamedLocks.{all_kept, own_locks, named_put, puts_are, named_is_put, not_idle}
 use Rattle.over_core.proofs.OneCall.{AreOne, at_most_one, count_in, sum_put, one_put, one_same}
 use Rattle.over_core.proofs.RepliesKept.{told_of, told_of_all, turn_replies_are_to, lapses_replies_are_to, told_kept, AreTo, all_append}
 use Rattle.over_core.proofs.SessionReads.{lives_in, keeps_in, reads_step}

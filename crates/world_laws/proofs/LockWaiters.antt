@@ -19,7 +19,8 @@ use Rattle.lock_core.specs.Locks.{LockTable, lock_at, with_lock, lapses}
 use Rattle.cell_state.specs.declared.updates.LockPut.{LockPut}
 use Rattle.cell_state.specs.State.{MasterState}
 use Rattle.cell_state.specs.Updates.{with_lock_put}
-use Rattle.cell_state.specs.Replies.{name_of, puts_of}
+use Rattle.cell_parts.specs.NameIndex.{name_of}
+use Rattle.cell_state.specs.Replies.{puts_of}
 use Rattle.cell_state.specs.Lapses.{lapses_puts}
 use Rattle.world_laws.specs.Consistent.{awaits_lock}
 use Rattle.lock_core.specs.declared.partings.Parting.{Parting}

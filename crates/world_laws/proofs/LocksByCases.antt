@@ -33,7 +33,8 @@ use Rattle.cell_parts.specs.declared.pending.Task.TheVariants as tasks
 use Rattle.cell_state.specs.State.{MasterState}
 use Rattle.cell_state.specs.Updates.{edit_of, with_lock_put}
 use Rattle.cell_core.specs.declared.effects.Effect.{Effect}
-use Rattle.cell_state.specs.Replies.{name_of, puts_of}
+use Rattle.cell_parts.specs.NameIndex.{name_of}
+use Rattle.cell_state.specs.Replies.{puts_of}
 use Rattle.cell_core.specs.Outcomes.{left_put}
 use Rattle.cell_state.specs.Lapses.{lapses_of, lapses_puts}
 use Rattle.cell_core.proofs.AskedFor.{asks_only}

@@ -6,6 +6,7 @@ use Rattle.std.specs.Ordering.{nat_cmp}
 use Rattle.node_core.specs.Nodes.{HasNamesInOrder}
 use Rattle.cell_parts.specs.EphemeralNames.{NameTable}
 use Rattle.cell_parts.proofs.NamedNodes.{named_again}
+use Rattle.cell_parts.proofs.IndexedNodes.{indexed_again}
 use Rattle.cell_parts.proofs.nodes.Nodes.restore.Goals as goal
 use Rattle.cell_parts.proofs.nodes.Nodes.restore.Goals.{then-not-restore_name, else-not-restore_name}
 
@@ -15,7 +16,15 @@ invariant_of-self c =
     let ordered : HasNamesInOrder c.self.inside.map = c.as_map-nodes.ensures.ordered in
     let in_order : P c.self.inside.ephemerals = search rules in
     elim c.if-not-restore_name.branch [
-      | then-not-restore_name w ↦ (λ t. let e = ap (λ x. x.complete) w.self-inside-is in absurd (cc))
-      | else-not-restore_name w ↦ (λ t.
-          named_again c.self.inside.map c.if-not-restore_name.self-inside.map c.restore.new.self c.self.inside.ephemerals c.restore_name.new.names c.if-not-restore_name.self-inside.ephemerals c.args.name.now c.args.former (ap (λ x. x.map) w.self-inside-is) c.restore_name.ensures.after (ap (λ x. x.ephemerals) w.self-inside-is) c.restore.ensures ordered.in_order in_order (c.restore_name.ensures.named w.if-not-restore_name.false) (c.self.invariant (sym (ap (λ x. x.complete) w.self-inside-is) ∙ t)))
+      | then-not-restore_name w ↦ (
+        λ t. let e = ap (λ x. x.complete) w.self-inside-is in absurd (cc),
+        λ t.
+            indexed_again c.self.inside.map c.if-not-restore_name.self-inside.map c.restore-2.new.self c.self.inside.index.names c.if-not-restore_name.self-inside.index.names c.restore.new.self.names c.args.name.now c.args.former (ap (λ x. x.map) w.self-inside-is) (ap (λ x. x.index.names) w.self-inside-is) c.restore.ensures.names c.restore-2.ensures ordered.in_order (c.restore.ensures.own t) (c.self.invariant.1 (sym (ap (λ x. x.index.complete) w.self-inside-is) ∙ c.restore.ensures.complete t)),
+      )
+      | else-not-restore_name w ↦ (
+        λ t.
+            named_again c.self.inside.map c.if-not-restore_name.self-inside.map c.restore-2.new.self c.self.inside.ephemerals c.restore_name.new.names c.if-not-restore_name.self-inside.ephemerals c.args.name.now c.args.former (ap (λ x. x.map) w.self-inside-is) c.restore_name.ensures.after (ap (λ x. x.ephemerals) w.self-inside-is) c.restore-2.ensures ordered.in_order in_order (c.restore_name.ensures.named w.if-not-restore_name.false) (c.self.invariant.0 (sym (ap (λ x. x.complete) w.self-inside-is) ∙ t)),
+        λ t.
+            indexed_again c.self.inside.map c.if-not-restore_name.self-inside.map c.restore-2.new.self c.self.inside.index.names c.if-not-restore_name.self-inside.index.names c.restore.new.self.names c.args.name.now c.args.former (ap (λ x. x.map) w.self-inside-is) (ap (λ x. x.index.names) w.self-inside-is) c.restore.ensures.names c.restore-2.ensures ordered.in_order (c.restore.ensures.own t) (c.self.invariant.1 (sym (ap (λ x. x.index.complete) w.self-inside-is) ∙ c.restore.ensures.complete t)),
+      )
     ]

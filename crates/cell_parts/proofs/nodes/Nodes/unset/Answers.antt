@@ -1,4 +1,4 @@
-use Rattle.std.proofs.Common.{rules}
+use Rattle.std.proofs.Common.{rules, sym, ◌∙◌}
 use Rattle.std.specs.List.Sorted.{IsStrictlySortedBy}
 use Rattle.std.specs.Map.{keys_of}
 use Rattle.std.specs.Cmp.Lexicographic.{slice_cmp}
@@ -6,11 +6,16 @@ use Rattle.std.specs.Ordering.{nat_cmp}
 use Rattle.node_core.specs.Nodes.{HasNamesInOrder}
 use Rattle.cell_parts.specs.EphemeralNames.{NameTable}
 use Rattle.cell_parts.proofs.NamedNodes.{named_without}
+use Rattle.cell_parts.proofs.IndexedNodes.{indexed_without}
 use Rattle.cell_parts.proofs.nodes.Nodes.unset.Goals as goal
 
 pub invariant_of-self : goal.invariant_of-self
-invariant_of-self c = λ t.
-    let P : NameTable → Type 0 = λ l. IsStrictlySortedBy (slice_cmp nat_cmp) (keys_of l) in
-    let ordered : HasNamesInOrder c.self.inside.map = c.as_map-nodes.ensures.ordered in
-    let in_order : P c.self.inside.ephemerals = search rules in
-    named_without c.self.inside.map c.unset-former.new.self c.self.inside.ephemerals c.remove.new.self c.args.name.now c.unset-former.ensures.after c.remove.ensures.removed ordered.in_order in_order (c.self.invariant t)
+invariant_of-self c =
+    let ordered : HasNamesInOrder c.self.inside.map = c.as_map-nodes.ensures.ordered in (
+      λ t.
+          let P : NameTable → Type 0 = λ l. IsStrictlySortedBy (slice_cmp nat_cmp) (keys_of l) in
+          let in_order : P c.self.inside.ephemerals = search rules in
+          named_without c.self.inside.map c.unset-former.new.self c.self.inside.ephemerals c.remove.new.self c.args.name.now c.unset-former.ensures.after c.remove.ensures.removed ordered.in_order in_order (c.self.invariant.0 t),
+      λ t.
+          indexed_without c.self.inside.map c.unset-former.new.self c.self.inside.index.names c.remove-2.new.self.names c.args.name.now c.unset-former.result c.unset-former.ensures.after c.unset-former.ensures.former c.remove-2.ensures.names ordered.in_order (c.self.invariant.1 (sym c.remove-2.ensures.complete ∙ t)),
+    )
