@@ -228,10 +228,174 @@ static void writes(void) {
     expect("no client", cell_server_store_refused(0, 1, 5, room, sizeof room, &length) == CELL_SERVER_BAD_NUMBER);
 }
 
+/* ---- rows */
+
+static void put_bytes(struct bytes *to, struct bytes more) {
+    memcpy(to->at + to->count, more.at, more.count);
+    to->count += more.count;
+}
+
+/* A node at a name, as edits and rows have it. */
+static void put_node(struct bytes *to, const char *name) {
+    put_text(to, name);
+    put(to, 1, 1); /* a directory */
+    for (int i = 4; i < 7; i++) put(to, (uint64_t)i, 8);
+    put_text(to, "base");
+    put_text(to, "own");
+    put_text(to, "acl");
+    put(to, 1, 1); /* ephemeral */
+    put_text(to, "hi");
+}
+
+static void put_key(struct bytes *to) {
+    put(to, 4, 8);
+    put(to, 1, 8);
+    put(to, 2, 8);
+}
+
+/* Each edit in turn, of the bytes behind the last one: so all are read, and nothing is left. */
+static void expect_edits(struct bytes block, size_t at, const struct cell_server_edit *wanted, const char *const *texts, int count) {
+    for (int i = 0; i < count; i++) {
+        struct cell_server_edit found = {0}, parts = wanted[i];
+        uint8_t room[64] = {0};
+        size_t left = block.count - at, length = strlen(texts[i]);
+        expect("an edit", cell_server_rows_edit(block.at + at, left, &found, room, sizeof room) == CELL_SERVER_DONE);
+        parts.taken = found.taken;
+        expect("an edit's parts", memcmp(&found, &parts, sizeof found) == 0 && memcmp(room, texts[i], length) == 0 && room[length] == 0);
+        expect("an edit that is cut", found.taken <= left && cell_server_rows_edit(block.at + at, found.taken - 1, &found, room, 0) == CELL_SERVER_CUT);
+        at += found.taken;
+    }
+    expect("nothing behind the edits", at == block.count);
+}
+
+static void questions(void) {
+    struct cell_server_question found = {0}, load = {.what = CELL_SERVER_LOAD};
+    struct bytes block = block_of(0);
+    expect("a load", cell_server_rows_asked(block.at, block.count, &found) == CELL_SERVER_DONE && memcmp(&found, &load, sizeof found) == 0);
+    block = block_of(1);
+    put(&block, 7, 8);
+    put(&block, 8, 4);
+    put(&block, 0, 1); /* the epoch */
+    put(&block, 3, 8);
+    put(&block, 1, 1); /* the next instance */
+    put(&block, 5, 8);
+    put(&block, 2, 1);
+    put_node(&block, "/ls/c/d");
+    put(&block, 3, 1); /* the lock's generation */
+    put_text(&block, "/ls/c/d");
+    put(&block, 9, 8);
+    put(&block, 4, 1); /* it goes */
+    put_text(&block, "/ls/c/d");
+    put(&block, 5, 1); /* a session, live */
+    put(&block, 1, 8);
+    put_text(&block, "ann");
+    put(&block, 1, 1);
+    put(&block, 6, 1); /* a lock, shared */
+    put_key(&block);
+    put(&block, 2, 1);
+    put(&block, 60, 8);
+    put(&block, 7, 1); /* it goes */
+    put_key(&block);
+    const struct cell_server_edit edits[8] = {
+        {.what = CELL_SERVER_EDIT_EPOCH, .number = 3},
+        {.what = CELL_SERVER_EDIT_NEXT_INSTANCE, .number = 5},
+        {.what = CELL_SERVER_EDIT_PUT_NODE, .kind = 1, .life = 1, .instance = 4, .content_generation = 5, .acl_generation = 6,
+         .name_length = 7, .read_length = 4, .write_length = 3, .change_length = 3, .content_length = 2},
+        {.what = CELL_SERVER_EDIT_LOCK_GENERATION, .number = 9, .name_length = 7},
+        {.what = CELL_SERVER_EDIT_REMOVE_NODE, .name_length = 7},
+        {.what = CELL_SERVER_EDIT_PUT_SESSION, .client = 1, .live = 1, .name_length = 3},
+        {.what = CELL_SERVER_EDIT_PUT_LOCK, .instance = 4, .client = 1, .handle = 2, .state = 2, .delay = 60},
+        {.what = CELL_SERVER_EDIT_REMOVE_LOCK, .instance = 4, .client = 1, .handle = 2},
+    };
+    const char *const texts[8] = {"", "", "/ls/c/dbaseownaclhi", "/ls/c/d", "/ls/c/d", "ann", "", ""};
+    struct cell_server_question commit = {.what = CELL_SERVER_COMMIT, .number = 7, .edits = 8, .edits_at = 14};
+    expect("a commit", cell_server_rows_asked(block.at, block.count, &found) == CELL_SERVER_DONE && memcmp(&found, &commit, sizeof found) == 0);
+    expect_edits(block, found.edits_at, edits, texts, 8);
+    expect("a commit that is cut", cell_server_rows_asked(block.at, block.count - 1, &found) == CELL_SERVER_CUT);
+    expect("a commit and more", cell_server_rows_asked(block.at, block.count + 1, &found) == CELL_SERVER_EXTRA);
+    block.at[1] = 2;
+    expect("no question", cell_server_rows_asked(block.at, block.count, &found) == CELL_SERVER_BAD_KIND);
+}
+
+static void expect_bytes(const char *what, uint32_t code, const uint8_t *room, size_t length, struct bytes wanted) {
+    expect(what, code == CELL_SERVER_DONE && length == wanted.count && memcmp(room, wanted.at, length) == 0);
+}
+
+static struct bytes row_of(int kind) {
+    struct bytes made = {{0}, 0};
+    put(&made, (uint64_t)kind, 1);
+    return made;
+}
+
+static uint32_t node_row(struct cell_server_node node, const char *name, const char *change, uint8_t *room, size_t *length) {
+    return cell_server_rows_node(&node, (const uint8_t *)name, strlen(name), (const uint8_t *)"base", 4, (const uint8_t *)"own", 3,
+                                 (const uint8_t *)change, strlen(change), (const uint8_t *)"hi", 2, room, 512, length);
+}
+
+static void rows(void) {
+    uint8_t room[512] = {0};
+    size_t length = 0;
+    struct cell_server_node node = {.kind = 1, .life = 1, .instance = 4, .content_generation = 5, .acl_generation = 6, .lock_generation = 9};
+    struct bytes wanted = row_of(0), all = {{0}, 0};
+    put_node(&wanted, "/ls/c/d");
+    put(&wanted, 9, 8);
+    uint32_t code = node_row(node, "/ls/c/d", "acl", room, &length);
+    expect_bytes("a node", code, room, length, wanted);
+    put_bytes(&all, wanted);
+    expect("no name", node_row(node, "d", "", room, &length) == CELL_SERVER_BAD_TEXT);
+    expect("no ACL name", node_row(node, "/ls/c/d", "", room, &length) == CELL_SERVER_BAD_TEXT);
+    node.kind = 2;
+    expect("no kind", node_row(node, "/ls/c/d", "", room, &length) == CELL_SERVER_BAD_KIND);
+    wanted = row_of(1);
+    put(&wanted, 1, 8);
+    put_text(&wanted, "ann");
+    put(&wanted, 1, 1);
+    code = cell_server_rows_session(1, (const uint8_t *)"ann", 3, 9, room, sizeof room, &length);
+    expect_bytes("a session", code, room, length, wanted);
+    put_bytes(&all, wanted);
+    struct cell_server_lock lock = {.instance = 4, .client = 1, .handle = 2, .state = 2, .delay = 60};
+    wanted = row_of(2);
+    put_key(&wanted);
+    put(&wanted, 2, 1);
+    put(&wanted, 60, 8);
+    code = cell_server_rows_lock(&lock, room, sizeof room, &length);
+    expect_bytes("a lock", code, room, length, wanted);
+    put_bytes(&all, wanted);
+    struct cell_server_own own = {.number = 7, .epoch = 3, .next_instance = 5, .rows = 3, .length = all.count};
+    struct bytes front = block_of(0);
+    put(&front, 7, 8);
+    put_text(&front, "c");
+    put(&front, 32, 4);
+    for (int i = 0; i < 32; i++) put(&front, (uint64_t)i, 1);
+    put(&front, 3, 8);
+    put(&front, 5, 8);
+    put(&front, 3, 4);
+    wanted = (struct bytes){{0}, 0};
+    put(&wanted, front.count + all.count, 4);
+    put_bytes(&wanted, front);
+    uint8_t secret[32];
+    for (int i = 0; i < 32; i++) secret[i] = (uint8_t)i;
+    const uint8_t *cell = (const uint8_t *)"c";
+    code = cell_server_rows_front(&own, cell, 1, secret, 32, room, sizeof room, &length);
+    expect_bytes("what stands in front of rows", code, room, length, wanted);
+    expect("no secret", cell_server_rows_front(&own, cell, 1, secret, 31, room, sizeof room, &length) == CELL_SERVER_BAD_NUMBER);
+    own.length = UINT32_MAX - front.count;
+    expect("the most rows", cell_server_rows_front(&own, cell, 1, secret, 32, room, sizeof room, &length) == CELL_SERVER_DONE);
+    own.length += 1;
+    expect("too many rows", cell_server_rows_front(&own, cell, 1, secret, 32, room, sizeof room, &length) == CELL_SERVER_TOO_LONG);
+    struct bytes none = {{0}, 0};
+    code = cell_server_rows_kept(room, sizeof room, &length);
+    expect_frame("kept", code, room, length, 1, none);
+    code = cell_server_rows_refused(room, sizeof room, &length);
+    expect_frame("refused", code, room, length, 2, none);
+}
+
 int main(void) {
     asks();
     says();
     tells();
     writes();
+    questions();
+    rows();
     return failed;
 }

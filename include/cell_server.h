@@ -196,6 +196,128 @@ uint32_t cell_server_down(uint8_t *room, size_t room_length, size_t *length);
  * it. BAD_NUMBER where no client or no call has such a number. */
 uint32_t cell_server_store_refused(uint64_t client, uint64_t epoch, uint64_t number, uint8_t *room, size_t room_length, size_t *length);
 
+/* ---- rows that a program keeps for its master: docs/FORMATS.md has what is asked and answered */
+
+/* What a master asks. What doesn't belong to its kind is 0. */
+struct cell_server_question {
+    /* LOAD or COMMIT. */
+    uint32_t what;
+    /* Of a COMMIT where the first of its edits stands, in bytes. */
+    uint32_t edits_at;
+    /* Its number. */
+    uint64_t number;
+    /* How many edits it has. */
+    uint64_t edits;
+};
+
+/* All rows; that edits be done in order, all of them or none. */
+#define CELL_SERVER_LOAD 1u
+#define CELL_SERVER_COMMIT 2u
+
+/* DONE where these bytes are a question, without the number in front, and nothing else. */
+uint32_t cell_server_rows_asked(const uint8_t *question, size_t length, struct cell_server_question *out);
+
+struct cell_server_edit {
+    /* One of those below. */
+    uint32_t what;
+    /* Of a node: 0 a file, 1 a directory. */
+    uint32_t kind;
+    /* Of a node: 0 permanent, 1 ephemeral. */
+    uint32_t life;
+    /* Of a lock: 0 lapsed, 1 exclusive, 2 shared. */
+    uint32_t state;
+    /* The epoch, the next instance, or the generation of the lock. */
+    uint64_t number;
+    uint64_t client;
+    /* Of a session: 1 where it is live. */
+    uint64_t live;
+    uint64_t instance;
+    uint64_t handle;
+    uint64_t content_generation;
+    uint64_t acl_generation;
+    /* Of a lock, in milliseconds. */
+    uint64_t delay;
+    /* Of the node's name, or of the session's principal, in bytes. */
+    uint64_t name_length;
+    /* Of the ACL names of a node, to read, to write and to change them, and of its content. */
+    uint64_t read_length;
+    uint64_t write_length;
+    uint64_t change_length;
+    uint64_t content_length;
+    /* How many of the bytes are its own. */
+    uint64_t taken;
+};
+
+#define CELL_SERVER_EDIT_EPOCH 1u
+#define CELL_SERVER_EDIT_NEXT_INSTANCE 2u
+/* The generation of the lock of a node that stands there stays; that of a new one is 0. */
+#define CELL_SERVER_EDIT_PUT_NODE 3u
+/* Of the node at a name, where there is one. */
+#define CELL_SERVER_EDIT_LOCK_GENERATION 4u
+/* With the locks of its instance. */
+#define CELL_SERVER_EDIT_REMOVE_NODE 5u
+#define CELL_SERVER_EDIT_PUT_SESSION 6u
+#define CELL_SERVER_EDIT_PUT_LOCK 7u
+#define CELL_SERVER_EDIT_REMOVE_LOCK 8u
+
+/* The edit at the front of these bytes: DONE, and its texts go into the room where they all fit, one behind the other: the name, the three
+ * ACL names, the content. The edits of a COMMIT are read from `edits_at` on, each behind the `taken` of the one before; all of them are
+ * there, and then the question is at its end. */
+uint32_t cell_server_rows_edit(const uint8_t *edits, size_t length, struct cell_server_edit *out, uint8_t *texts, size_t room);
+
+/* What is told before the rows. */
+struct cell_server_own {
+    /* How many commits made them. */
+    uint64_t number;
+    /* How many masters came up. */
+    uint64_t epoch;
+    /* The instance of the next node. */
+    uint64_t next_instance;
+    /* How many rows follow, and how many bytes they have together. */
+    uint64_t rows;
+    uint64_t length;
+};
+
+struct cell_server_node {
+    /* 0 a file, 1 a directory; 0 permanent, 1 ephemeral. */
+    uint32_t kind;
+    uint32_t life;
+    uint64_t instance;
+    uint64_t content_generation;
+    uint64_t acl_generation;
+    uint64_t lock_generation;
+};
+
+struct cell_server_lock {
+    uint64_t instance;
+    uint64_t client;
+    uint64_t handle;
+    /* 0 lapsed, 1 exclusive, 2 shared. */
+    uint64_t state;
+    /* In milliseconds. */
+    uint64_t delay;
+};
+
+/* All rows are told by what this gives, and then the rows, one behind the other. BAD_TEXT for a cell that is no component, BAD_NUMBER for
+ * a secret that isn't 32 bytes, TOO_LONG where all were 2^32 bytes or more, told in this order. */
+uint32_t cell_server_rows_front(const struct cell_server_own *own, const uint8_t *cell, size_t cell_length, const uint8_t *secret,
+                                size_t secret_length, uint8_t *room, size_t room_length, size_t *length);
+
+/* The rows. BAD_TEXT for a name, then BAD_KIND for a number that is a choice, then BAD_TEXT for an ACL name or a principal that is none;
+ * last of all TOO_LONG for 2^32 bytes or more. */
+uint32_t cell_server_rows_node(const struct cell_server_node *node, const uint8_t *name, size_t name_length, const uint8_t *read,
+                               size_t read_length, const uint8_t *write, size_t write_length, const uint8_t *change,
+                               size_t change_length, const uint8_t *content, size_t content_length, uint8_t *room, size_t room_length,
+                               size_t *length);
+/* A session is live where that isn't 0. */
+uint32_t cell_server_rows_session(uint64_t client, const uint8_t *principal, size_t principal_length, uint64_t live, uint8_t *room,
+                                  size_t room_length, size_t *length);
+uint32_t cell_server_rows_lock(const struct cell_server_lock *lock, uint8_t *room, size_t room_length, size_t *length);
+
+/* The answer to a COMMIT: its edits stand, or they don't. Both, and the front of rows, have the number of all their bytes in front. */
+uint32_t cell_server_rows_kept(uint8_t *room, size_t room_length, size_t *length);
+uint32_t cell_server_rows_refused(uint8_t *room, size_t room_length, size_t *length);
+
 #ifdef __cplusplus
 }
 #endif

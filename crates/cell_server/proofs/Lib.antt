@@ -1,3 +1,5 @@
 pub mod Behind
 pub mod Numbers
 pub mod Frames
+pub mod Naming
+pub mod Filling

@@ -323,7 +323,7 @@ fn applied_parts(client: u64, call: u64, change: &Mod) -> Heard
     }
 }
 
-fn kind_place(kind: Kind) -> u32
+pub(crate) fn kind_place(kind: Kind) -> u32
     ensures { result ≡ kind_place kind }
 {
     match kind {
@@ -332,7 +332,7 @@ fn kind_place(kind: Kind) -> u32
     }
 }
 
-fn life_place(life: Life) -> u32
+pub(crate) fn life_place(life: Life) -> u32
     ensures { result ≡ life_place life }
 {
     match life {

@@ -4,9 +4,12 @@
 
 mod asked;
 mod codes;
+mod edits;
 mod heard;
 mod laws;
+mod questions;
 mod rooms;
+mod rows;
 mod said;
 mod shown;
 mod written;
@@ -19,18 +22,30 @@ ghost use Rattle.serve_cell.specs.declared.frames.Frame.TheVariants as frames;
 ghost use Rattle.serve_cell.specs.Blocks.{framed};
 ghost use Rattle.serve_cell.specs.Frames.{frame};
 ghost use Rattle.serve_cell.specs.Told.{told};
+ghost use Rattle.frame_rows.specs.declared.frames.Answer.TheVariants as answers;
+ghost use Rattle.frame_rows.specs.Frames.{asked as asked_of_rows, answer, edit_at, framed as framed_answer};
 ghost use Rattle.cell_server.specs.Codes.{Shows, Tells};
 ghost use Rattle.cell_server.specs.Asked.{asked_parts, asked_name};
 ghost use Rattle.cell_server.specs.Said.{said_parts, said_name};
 ghost use Rattle.cell_server.specs.Heard.{heard_parts, heard_name, block_text};
 ghost use Rattle.cell_server.specs.Written.{message_frame, store_refused};
+ghost use Rattle.cell_server.specs.Questions.{question_parts, question_name};
+ghost use Rattle.cell_server.specs.Edits.{edit_parts, edit_texts};
+ghost use Rattle.cell_server.specs.Rows.{node_row, session_row, lock_row, front_in};
 
 pub use asked::Asked;
 use asked::tell_asked;
+pub use edits::EditParts;
+use edits::tell_edit;
+use frame_rows::{write_kept, write_refused};
 pub use heard::Heard;
 use heard::{block_text, tell_heard};
 pub use laws::message_stands_behind;
+pub use questions::Question;
+use questions::tell_question;
 use rooms::put;
+pub use rows::{LockParts, NodeParts, OwnParts};
+use rows::{front_in, lock_row, node_row, session_row};
 pub use said::Said;
 use said::tell_said;
 use serve_cell::{Frame, write_frame};
@@ -152,4 +167,115 @@ pub extern "C" fn cell_server_store_refused(
     ensures { Shows (store_refused client epoch number) room.old room.new length.old length.new result }
 {
     put(store_refused(alloc, client, epoch, number), room, length)
+}
+
+/// What a master asks of the program that keeps its rows, of the bytes of a question, without their number in front: 0; or 1 for want of
+/// memory, and 2 to 8 for what is wrong with the bytes: then nothing is written.
+#[unsafe(no_mangle)]
+pub extern "C" fn cell_server_rows_asked(alloc: Global, block: &[u8], out: &mut Question) -> u32
+    ensures { Tells question_parts question_name (read_whole asked_of_rows block.now) out.old out.new [] [] result }
+{
+    tell_question(alloc, block, out)
+}
+
+/// The edit at the front of these bytes, by its parts; its texts go into the room, one behind the other, if they fit. 0; or 1 for want
+/// of memory, and 2 to 8 for what is wrong with the bytes: then nothing is written.
+#[unsafe(no_mangle)]
+pub extern "C" fn cell_server_rows_edit(
+    alloc: Global,
+    edits: &[u8],
+    out: &mut EditParts,
+    texts: &mut [u8],
+) -> u32
+    ensures { Tells edit_parts edit_texts (edit_at edits.now) out.old out.new texts.old texts.new result }
+{
+    tell_edit(alloc, edits, out, texts)
+}
+
+/// What stands in front of the rows that a master is told, with the number of all bytes at its front: 0; or 1 for want of memory, 2
+/// where all were 2^32 bytes or more, 7 for a secret that isn't 32 bytes, and 8 for a cell that is no component: then nothing is written.
+#[unsafe(no_mangle)]
+pub extern "C" fn cell_server_rows_front(
+    alloc: Global,
+    parts: &OwnParts,
+    cell: &[u8],
+    secret: &[u8],
+    room: &mut [u8],
+    length: &mut usize,
+) -> u32
+    ensures { Shows (front_in parts.now cell.now secret.now) room.old room.new length.old length.new result }
+{
+    put(front_in(alloc, parts, cell, secret), room, length)
+}
+
+/// The row of a node, as it stands among those that a master is told: 0; or 1 for want of memory, 2 for 2^32 bytes or more, 6 for another
+/// number that is a choice, and 8 for a text that is no name, or no component: then nothing is written.
+#[unsafe(no_mangle)]
+pub extern "C" fn cell_server_rows_node(
+    alloc: Global,
+    parts: &NodeParts,
+    name: &[u8],
+    read: &[u8],
+    write: &[u8],
+    change: &[u8],
+    content: &[u8],
+    room: &mut [u8],
+    length: &mut usize,
+) -> u32
+    ensures { Shows (node_row parts.now name.now read.now write.now change.now content.now) room.old room.new length.old length.new result }
+{
+    put(
+        node_row(alloc, parts, name, read, write, change, content),
+        room,
+        length,
+    )
+}
+
+/// The row of a client's session, which is live where that isn't 0: 0; or 1 for want of memory, 2 for 2^32 bytes or more, and 8 for a text
+/// that is no principal: then nothing is written.
+#[unsafe(no_mangle)]
+pub extern "C" fn cell_server_rows_session(
+    alloc: Global,
+    client: u64,
+    principal: &[u8],
+    live: u64,
+    room: &mut [u8],
+    length: &mut usize,
+) -> u32
+    ensures { Shows (session_row client principal.now live) room.old room.new length.old length.new result }
+{
+    put(session_row(alloc, client, principal, live), room, length)
+}
+
+/// The row of a lock: 0; or 1 for want of memory, and 6 for another state: then nothing is written.
+#[unsafe(no_mangle)]
+pub extern "C" fn cell_server_rows_lock(
+    alloc: Global,
+    parts: &LockParts,
+    room: &mut [u8],
+    length: &mut usize,
+) -> u32
+    ensures { Shows (lock_row parts.now) room.old room.new length.old length.new result }
+{
+    put(lock_row(alloc, parts), room, length)
+}
+
+/// The answer that the edits of a commit stand, with the number of its bytes in front: 0, or 1 for want of memory.
+#[unsafe(no_mangle)]
+pub extern "C" fn cell_server_rows_kept(alloc: Global, room: &mut [u8], length: &mut usize) -> u32
+    ensures { Shows (framed_answer answer answers.Kept) room.old room.new length.old length.new result }
+{
+    put(write_kept(alloc), room, length)
+}
+
+/// The answer that they don't, with the number of its bytes in front: 0, or 1 for want of memory.
+#[unsafe(no_mangle)]
+pub extern "C" fn cell_server_rows_refused(
+    alloc: Global,
+    room: &mut [u8],
+    length: &mut usize,
+) -> u32
+    ensures { Shows (framed_answer answer answers.Refused) room.old room.new length.old length.new result }
+{
+    put(write_refused(alloc), room, length)
 }

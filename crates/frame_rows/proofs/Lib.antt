@@ -2,3 +2,4 @@ pub mod RowForms
 pub mod FrameForms
 pub mod SameRows
 pub mod Keepings
+pub mod Pieces

@@ -16,6 +16,7 @@ use Rattle.wire_core.specs.Fields.{word, block, name, component}
 use Rattle.wire_core.specs.Outs.{node}
 use Rattle.frame_rows.specs.declared.frames.Row.{Row}
 use Rattle.frame_rows.specs.declared.frames.Row.TheVariants as rows
+use Rattle.frame_rows.specs.declared.frames.Own.{Own}
 use Rattle.frame_rows.specs.declared.frames.Whole.{Whole}
 use Rattle.frame_rows.specs.declared.kinds.RowKind.{RowKind}
 use Rattle.frame_rows.specs.declared.kinds.RowKind.TheVariants as row_of
@@ -104,6 +105,13 @@ whole =
     made (λ x. record { number = x.0; cell = x.1.0; secret = x.1.1.0; epoch = x.1.1.1.0; next_instance = x.1.1.1.1.0; rows = x.1.1.1.1.1 })
     (λ w. (w.number, (w.cell, (w.secret, (w.epoch, (w.next_instance, w.rows))))))
     (word ⊗ component ⊗ secret ⊗ word ⊗ word ⊗ all_of_rows)
+
+-- what is told before the rows, but for their count
+unfoldable pub own : Form Own
+own =
+    made (λ x. record { number = x.0; cell = x.1.0; secret = x.1.1.0; epoch = x.1.1.1.0; next_instance = x.1.1.1.1 })
+    (λ o. (o.number, (o.cell, (o.secret, (o.epoch, o.next_instance)))))
+    (word ⊗ component ⊗ secret ⊗ word ⊗ word)
 
 -- ---- edits
 

@@ -1,18 +1,23 @@
 -- The forms of what is asked and of what is answered.
-use Rattle.std.specs.Prelude.{◌≡◌, ⊤, ℕ, List, [], ◌∷◌, Option, Some, None, Result, Ok, Err}
+use Rattle.std.specs.Prelude.{◌≡◌, ⊤, ℕ, zero, suc, ◌+◌, ◌-◌, nat_lt, List, [], ◌∷◌, ◌++◌, length, drop, Option, Some, None, Result, Ok, Err, if◌then◌else◌}
+use Rattle.byteorder.specs.Endian.{big_bytes}
 use Rattle.rows_cell.specs.declared.tables.Edit.{Edit}
 use Rattle.wire_core.specs.declared.faults.WireFault.{WireFault}
-use Rattle.wire_core.specs.Forms.{◌>>=◌, Form, nothing, ◌⊗◌, choice, of_kind, behind, counted, short_of, written, read_whole}
+use Rattle.wire_core.specs.declared.faults.WireFault.TheVariants.{TooLong}
+use Rattle.wire_core.specs.Forms.{◌>>=◌, Form, nothing, ◌⊗◌, choice, of_kind, behind, counted, version, length_end, short_of, written, read_whole}
 use Rattle.wire_core.specs.Fields.{word}
 use Rattle.frame_rows.specs.declared.frames.Asked.{Asked}
 use Rattle.frame_rows.specs.declared.frames.Asked.TheVariants as asks
 use Rattle.frame_rows.specs.declared.frames.Answer.{Answer}
 use Rattle.frame_rows.specs.declared.frames.Answer.TheVariants as answers
+use Rattle.frame_rows.specs.declared.frames.Own.{Own}
+use Rattle.frame_rows.specs.declared.frames.Row.{Row}
+use Rattle.frame_rows.specs.declared.frames.Whole.{Whole}
 use Rattle.frame_rows.specs.declared.kinds.AskedKind.{AskedKind}
 use Rattle.frame_rows.specs.declared.kinds.AskedKind.TheVariants as ask_of
 use Rattle.frame_rows.specs.declared.kinds.AnswerKind.{AnswerKind}
 use Rattle.frame_rows.specs.declared.kinds.AnswerKind.TheVariants as answer_of
-use Rattle.frame_rows.specs.Forms.{whole, all_of_edits}
+use Rattle.frame_rows.specs.Forms.{own, row, whole, edit, all_of_edits}
 
 -- ---- what is asked
 
@@ -100,3 +105,37 @@ abbrev pub HoldsBlock : Option (List ℕ) → List ℕ → Option (List ℕ) →
 HoldsBlock None block after = ⊤
 HoldsBlock (Some text) block None = ⊥
 HoldsBlock (Some text) block (Some rest) = counted.read text ≡ Ok (block, rest)
+
+-- ---- piece by piece
+
+-- the edit at the front, and how many of the bytes are its own
+abbrev pub edit_at : List ℕ → Result (Edit × ℕ) WireFault
+edit_at bytes = edit.read bytes >>= λ x. Ok (x.0, length bytes - length x.1)
+
+-- so many edits, each where the one before it ends
+abbrev pub edits_from : ℕ → List ℕ → Result (List Edit) WireFault
+edits_from zero bytes = Ok []
+edits_from (suc n) bytes = edit_at bytes >>= λ x. edits_from n (drop x.1 bytes) >>= λ others. Ok (x.0 ∷ others)
+
+-- where the first edit of a commit stands: behind the version, the kind, the number and the count
+abbrev pub edits_place : ℕ
+edits_place = 14
+
+-- a row among those that are told; or that it has too many bytes
+abbrev pub row_written : Row → Result (List ℕ) WireFault
+row_written told = short_of (row.write told)
+
+-- what is told before the rows
+abbrev pub own_of : Whole → Own
+own_of all = record { number = all.number; cell = all.cell; secret = all.secret; epoch = all.epoch; next_instance = all.next_instance }
+
+-- bytes with their number in front, to which so many more belong that stand behind; or that there would be too many
+abbrev pub framed_front : List ℕ → ℕ → Result (List ℕ) WireFault
+framed_front front size = if nat_lt (length front + size) length_end then Ok (big_bytes 4 (length front + size) ++ front) else Err TooLong
+
+abbrev pub front_before : Own → ℕ → List ℕ
+front_before told count = version ∷ (answer_place answer_of.Rows ∷ (own.write told ++ big_bytes 4 count))
+
+-- what stands in front of rows that are told: so many rows, which have so many bytes together
+abbrev pub rows_front : Own → ℕ → ℕ → Result (List ℕ) WireFault
+rows_front told count size = framed_front (front_before told count) size

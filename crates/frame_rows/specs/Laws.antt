@@ -1,10 +1,15 @@
 -- What holds of the bytes of what is asked and answered.
-use Rattle.std.specs.Prelude.{◌≡◌, ℕ, List, Ok}
-use Rattle.wire_core.specs.Forms.{Form, written, read_whole}
+use Rattle.std.specs.Prelude.{◌≡◌, ℕ, List, ◌++◌, length, drop, Ok}
+use Rattle.rows_cell.specs.declared.tables.Edit.{Edit}
+use Rattle.wire_core.specs.Forms.{◌>>=◌, Form, write_all, written, read_whole}
 use Rattle.wire_core.specs.Laws.{AreBytes}
 use Rattle.frame_rows.specs.declared.frames.Asked.{Asked}
+use Rattle.frame_rows.specs.declared.frames.Asked.TheVariants as asks
 use Rattle.frame_rows.specs.declared.frames.Answer.{Answer}
-use Rattle.frame_rows.specs.Frames.{asked, answer}
+use Rattle.frame_rows.specs.declared.frames.Answer.TheVariants as answers
+use Rattle.frame_rows.specs.declared.frames.Whole.{Whole}
+use Rattle.frame_rows.specs.Forms.{row}
+use Rattle.frame_rows.specs.Frames.{asked, answer, framed, edits_from, edits_place, own_of, rows_front}
 
 -- what is asked is read as it was written
 abbrev pub WrittenAskedIsRead : Type 0
@@ -20,3 +25,15 @@ WrittenAnswerIsRead = (told : Answer) (bytes : List ℕ) → answer.is told → 
 
 abbrev pub ReadAnswerWasWritten : Type 0
 ReadAnswerWasWritten = (bytes : List ℕ) (told : Answer) → AreBytes bytes → read_whole answer bytes ≡ Ok told → answer.is told × (written answer told ≡ Ok bytes)
+
+-- the edits of a commit are read one by one from their place on
+abbrev pub EditsStandBehind : Type 0
+EditsStandBehind =
+    (block : List ℕ) (number : ℕ) (edits : List Edit) → AreBytes block → read_whole asked block ≡ Ok (asks.Commit number edits)
+    → edits_from (length edits) (drop edits_place block) ≡ Ok edits
+
+-- an answer that tells rows is what stands in front of them, and then the bytes of each; or it has too many
+abbrev pub RowsStandBehind : Type 0
+RowsStandBehind =
+    (all : Whole) → framed answer (answers.Rows all)
+    ≡ (rows_front (own_of all) (length all.rows) (length (write_all row.write all.rows)) >>= λ front. Ok (front ++ write_all row.write all.rows))

@@ -1,16 +1,22 @@
-//! The bytes of what is asked, with their number in front.
-ghost use Rattle.std.specs.Prelude.{◌≡◌, OnOk};
+//! The bytes of what is asked: they are written with their number in front, and read without it.
+ghost use Rattle.std.specs.Prelude.{◌≡◌, Ok, IfOk, OnOk};
 ghost use Rattle.plain.specs.Results.{Gives};
-ghost use Rattle.wire_core.specs.Forms.{Appends, Form};
+ghost use Rattle.wire_core.specs.Forms.{Appends, Form, Reads, written, read_whole};
 ghost use Rattle.frame_rows.specs.declared.frames.Asked.TheVariants as asks;
-ghost use Rattle.frame_rows.specs.Frames.{asked, framed, framed_bytes};
+ghost use Rattle.frame_rows.specs.Frames.{asked, asked_behind, framed};
 
-use crate::edits::put_edits;
-use crate::outputs::{put_block, put_byte, put_word, whole};
+use crate::edits::{put_edits, read_edits};
+use crate::frames::Asked;
+use crate::inputs::{Input, begin};
+use crate::kinds::{ASKED_KINDS, AskedKind};
+use crate::outputs::{in_front, put_byte, put_word};
 use plain::{Bytes, Items};
 use rows_cell::Edit;
 use std::alloc::{AllocError, Global};
 use wire_core::{VERSION, WireFault};
+
+/// In the bytes of a commit its first edit stands behind so many.
+pub const EDITS_AT: u32 = 14;
 
 /// The bytes by which all rows are asked for.
 pub fn write_load(alloc: Global) -> Result<Bytes, WireFault>
@@ -48,13 +54,34 @@ fn put_commit(out: &mut Vec<u8>, number: u64, edits: &Items<Edit>) -> Result<(),
     put_edits(out, edits.as_slice())
 }
 
-// These bytes, with their number in front, if they aren't too many.
-#[tactic(auto, unfolding(wire_core::specs::Fields::block))]
-fn in_front(alloc: Global, bytes: Vec<u8>) -> Result<Bytes, WireFault>
-    ensures { Gives WireFault.NoMemory result (framed_bytes bytes.items) }
+/// What is asked by all of these bytes, without the number in front; or what is wrong with them, the first from the left. It takes
+/// memory for what stands there, whatever a count or a length in the bytes says.
+pub fn read_asked(alloc: Global, bytes: &[u8]) -> Result<Asked, WireFault>
+    ensures asked { Gives WireFault.NoMemory result (read_whole asked bytes.now) }
+    ensures back { IfOk result (λ question. written asked question ≡ Ok bytes.now) }
 {
-    let block = whole(bytes)?;
-    let mut out = Vec::new(alloc);
-    put_block(&mut out, block.as_slice())?;
-    Ok(Bytes::from_vec(out)?)
+    let mut input = begin(bytes)?;
+    let question = read_body(alloc, &mut input)?;
+    if !input.is_empty() {
+        return Err(WireFault::Extra);
+    }
+    Ok(question)
+}
+
+#[tactic(auto, unfolding(crate::specs::Frames::asked))]
+fn read_body(alloc: Global, input: &mut Input) -> Result<Asked, WireFault>
+    ensures { Reads (λ x. x) result input.new (asked.read input.old) }
+{
+    let kind = input.choice(&ASKED_KINDS)?;
+    read_body_of(alloc, input, kind)
+}
+
+#[tactic(auto, unfolding(crate::specs::Frames::change))]
+fn read_body_of(alloc: Global, input: &mut Input, kind: AskedKind) -> Result<Asked, WireFault>
+    ensures { Reads (λ x. x) result input.new (asked_behind kind input.old) }
+{
+    Ok(match kind {
+        AskedKind::Load => Asked::Load,
+        AskedKind::Commit => Asked::Commit(input.word()?, read_edits(alloc, input)?),
+    })
 }

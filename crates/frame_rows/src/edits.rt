@@ -1,71 +1,24 @@
 //! Edits as bytes.
 ghost use Rattle.std.specs.Prelude.{OnOk};
-ghost use Rattle.wire_core.specs.Forms.{Appends, Form};
-ghost use Rattle.frame_rows.specs.Forms.{session, lock_key, lock_state, lock_row, named, numbered, keyed, node_put, generation_set, edit, all_of_edits};
+ghost use Rattle.plain.specs.Results.{Gives};
+ghost use Rattle.wire_core.specs.Forms.{Appends, Form, Reads, read_all};
+ghost use Rattle.frame_rows.specs.Forms.{node_put, generation_set, edit, edit_behind, all_of_edits};
+ghost use Rattle.frame_rows.specs.Frames.{edit_at};
 
-use crate::nodes::put_node;
+use crate::holders::{
+    put_keyed, put_lock_key, put_numbered, read_lock_key, read_lock_row, read_session,
+};
+use crate::inputs::Input;
+use crate::kinds::{EDIT_KINDS, EditKind};
+use crate::nodes::{put_node, read_node};
 use crate::outputs::{put_byte, put_count, put_word};
-use crate::texts::{put_name, put_principal};
+use crate::texts::{put_name, read_name};
 use names_cell::Name;
 use node_core::Node;
-use rows_cell::{Edit, LockKey, LockRow, LockState, Session};
-use std::alloc::AllocError;
-
-#[tactic(auto, unfolding(crate::specs::Forms::session))]
-fn put_session(out: &mut Vec<u8>, stands: &Session) -> Result<(), AllocError>
-    ensures { OnOk result (Appends session stands.now out.old.items out.new.items) }
-{
-    put_principal(out, &stands.principal)?;
-    if stands.live {
-        put_byte(out, 1)
-    } else {
-        put_byte(out, 0)
-    }
-}
-
-#[tactic(auto, unfolding(crate::specs::Forms::numbered))]
-fn put_numbered(out: &mut Vec<u8>, client: u64, stands: &Session) -> Result<(), AllocError>
-    ensures { OnOk result (Appends numbered (client, stands.now) out.old.items out.new.items) }
-{
-    put_word(out, client)?;
-    put_session(out, stands)
-}
-
-#[tactic(auto, unfolding(crate::specs::Forms::lock_key))]
-fn put_lock_key(out: &mut Vec<u8>, key: LockKey) -> Result<(), AllocError>
-    ensures { OnOk result (Appends lock_key key out.old.items out.new.items) }
-{
-    put_word(out, key.instance)?;
-    put_word(out, key.client)?;
-    put_word(out, key.handle)
-}
-
-#[tactic(auto, unfolding(crate::specs::Forms::lock_state))]
-fn put_lock_state(out: &mut Vec<u8>, state: LockState) -> Result<(), AllocError>
-    ensures { OnOk result (Appends lock_state state out.old.items out.new.items) }
-{
-    match state {
-        LockState::Lapsed => put_byte(out, 0),
-        LockState::Exclusive => put_byte(out, 1),
-        LockState::Shared => put_byte(out, 2),
-    }
-}
-
-#[tactic(auto, unfolding(crate::specs::Forms::lock_row))]
-fn put_lock_row(out: &mut Vec<u8>, row: LockRow) -> Result<(), AllocError>
-    ensures { OnOk result (Appends lock_row row out.old.items out.new.items) }
-{
-    put_lock_state(out, row.state)?;
-    put_word(out, row.delay)
-}
-
-#[tactic(auto, unfolding(crate::specs::Forms::keyed))]
-fn put_keyed(out: &mut Vec<u8>, key: LockKey, row: LockRow) -> Result<(), AllocError>
-    ensures { OnOk result (Appends keyed (key, row) out.old.items out.new.items) }
-{
-    put_lock_key(out, key)?;
-    put_lock_row(out, row)
-}
+use plain::Items;
+use rows_cell::Edit;
+use std::alloc::{AllocError, Global};
+use wire_core::WireFault;
 
 #[tactic(auto, unfolding(crate::specs::Forms::node_put))]
 fn put_node_at(out: &mut Vec<u8>, name: &Name, node: &Node) -> Result<(), AllocError>
@@ -132,4 +85,58 @@ pub(crate) fn put_edits(out: &mut Vec<u8>, edits: &[Edit]) -> Result<(), AllocEr
         put_edit(out, item)?;
     }
     Ok(())
+}
+
+/// The edit at the front of these bytes, and how many of them are its own; or what is wrong with them, the first from the left.
+/// What stands behind isn't looked at.
+pub fn read_edit(alloc: Global, bytes: &[u8]) -> Result<(Edit, usize), WireFault>
+    ensures { Gives WireFault.NoMemory result (edit_at bytes.now) }
+{
+    let mut input = Input::new(bytes);
+    let done = edit_in(alloc, &mut input)?;
+    Ok((done, bytes.len().saturating_sub(input.len())))
+}
+
+#[tactic(auto, unfolding(crate::specs::Forms::edit))]
+fn edit_in(alloc: Global, input: &mut Input) -> Result<Edit, WireFault>
+    ensures { Reads (λ x. x) result input.new (edit.read input.old) }
+{
+    let kind = input.choice(&EDIT_KINDS)?;
+    edit_of(alloc, input, kind)
+}
+
+#[tactic(auto, unfolding(crate::specs::Forms::node_put, crate::specs::Forms::generation_set, crate::specs::Forms::numbered, crate::specs::Forms::keyed))]
+fn edit_of(alloc: Global, input: &mut Input, kind: EditKind) -> Result<Edit, WireFault>
+    ensures { Reads (λ x. x) result input.new (edit_behind kind input.old) }
+{
+    Ok(match kind {
+        EditKind::Epoch => Edit::Epoch(input.word()?),
+        EditKind::NextInstance => Edit::NextInstance(input.word()?),
+        EditKind::PutNode => Edit::PutNode(read_name(alloc, input)?, read_node(alloc, input)?),
+        EditKind::LockGeneration => Edit::LockGeneration(read_name(alloc, input)?, input.word()?),
+        EditKind::RemoveNode => Edit::RemoveNode(read_name(alloc, input)?),
+        EditKind::PutSession => Edit::PutSession(input.word()?, read_session(alloc, input)?),
+        EditKind::PutLock => Edit::PutLock(read_lock_key(input)?, read_lock_row(input)?),
+        EditKind::RemoveLock => Edit::RemoveLock(read_lock_key(input)?),
+    })
+}
+
+#[tactic(auto, unfolding(crate::specs::Forms::all_of_edits))]
+pub(crate) fn read_edits(alloc: Global, input: &mut Input) -> Result<Items<Edit>, WireFault>
+    ensures { Reads (λ x. x) result input.new (all_of_edits.read input.old) }
+{
+    let count = input.count()?;
+    edits_in(alloc, input, count)
+}
+
+// So many of them. It takes memory for those that stand there, and none for a count that is too high.
+fn edits_in(alloc: Global, input: &mut Input, count: u32) -> Result<Items<Edit>, WireFault>
+    ensures { Reads (λ x. x) result input.new (read_all edit.read count input.old) }
+{
+    let mut items = Vec::new(alloc);
+    for _ in 0..count {
+        let item = edit_in(alloc, input)?;
+        items.push(item)?;
+    }
+    Ok(Items::from_vec(items))
 }

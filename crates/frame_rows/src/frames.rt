@@ -26,6 +26,19 @@ pub struct Whole {
     pub rows: Items<Row>,
 }
 
+/// Of these rows all that is told before the first of them.
+#[derive(Drop)]
+pub struct Own {
+    /// How many commits made them.
+    pub number: u64,
+    pub cell: Component,
+    pub secret: Secret,
+    /// How many masters came up.
+    pub epoch: u64,
+    /// The instance of the next node.
+    pub next_instance: u64,
+}
+
 /// What is asked of the program that keeps the rows.
 #[derive(Drop)]
 pub enum Asked {

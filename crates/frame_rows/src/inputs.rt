@@ -38,6 +38,13 @@ impl<'a> Input<'a> {
         self.rest.is_empty()
     }
 
+    // How many bytes are left.
+    pub(crate) fn len(&self) -> usize
+        ensures { result ≡ length self.now }
+    {
+        self.rest.len()
+    }
+
     // So many bytes from the front.
     pub(crate) fn next(&mut self, count: usize) -> Result<&'a [u8], WireFault>
         ensures { Reads (λ front. front.now) result self.new (next_at count self.old) }

@@ -24,12 +24,25 @@ pub enum EditKind {
     RemoveLock,
 }
 
+pub(crate) const EDIT_KINDS: [EditKind; 8] = [
+    EditKind::Epoch,
+    EditKind::NextInstance,
+    EditKind::PutNode,
+    EditKind::LockGeneration,
+    EditKind::RemoveNode,
+    EditKind::PutSession,
+    EditKind::PutLock,
+    EditKind::RemoveLock,
+];
+
 /// Of which kind it is what is asked.
 #[derive(Clone, Copy)]
 pub enum AskedKind {
     Load,
     Commit,
 }
+
+pub(crate) const ASKED_KINDS: [AskedKind; 2] = [AskedKind::Load, AskedKind::Commit];
 
 /// Of which kind an answer is.
 #[derive(Clone, Copy)]

@@ -7,6 +7,7 @@ mod asked;
 mod edits;
 mod frames;
 mod history;
+mod holders;
 mod inputs;
 mod kinds;
 mod laws;
@@ -16,13 +17,17 @@ mod records;
 mod rows;
 mod streams;
 mod texts;
+mod told;
 
 pub use answers::read_answer;
-pub use asked::{write_commit, write_load};
-pub use frames::{Answer, Asked, Row, Whole};
+pub use asked::{EDITS_AT, read_asked, write_commit, write_load};
+pub use edits::read_edit;
+pub use frames::{Answer, Asked, Own, Row, Whole};
 pub use history::GhostLog;
 pub use kinds::{AnswerKind, AskedKind, EditKind, RowKind};
 pub use laws::{
-    read_answer_was_written, read_asked_was_written, written_answer_is_read, written_asked_is_read,
+    edits_stand_behind, read_answer_was_written, read_asked_was_written, rows_stand_behind,
+    written_answer_is_read, written_asked_is_read,
 };
 pub use records::{FrameRecords, Note, Standing};
+pub use told::{write_front, write_kept, write_refused, write_row};

@@ -4,11 +4,12 @@ ghost use Rattle.plain.specs.Results.{Gives};
 ghost use Rattle.byteorder.specs.Endian.{big_bytes};
 ghost use Rattle.wire_core.specs.Forms.{Appends, Form, short_of};
 ghost use Rattle.wire_core.specs.Fields.{word, block};
+ghost use Rattle.frame_rows.specs.Frames.{framed_bytes};
 
 use crate::inputs::LENGTH_END;
 use byteorder::{BigEndian, ByteOrder};
 use plain::Bytes;
-use std::alloc::AllocError;
+use std::alloc::{AllocError, Global};
 use wire_core::WireFault;
 
 // Any number, in eight bytes.
@@ -52,5 +53,16 @@ pub(crate) fn whole(out: Vec<u8>) -> Result<Bytes, WireFault>
     if out.len() >= LENGTH_END {
         return Err(WireFault::TooLong);
     }
+    Ok(Bytes::from_vec(out)?)
+}
+
+// These bytes, with their number in front, if they aren't too many.
+#[tactic(auto, unfolding(wire_core::specs::Fields::block))]
+pub(crate) fn in_front(alloc: Global, bytes: Vec<u8>) -> Result<Bytes, WireFault>
+    ensures { Gives WireFault.NoMemory result (framed_bytes bytes.items) }
+{
+    let block = whole(bytes)?;
+    let mut out = Vec::new(alloc);
+    put_block(&mut out, block.as_slice())?;
     Ok(Bytes::from_vec(out)?)
 }

@@ -1,16 +1,17 @@
 //! Rows that are told.
 ghost use Rattle.std.specs.Prelude.{◌≡◌, OnOk, IfOk};
 ghost use Rattle.wire_core.specs.Forms.{Reads, Form, read_all};
-ghost use Rattle.frame_rows.specs.Forms.{stored, session, lock_key, lock_state, lock_row, secret, row, row_behind, all_of_rows, whole};
+ghost use Rattle.frame_rows.specs.Forms.{stored, secret, row, row_behind, all_of_rows, whole};
 ghost use Rattle.frame_rows.specs.Keeping.{with_row, with_rows, told_rows};
 
 use crate::frames::{Row, Whole};
-use crate::inputs::{FLAGS, Input};
-use crate::kinds::{LOCK_STATES, ROW_KINDS, RowKind};
+use crate::holders::{read_lock_key, read_lock_row, read_session};
+use crate::inputs::Input;
+use crate::kinds::{ROW_KINDS, RowKind};
 use crate::nodes::read_node;
-use crate::texts::{read_component, read_name, read_principal};
+use crate::texts::{read_component, read_name};
 use plain::{Items, Secret, Table};
-use rows_cell::{LockKey, LockRow, LockState, Rows, Session, StoredNode};
+use rows_cell::{Rows, StoredNode};
 use std::alloc::{AllocError, Global};
 use wire_core::WireFault;
 
@@ -21,44 +22,6 @@ fn read_stored(alloc: Global, input: &mut Input) -> Result<StoredNode, WireFault
     Ok(StoredNode {
         node: read_node(alloc, input)?,
         lock_generation: input.word()?,
-    })
-}
-
-#[tactic(auto, unfolding(crate::specs::Forms::session))]
-fn read_session(alloc: Global, input: &mut Input) -> Result<Session, WireFault>
-    ensures { Reads (λ x. x) result input.new (session.read input.old) }
-{
-    Ok(Session {
-        principal: read_principal(alloc, input)?,
-        live: input.choice(&FLAGS)?,
-    })
-}
-
-#[tactic(auto, unfolding(crate::specs::Forms::lock_key))]
-fn read_lock_key(input: &mut Input) -> Result<LockKey, WireFault>
-    ensures { Reads (λ x. x) result input.new (lock_key.read input.old) }
-{
-    Ok(LockKey {
-        instance: input.word()?,
-        client: input.word()?,
-        handle: input.word()?,
-    })
-}
-
-#[tactic(auto, unfolding(crate::specs::Forms::lock_state))]
-fn read_lock_state(input: &mut Input) -> Result<LockState, WireFault>
-    ensures { Reads (λ x. x) result input.new (lock_state.read input.old) }
-{
-    input.choice(&LOCK_STATES)
-}
-
-#[tactic(auto, unfolding(crate::specs::Forms::lock_row))]
-fn read_lock_row(input: &mut Input) -> Result<LockRow, WireFault>
-    ensures { Reads (λ x. x) result input.new (lock_row.read input.old) }
-{
-    Ok(LockRow {
-        state: read_lock_state(input)?,
-        delay: input.word()?,
     })
 }
 
