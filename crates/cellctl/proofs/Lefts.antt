@@ -1,5 +1,5 @@
 -- What is left of a store that wasn't closed.
-use Rattle.std.proofs.Common.{◌≡◌, ℕ, Option, None, Some, Result, Ok, Err}
+use Rattle.std.proofs.Common.{◌≡◌, ◌⊎◌, inl, inr, ℕ, Option, None, Some, Result, Ok, Err}
 use Rattle.std.specs.Prelude.{IfOk, IfSome, IfErr}
 use Rattle.sqlite_disk.specs.declared.Disk as disk
 use Rattle.sqlite_disk.specs.declared.Files.{Files}
@@ -19,7 +19,8 @@ use Rattle.settings_core.specs.Settings.{Settled}
 use Rattle.rows_cell.specs.Stores.{Store}
 use Rattle.rows_sql.specs.Keeping.{IsLeft}
 use Rattle.cellctl.specs.Closed.{DoneOver, DoneAt}
-use Rattle.cellctl.specs.Led.{Known}
+use Rattle.cellctl.specs.Exits.{IsShut}
+use Rattle.cellctl.specs.Led.{Known, LedOn, EndsLed}
 use Rattle.cellctl.specs.Left.{CantOpen, IsLeftOpen, LeavesOver, LeavesAt}
 use Rattle.cellctl.specs.declared.runs.Unclosed.{Unclosed}
 use Rattle.cellctl.specs.declared.runs.Unclosed.TheVariants as unclosed
@@ -54,3 +55,14 @@ module _ {D : Type 0} {g : disk.Ghosts D} where
       → (HasCleanDisk (file_state conn) → FindsIn held (file_state conn)) → IfOk r (λ x. AreClean g x.1.log x.1.db → DoneOver g settings (file_state conn) (Leads x.0) x.1)
       → IfOk r (λ x. AreClean g x.1.log x.1.db → DoneAt g settings held (Leads x.0) x.1)
   closed_from settings held conn Leads r = closed_at g settings (file_state conn) held Leads r
+
+  -- of what is left of a store, what was to be done over it was done; or it wasn't, and nothing was written
+  led_left : (settings : Settled) (held : Image) (Leads : ℕ → Store → Store → Type 0) (before after : Known) (u : Unclosed D g) → LeavesAt settings held Leads before after u
+      → ((done : ℕ) × LedOn (Leads done)) ⊎ (after ≡ before)
+  led_left settings held Leads before after (unclosed.Unopened error left) p = inr p.1
+  led_left settings held Leads before after (unclosed.Refused fault store) p = inr p.2.1
+  led_left settings held Leads before after (unclosed.Open status error store) p = inl (status, (p.2.first, p.2.last, p.2.led))
+
+  pub ends_left : (settings : Settled) (held : Image) (Leads : ℕ → Store → Store → Type 0) (before after : Known) (u : Unclosed D g) (status : ℕ) → IsShut status → LeavesAt settings held Leads before after u
+      → EndsLed Leads status before after
+  ends_left settings held Leads before after u status shut p = inr (shut, led_left settings held Leads before after u p)

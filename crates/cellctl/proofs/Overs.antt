@@ -1,5 +1,5 @@
 -- What was done over a store, from what its calls say.
-use Rattle.std.proofs.Common.{◌≡◌, ◌≤◌, ℕ, List, [], ◌∷◌, Option, Result, Ok, Err, refl, sym, ap, subst, ◌∙◌, arith}
+use Rattle.std.proofs.Common.{◌≡◌, ◌≤◌, inl, ℕ, List, [], ◌∷◌, Option, Result, Ok, Err, refl, sym, ap, subst, ◌∙◌, arith}
 use Rattle.std.specs.Prelude.{IfOk}
 use Rattle.sqlite_disk.specs.declared.Disk.{Ghosts}
 use Rattle.sqlite_disk.specs.declared.Files.{Files}
@@ -12,7 +12,9 @@ use Rattle.settings_core.specs.Settings.{Settled}
 use Rattle.rows_cell.specs.Stores.{Store}
 use Rattle.world_core.specs.World.{WorldView, IsUndoubted, opened, store_in}
 use Rattle.script_cell.specs.Ran.{EndsWith, EndsWell, EndsSurely}
-use Rattle.serve_cell.specs.Seats.{Hosted, without_master}
+use Rattle.serve_cell.specs.declared.seats.Seat.{Seat}
+use Rattle.serve_cell.specs.declared.seats.Seat.TheVariants.{Down}
+use Rattle.serve_cell.specs.Seats.{Hosted, hosted, without_master}
 use Rattle.serve_cell.specs.declared.stops.Stop.TheVariants.{NoMemory}
 use Rattle.serve_cell.specs.declared.stops.GroupStop.{GroupStop}
 use Rattle.serve_cell.specs.declared.stops.GroupStop.TheVariants.{Stopped}
@@ -21,7 +23,7 @@ use Rattle.serve_cell.proofs.Doubts.{ends_groups_grow}
 use Rattle.serve_cell.proofs.Grouped.{ends_roomless as roomless}
 use Rattle.rows_sql.specs.Adopting.{Adopts}
 use Rattle.rows_sql.specs.Closed.{StandsAlone}
-use Rattle.cellctl.specs.Led.{Known, ScriptLeads, ScriptLeadsSurely, served_status, EndsServing, FramesLead}
+use Rattle.cellctl.specs.Led.{Known, ScriptLeads, ScriptLeadsSurely, served_status, EndsServing, FramesLead, EndsFrames, EndsAnyFrames}
 use Rattle.cellctl.specs.Closed.{taken, DoneOver, DoneAt}
 
 -- ---- a store that was taken over
@@ -114,3 +116,14 @@ module _ (lease : ℕ) (text before after : Known) (status : ℕ) (first last : 
       let from : old.store.doubt ≡ first.doubt = ap (λ (h : Hosted). h.store.doubt) opens in
       let to : last.doubt ≡ new.store.doubt = ap (λ (s : Store). s.doubt) closes in
       (omega (arith, grown, from, to, sure), frames_led)
+
+-- over rows that nobody closes
+pub frames_ended : {R : Type 0} (store : R → Store) (lease : ℕ) (text before after : Known) (status : ℕ) (records : R) (seat : Seat R) → EndsServing lease text before after status (hosted store (Down records)) (hosted store seat)
+    → EndsFrames lease text status before after
+frames_ended store lease text before after status records seat served =
+    let new = hosted store seat in
+    inl (store records, new.store, frames_led lease text before after status (store records) new.store (hosted store (Down records)) new refl refl served)
+
+pub any_frames : {E : Type 0} (lease : ℕ) (text before after : Known) (r : Result ℕ E) → IfOk r (λ status. EndsFrames lease text status before after) → IfOk r (λ status. EndsAnyFrames text status before after)
+any_frames lease text before after (Ok status) p = inl (lease, p)
+any_frames lease text before after (Err e) p = tt

@@ -1,5 +1,5 @@
 -- What leads from one store to another.
-use Rattle.std.specs.Prelude.{◌≡◌, ℕ, List, Option, Result, Ok, Err}
+use Rattle.std.specs.Prelude.{◌≡◌, ◌⊎◌, ℕ, List, Option, Result, Ok, Err}
 use Rattle.rows_cell.specs.Stores.{Store}
 use Rattle.world_core.specs.World.{WorldView, opened, store_in}
 use Rattle.script_cell.specs.Ran.{EndsWith, EndsWell, EndsSurely}
@@ -8,6 +8,7 @@ use Rattle.serve_cell.specs.declared.stops.GroupStop.{GroupStop}
 use Rattle.serve_cell.specs.declared.stops.GroupStop.TheVariants.{Stopped, Refused}
 use Rattle.serve_cell.specs.Seats.{Hosted, without_master}
 use Rattle.serve_cell.specs.Groups.{EndsGroups}
+use Rattle.cellctl.specs.Exits.{IsUnset, IsShut}
 
 -- bytes that are left in a stream, or that one holds, where they are known
 abbrev pub Known : Type 0
@@ -45,3 +46,25 @@ EndsServing lease text before after status old new =
 -- the same over a store with no master, and what they left of it
 abbrev pub FramesLead : ℕ → Known → Known → Known → ℕ → Store → Store → Type 0
 FramesLead lease text before after status first last = (new : Hosted) × EndsServing lease text before after status (without_master first) new × (last ≡ new.store)
+
+-- ---- what a command comes to that is given all of an input, and an output
+
+-- from some store it led to some other
+abbrev pub LedOn : (Store → Store → Type 0) → Type 0
+LedOn Leads = (first : Store) × (last : Store) × Leads first last
+
+-- with this status it ended as what was to be done did; or its store couldn't be closed behind that, or it was shut and nothing was
+-- done, nor written
+abbrev pub EndsLed : (ℕ → Store → Store → Type 0) → ℕ → Known → Known → Type 0
+EndsLed Leads status before after = LedOn (Leads status) ⊎ (IsShut status × (((done : ℕ) × LedOn (Leads done)) ⊎ (after ≡ before)))
+
+-- a script was run so, and frames were served so
+abbrev pub EndsScript : ℕ → Known → ℕ → Known → Known → Type 0
+EndsScript lease text status before after = EndsLed (ScriptLeads lease text before after) status before after
+
+abbrev pub EndsFrames : ℕ → Known → ℕ → Known → Known → Type 0
+EndsFrames lease text status before after = EndsLed (FramesLead lease text before after) status before after
+
+-- with the settings of a file they were; or these are none, and nothing was written
+abbrev pub EndsAnyFrames : Known → ℕ → Known → Known → Type 0
+EndsAnyFrames text status before after = ((lease : ℕ) × EndsFrames lease text status before after) ⊎ (IsUnset status × (after ≡ before))

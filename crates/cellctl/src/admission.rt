@@ -1,7 +1,7 @@
 //! What is seen to before a store is taken over: a file that isn't there is made for its owner alone, and of one that is there it
 //! is seen whose it is.
 ghost use Rattle.std.specs.Prelude.{IfErr};
-ghost use Rattle.cellctl.specs.Exits.{IsExit};
+ghost use Rattle.cellctl.specs.Exits.{IsExit, IsShut};
 
 use crate::findings::tell_other_cell;
 use crate::looks::{Seen, content_of, seen_in};
@@ -51,7 +51,8 @@ fn warn_of_secret(rt: &HostRuntime, path: &str, is_known: bool) {
 /// standard error, and the answer is the exit status. Of a secret that everybody knows, and of principals that aren't those of the
 /// settings, it warns.
 pub(crate) fn admit(rt: &HostRuntime, chosen: &Chosen, path: &str, log: &str) -> Result<(), u8>
-    ensures { IfErr result IsExit }
+    ensures exit { IfErr result IsExit }
+    ensures shut { IfErr result IsShut }
 {
     admit_as(rt, chosen, path, log, true)
 }
@@ -63,13 +64,15 @@ pub(crate) fn admit_served(
     path: &str,
     log: &str,
 ) -> Result<(), u8>
-    ensures { IfErr result IsExit }
+    ensures exit { IfErr result IsExit }
+    ensures shut { IfErr result IsShut }
 {
     admit_as(rt, chosen, path, log, false)
 }
 
 fn admit_as(rt: &HostRuntime, chosen: &Chosen, path: &str, log: &str, warns: bool) -> Result<(), u8>
-    ensures { IfErr result IsExit }
+    ensures exit { IfErr result IsExit }
+    ensures shut { IfErr result IsShut }
 {
     match Connection::open_from(rt, path, false, Unknown) {
         Ok(mut conn) => {
@@ -95,7 +98,8 @@ fn admit_open<S: Alter>(
     conn: &mut Connection<S>,
     warns: bool,
 ) -> Result<(), u8>
-    ensures { IfErr result IsExit }
+    ensures exit { IfErr result IsExit }
+    ensures shut { IfErr result IsShut }
 {
     if warns {
         admit_warned(rt, chosen, path, conn)
@@ -110,7 +114,8 @@ fn admit_warned<S: Alter>(
     path: &str,
     conn: &mut Connection<S>,
 ) -> Result<(), u8>
-    ensures { IfErr result IsExit }
+    ensures exit { IfErr result IsExit }
+    ensures shut { IfErr result IsShut }
 {
     match seen_in(rt.alloc(), conn) {
         Some(seen) => {
@@ -132,7 +137,8 @@ fn admit_quietly<S: Alter>(
     path: &str,
     conn: &mut Connection<S>,
 ) -> Result<(), u8>
-    ensures { IfErr result IsExit }
+    ensures exit { IfErr result IsExit }
+    ensures shut { IfErr result IsShut }
 {
     match seen_in(rt.alloc(), conn) {
         Some(seen) => admit_seen(rt, chosen, path, &seen),
@@ -141,7 +147,8 @@ fn admit_quietly<S: Alter>(
 }
 
 fn admit_seen(rt: &HostRuntime, chosen: &Chosen, path: &str, seen: &Seen) -> Result<(), u8>
-    ensures { IfErr result IsExit }
+    ensures exit { IfErr result IsExit }
+    ensures shut { IfErr result IsShut }
 {
     let cell = chosen.settings.cell();
     let theirs = seen.cell.as_str();

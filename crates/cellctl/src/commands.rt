@@ -1,6 +1,7 @@
 //! The command line.
-ghost use Rattle.std.specs.Prelude.{IfErr, IfOk};
-ghost use Rattle.cellctl.specs.Exits.{IsExit};
+ghost use Rattle.std.specs.Prelude.{◌≡◌, IfErr, IfOk, OnErr};
+ghost use Rattle.cellctl.specs.Exits.{IsExit, IsUnset};
+ghost use Rattle.cellctl.specs.Led.{EndsAnyFrames};
 
 use crate::check::check_store;
 use crate::exits::{tell_unwritten, unread_status};
@@ -10,7 +11,7 @@ use crate::pipes::serve_rows;
 use crate::serves::serve_path;
 use crate::settings::settings;
 use crate::sources::Source;
-use crate::stores::{Asked, run_over};
+use crate::stores::{Asked, run_printing};
 use crate::texts::Trouble;
 use crate::troubles::{Subject, tell, trouble_of};
 use crate::words::program;
@@ -19,6 +20,7 @@ use clap::ArgMatches;
 use clap::error::{Error, ErrorKind};
 use std::env::{self, Args};
 use std::fs::{self, File};
+use std::io::{Read, Write};
 use std::sync::Wait;
 use std::thread::Threads;
 
@@ -73,7 +75,7 @@ fn do_command<W: Threads + Wait + Sync>(
         return check(rt, found.get_str("settings"), path);
     }
     if let Some(found) = matches.subcommand_matches("serve") {
-        return serve(rt, found);
+        return serve(rt, found, rt.reader(), &mut rt.stdout());
     }
     if let Some(found) = matches.subcommand_matches("live") {
         return Ok(run_live(rt, threads, found));
@@ -88,13 +90,23 @@ fn do_command<W: Threads + Wait + Sync>(
 }
 
 // Over the rows of another program where a folder is named, else over the store in a file.
-fn serve(rt: &HostRuntime, found: &ArgMatches<'_>) -> Result<u8>
-    ensures { IfOk result IsExit }
+fn serve<I: Read + Drop, W: Write>(
+    rt: &HostRuntime,
+    found: &ArgMatches<'_>,
+    reader: I,
+    writer: &mut W,
+) -> Result<u8>
+    ensures exit { IfOk result IsExit }
+    ensures served { IfOk result (λ status. EndsAnyFrames (I.remaining reader) status (W.contents writer.old) (W.contents writer.new)) }
+    ensures none { OnErr result (W.contents writer.new ≡ W.contents writer.old) }
 {
     let named = found.get_str("settings");
     match found.get_str("rows") {
-        Some(folder) => serve_rows(rt, named, folder),
-        None => serve_path(rt, named, found.get_str("store").unwrap_or_default()),
+        Some(folder) => serve_rows(rt, named, folder, reader, writer),
+        None => {
+            let path = found.get_str("store").unwrap_or_default();
+            serve_path(rt, named, path, reader, writer)
+        }
     }
 }
 
@@ -125,7 +137,7 @@ fn run_script(rt: &HostRuntime, words: &ArgMatches<'_>) -> Result<u8>
                     source,
                     is_traced: words.get_flag("trace"),
                 };
-                run_over(rt, &chosen, words.get_str("store"), asked)
+                run_printing(rt, &chosen, words.get_str("store"), asked)
             }
             Err(status) => Ok(status),
         },
@@ -135,7 +147,8 @@ fn run_script(rt: &HostRuntime, words: &ArgMatches<'_>) -> Result<u8>
 
 // Where the steps come from: a file, or the standard input, for which `-` stands too.
 fn source_of(rt: &HostRuntime, path: Option<&str>) -> Result<Source, u8>
-    ensures { IfErr result IsExit }
+    ensures exit { IfErr result IsExit }
+    ensures unset { IfErr result IsUnset }
 {
     match path {
         Some("-") => input_of(rt),
@@ -145,7 +158,8 @@ fn source_of(rt: &HostRuntime, path: Option<&str>) -> Result<Source, u8>
 }
 
 fn input_of(rt: &HostRuntime) -> Result<Source, u8>
-    ensures { IfErr result IsExit }
+    ensures exit { IfErr result IsExit }
+    ensures unset { IfErr result IsUnset }
 {
     match Source::input(rt.alloc(), rt.stdin(), rt.stderr()) {
         Ok(source) => Ok(source),
@@ -154,7 +168,8 @@ fn input_of(rt: &HostRuntime) -> Result<Source, u8>
 }
 
 fn file_of(rt: &HostRuntime, path: &str) -> Result<Source, u8>
-    ensures { IfErr result IsExit }
+    ensures exit { IfErr result IsExit }
+    ensures unset { IfErr result IsUnset }
 {
     if is_folder(rt, path) {
         return Err(tell(rt, Subject::Script, path, Trouble::IsFolder));

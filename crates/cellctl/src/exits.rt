@@ -1,12 +1,13 @@
 //! How the program ends where something can't be read or written.
-ghost use Rattle.cellctl.specs.Exits.{IsExit, IsUnwritten};
+ghost use Rattle.cellctl.specs.Exits.{IsExit, IsUnwritten, IsUnset};
 
 use crate::troubles::{Subject, output_trouble, tell};
 use std::io;
 
 /// Why the command line or the settings can't be read: there is no memory for it, or it is theirs.
 pub(crate) fn unread_status(kind: io::ErrorKind) -> u8
-    ensures { IsExit result }
+    ensures exit { IsExit result }
+    ensures unset { IsUnset result }
 {
     match kind {
         io::ErrorKind::OutOfMemory => 4,

@@ -1,5 +1,5 @@
 //! Why a store is refused, found once it is: the file is read as bytes, and nothing is written.
-ghost use Rattle.cellctl.specs.Exits.{IsExit};
+ghost use Rattle.cellctl.specs.Exits.{IsExit, IsShut};
 
 use crate::check::has_journal;
 use crate::looks::{Foreign, Seen, foreign_in, open_bytes, seen_in};
@@ -31,7 +31,8 @@ impl From<AllocError> for Finding {
 
 /// Tells why the store at a path is refused, and answers the exit status.
 pub(crate) fn tell_finding(rt: &HostRuntime, cell: &Component, path: &str, finding: &Finding) -> u8
-    ensures { IsExit result }
+    ensures exit { IsExit result }
+    ensures shut { IsShut result }
 {
     match finding {
         Finding::Plain(trouble) => tell(rt, Subject::Store, path, *trouble),
@@ -42,7 +43,8 @@ pub(crate) fn tell_finding(rt: &HostRuntime, cell: &Component, path: &str, findi
 
 /// Tells of the store of another cell, by both names.
 pub(crate) fn tell_other_cell(rt: &HostRuntime, cell: &Component, path: &str, theirs: &str) -> u8
-    ensures { IsExit result }
+    ensures exit { IsExit result }
+    ensures shut { IsShut result }
 {
     let (words, cure) = OTHER_CELL;
     let ours = cell.as_str();
@@ -52,7 +54,8 @@ pub(crate) fn tell_other_cell(rt: &HostRuntime, cell: &Component, path: &str, th
 }
 
 fn tell_foreign(rt: &HostRuntime, path: &str, foreign: &Foreign) -> u8
-    ensures { IsExit result }
+    ensures exit { IsExit result }
+    ensures shut { IsShut result }
 {
     match foreign {
         Foreign::Empty => tell(rt, Subject::Store, path, Trouble::NoTable),

@@ -1,6 +1,8 @@
 //! The script as it is read: a line at a time, and the one that was begun last.
-ghost use Rattle.std.specs.Prelude.{◌≤◌, length};
+ghost use Rattle.std.specs.Prelude.{◌≡◌, ◌≤◌, [], length, IfOk};
 ghost use Rattle.std.specs.Io.{ReadsAtMost};
+ghost use Rattle.std.specs.Io.Buffered.{reader_remaining};
+ghost use Rattle.std.specs.Io.KnownBytes.{ReadConsumes};
 
 use std::alloc::Global;
 use std::cell::Cell;
@@ -24,12 +26,14 @@ pub(crate) struct LineReader<'a, R: Read + Drop> {
 }
 
 impl<'a, R: Read + Drop> LineReader<'a, R> {
-    /// The number of the line that was begun last is noted there, from 1.
+    /// Nothing is read yet. The number of the line that was begun last is noted there, from 1.
     pub(crate) fn new(
         alloc: Global,
         reader: R,
         number: &'a Cell<u64>,
-    ) -> io::Result<LineReader<'a, R>> {
+    ) -> io::Result<LineReader<'a, R>>
+        ensures { IfOk result (λ lines. reader_remaining R.remaining lines.reader ≡ R.remaining reader) }
+    {
         Ok(LineReader {
             reader: BufReader::with_capacity(alloc, READ_SIZE, reader)?,
             line: Vec::new(alloc),
@@ -53,7 +57,9 @@ impl<'a, R: Read + Drop> LineReader<'a, R> {
     }
 
     // Where a line is at its end, the next one begins.
-    fn begin(&mut self) {
+    fn begin(&mut self)
+        ensures { self.new.reader ≡ self.old.reader }
+    {
         if self.is_ended {
             self.line.clear();
             self.is_ended = false;
@@ -62,7 +68,9 @@ impl<'a, R: Read + Drop> LineReader<'a, R> {
     }
 
     // Keeps what was given of the line.
-    fn keep(&mut self, bytes: &[u8]) {
+    fn keep(&mut self, bytes: &[u8])
+        ensures { self.new.reader ≡ self.old.reader }
+    {
         if let [.., last] = bytes {
             self.is_ended = *last == b'\n';
         }
@@ -72,19 +80,20 @@ impl<'a, R: Read + Drop> LineReader<'a, R> {
         let _ = self.line.extend_from_slice(&bytes[..count]);
     }
 
-    // Gives bytes of one line.
+    // Gives bytes of one line: of those that were asked for before, and else the first one that comes.
     fn give(&mut self, buf: &mut [u8]) -> io::Result<usize>
-        ensures { ReadsAtMost result buf.new }
+        ensures bound { ReadsAtMost result buf.new }
+        ensures bytes { ReadConsumes (reader_remaining R.remaining self.old.reader) (reader_remaining R.remaining self.new.reader) result buf.new }
     {
-        let bytes = self.reader.fill_buf()?;
-        let mut piece = &bytes[..piece_length(bytes)];
-        let count = piece.read(buf)?;
-        self.reader.consume(count);
-        Ok(count)
+        let count = piece_length(self.reader.buffer()).max(1);
+        let room = count.min(buf.len());
+        self.reader.read(&mut buf[..room])
     }
 }
 
 impl<R: Read + Drop> Read for LineReader<'_, R> {
+    ghost remaining = { λ lines. reader_remaining R.remaining lines.reader };
+
     fn read(&mut self, buf: &mut [u8]) -> io::Result<usize> {
         self.begin();
         match self.give(buf) {

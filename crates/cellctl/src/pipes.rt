@@ -1,6 +1,7 @@
 //! A master whose rows another program keeps.
-ghost use Rattle.std.specs.Prelude.{IfOk};
+ghost use Rattle.std.specs.Prelude.{◌≡◌, IfOk, OnErr};
 ghost use Rattle.cellctl.specs.Exits.{IsExit};
+ghost use Rattle.cellctl.specs.Led.{EndsFrames, EndsAnyFrames};
 
 use crate::serves::{Frames, serve_seat};
 use crate::settings::settings;
@@ -12,58 +13,88 @@ use rows_cell::StoreFault;
 use serve_cell::Seat;
 use settings_core::Settings;
 use std::fs::File;
+use std::io::{Read, Write};
 
-/// Answers the frames of standard input over the rows that another program keeps, with the settings of a file or the standard
+/// Answers the frames of an input over the rows that another program keeps, with the settings of a file or the standard
 /// ones. It asks for them in the named pipe `asked` of a folder, and reads the answers from `answered`. Where one can't be opened,
 /// or no rows come, the words of it go to the standard error, and the status is 3.
-pub(crate) fn serve_rows(rt: &HostRuntime, named: Option<&str>, folder: &str) -> Result<u8>
-    ensures { IfOk result IsExit }
+pub(crate) fn serve_rows<I: Read + Drop, W: Write>(
+    rt: &HostRuntime,
+    named: Option<&str>,
+    folder: &str,
+    reader: I,
+    writer: &mut W,
+) -> Result<u8>
+    ensures exit { IfOk result IsExit }
+    ensures served { IfOk result (λ status. EndsAnyFrames (I.remaining reader) status (W.contents writer.old) (W.contents writer.new)) }
+    ensures none { OnErr result (W.contents writer.new ≡ W.contents writer.old) }
 {
     match settings(rt, named) {
-        Ok(chosen) => serve_folder(rt, &chosen.settings, folder),
+        Ok(chosen) => serve_folder(rt, &chosen.settings, folder, reader, writer),
         Err(status) => Ok(status),
     }
 }
 
 // An open waits until the other end is opened: the one of the questions first.
-fn serve_folder(rt: &HostRuntime, settings: &Settings, folder: &str) -> Result<u8>
-    ensures { IfOk result IsExit }
+fn serve_folder<I: Read + Drop, W: Write>(
+    rt: &HostRuntime,
+    settings: &Settings,
+    folder: &str,
+    reader: I,
+    writer: &mut W,
+) -> Result<u8>
+    ensures exit { IfOk result IsExit }
+    ensures served { IfOk result (λ status. EndsFrames settings.now.lease (I.remaining reader) status (W.contents writer.old) (W.contents writer.new)) }
+    ensures none { OnErr result (W.contents writer.new ≡ W.contents writer.old) }
 {
     let path = format!(in rt.alloc(); "{folder}/asked").context("naming the pipe")?;
     match File::create(rt, path.as_str()) {
-        Ok(asked) => serve_asked(rt, settings, folder, asked),
+        Ok(asked) => serve_asked(rt, settings, folder, asked, reader, writer),
         Err(error) => Ok(tell(rt, Subject::Pipe, path.as_str(), trouble_of(error.kind()))),
     }
 }
 
-fn serve_asked(rt: &HostRuntime, settings: &Settings, folder: &str, asked: File) -> Result<u8>
-    ensures { IfOk result IsExit }
-{
-    let path = format!(in rt.alloc(); "{folder}/answered").context("naming the pipe")?;
-    match File::open(rt, path.as_str()) {
-        Ok(answered) => serve_pipes(rt, settings, folder, asked, answered),
-        Err(error) => Ok(tell(rt, Subject::Pipe, path.as_str(), trouble_of(error.kind()))),
-    }
-}
-
-fn serve_pipes(
+fn serve_asked<I: Read + Drop, W: Write>(
     rt: &HostRuntime,
     settings: &Settings,
     folder: &str,
     asked: File,
-    answered: File,
+    reader: I,
+    writer: &mut W,
 ) -> Result<u8>
-    ensures { IfOk result IsExit }
+    ensures exit { IfOk result IsExit }
+    ensures served { IfOk result (λ status. EndsFrames settings.now.lease (I.remaining reader) status (W.contents writer.old) (W.contents writer.new)) }
+    ensures none { OnErr result (W.contents writer.new ≡ W.contents writer.old) }
 {
+    let path = format!(in rt.alloc(); "{folder}/answered").context("naming the pipe")?;
+    match File::open(rt, path.as_str()) {
+        Ok(answered) => serve_pipes(rt, settings, folder, (asked, answered), reader, writer),
+        Err(error) => Ok(tell(rt, Subject::Pipe, path.as_str(), trouble_of(error.kind()))),
+    }
+}
+
+fn serve_pipes<I: Read + Drop, W: Write>(
+    rt: &HostRuntime,
+    settings: &Settings,
+    folder: &str,
+    pipes: (File, File),
+    reader: I,
+    writer: &mut W,
+) -> Result<u8>
+    ensures exit { IfOk result IsExit }
+    ensures served { IfOk result (λ status. EndsFrames settings.now.lease (I.remaining reader) status (W.contents writer.old) (W.contents writer.new)) }
+    ensures none { OnErr result (W.contents writer.new ≡ W.contents writer.old) }
+{
+    let (asked, answered) = pipes;
     let cell = settings.cell().clone().context("naming the cell")?;
     match FrameRecords::open(rt.alloc(), cell, asked, answered) {
         Ok(records) => {
             let frames = Frames {
-                reader: rt.reader(),
+                reader,
                 errors: rt.stderr(),
             };
             let seat = Seat::Down(records);
-            let (seat, status) = serve_seat(rt.alloc(), settings, seat, frames, &mut rt.stdout());
+            let (seat, status) = serve_seat(rt.alloc(), settings, seat, frames, writer);
             drop(seat.close());
             Ok(status)
         }

@@ -1,12 +1,12 @@
 //! A master that another program starts.
-ghost use Rattle.std.specs.Prelude.{◌≡◌, IfOk, IfErr};
+ghost use Rattle.std.specs.Prelude.{◌≡◌, IfOk, IfErr, OnErr};
 ghost use Rattle.sqlite_wal.specs.Reads.{AreClean};
 ghost use Rattle.sqlite_wal.specs.Files.{image_at};
 ghost use Rattle.sqlite.specs.Files.{file_state};
 ghost use Rattle.serve_cell.specs.Seats.{hosted};
 ghost use Rattle.cellctl.specs.Closed.{ServedOver, ServedAt};
 ghost use Rattle.cellctl.specs.Exits.{IsExit};
-ghost use Rattle.cellctl.specs.Led.{served_status, EndsServing, FramesLead};
+ghost use Rattle.cellctl.specs.Led.{served_status, EndsServing, FramesLead, LedOn, EndsFrames, EndsAnyFrames};
 ghost use Rattle.cellctl.specs.Left.{LeavesOver, LeavesAt};
 
 use crate::admission::{admit_served, make_file};
@@ -35,28 +35,45 @@ pub(crate) struct Frames<I, E> {
     pub(crate) errors: E,
 }
 
-/// Answers the frames of standard input over the store in the file at a path, which is made where there is none, with the
-/// settings of a file or the standard ones. At the end the store is closed: its rows stand in the one file. Where it can't be
+/// Answers the frames of an input over the store in the file at a path, which is made where there is none, with the settings
+/// of a file or the standard ones. At the end the store is closed: its rows stand in the one file. Where it can't be
 /// opened, taken over or closed, the words of it go to the standard error, and the status is 3.
-pub(crate) fn serve_path(rt: &HostRuntime, named: Option<&str>, path: &str) -> Result<u8>
-    ensures { IfOk result IsExit }
+pub(crate) fn serve_path<I: Read + Drop, W: Write>(
+    rt: &HostRuntime,
+    named: Option<&str>,
+    path: &str,
+    reader: I,
+    writer: &mut W,
+) -> Result<u8>
+    ensures exit { IfOk result IsExit }
+    // All of its frames were served, and the status is what follows of them; or there were no settings, and nothing was written.
+    ensures served { IfOk result (λ status. EndsAnyFrames (I.remaining reader) status (W.contents writer.old) (W.contents writer.new)) }
+    ensures none { OnErr result (W.contents writer.new ≡ W.contents writer.old) }
 {
     match settings(rt, named) {
-        Ok(chosen) => serve_at(rt, &chosen, path),
+        Ok(chosen) => serve_at(rt, &chosen, path, reader, writer),
         Err(status) => Ok(status),
     }
 }
 
 // The files lie where a link leads.
-fn serve_at(rt: &HostRuntime, chosen: &Chosen, path: &str) -> Result<u8>
-    ensures { IfOk result IsExit }
+fn serve_at<I: Read + Drop, W: Write>(
+    rt: &HostRuntime,
+    chosen: &Chosen,
+    path: &str,
+    reader: I,
+    writer: &mut W,
+) -> Result<u8>
+    ensures exit { IfOk result IsExit }
+    ensures served { IfOk result (λ status. EndsFrames chosen.now.settings.lease (I.remaining reader) status (W.contents writer.old) (W.contents writer.new)) }
+    ensures none { OnErr result (W.contents writer.new ≡ W.contents writer.old) }
 {
     match fs::canonicalize(rt, path) {
-        Ok(real) => serve_there(rt, chosen, real.as_str()),
+        Ok(real) => serve_there(rt, chosen, real.as_str(), reader, writer),
         Err(error) => match error.kind() {
             io::ErrorKind::NotFound => {
                 let _ = make_file(rt, path);
-                serve_real(rt, chosen, path)
+                serve_real(rt, chosen, path, reader, writer)
             }
             kind => Ok(tell_unfound(rt, path, kind)),
         },
@@ -64,33 +81,42 @@ fn serve_at(rt: &HostRuntime, chosen: &Chosen, path: &str) -> Result<u8>
 }
 
 // Looks whose the store is, before it is taken over.
-fn serve_there(rt: &HostRuntime, chosen: &Chosen, path: &str) -> Result<u8>
-    ensures { IfOk result IsExit }
+fn serve_there<I: Read + Drop, W: Write>(
+    rt: &HostRuntime,
+    chosen: &Chosen,
+    path: &str,
+    reader: I,
+    writer: &mut W,
+) -> Result<u8>
+    ensures exit { IfOk result IsExit }
+    ensures served { IfOk result (λ status. EndsFrames chosen.now.settings.lease (I.remaining reader) status (W.contents writer.old) (W.contents writer.new)) }
+    ensures none { OnErr result (W.contents writer.new ≡ W.contents writer.old) }
 {
     let log = format!(in rt.alloc(); "{path}-wal").context("naming the log")?;
     match admit_served(rt, chosen, path, log.as_str()) {
-        Ok(()) => serve_real(rt, chosen, path),
+        Ok(()) => serve_real(rt, chosen, path, reader, writer),
         Err(status) => Ok(status),
     }
 }
 
 // Behind the last frame the log is removed: the database file alone has the rows.
-fn serve_real(rt: &HostRuntime, chosen: &Chosen, path: &str) -> Result<u8>
-    ensures { IfOk result IsExit }
+fn serve_real<I: Read + Drop, W: Write>(
+    rt: &HostRuntime,
+    chosen: &Chosen,
+    path: &str,
+    reader: I,
+    writer: &mut W,
+) -> Result<u8>
+    ensures exit { IfOk result IsExit }
+    ensures served { IfOk result (λ status. EndsFrames chosen.now.settings.lease (I.remaining reader) status (W.contents writer.old) (W.contents writer.new)) }
+    ensures none { OnErr result (W.contents writer.new ≡ W.contents writer.old) }
 {
     let log = format!(in rt.alloc(); "{path}-wal").context("naming the log")?;
     let frames = Frames {
-        reader: rt.reader(),
+        reader,
         errors: rt.stderr(),
     };
-    match serve_file(
-        rt,
-        &chosen.settings,
-        path,
-        Unknown,
-        frames,
-        &mut rt.stdout(),
-    ) {
+    match serve_file(rt, &chosen.settings, path, Unknown, frames, writer) {
         Ok((status, files)) => {
             let _ = fs::remove_file(rt, log.as_str());
             drop(files);
@@ -111,6 +137,8 @@ fn serve_file<S: Start, I: Read + Drop, W: Write, E: Write + Drop>(
     writer: &mut W,
 ) -> Result<(u8, Files<FileFrom<S>>), Unclosed<FileFrom<S>>>
     ensures closed { IfOk result (λ r. AreClean ⟦<FileFrom<S> as Disk>⟧ r.1.log r.1.db → ServedAt ⟦<FileFrom<S> as Disk>⟧ settings.now (image_at S.Start) (I.remaining frames.reader) r.0 r.1 (W.contents writer.old) (W.contents writer.new)) }
+    // And whatever the disk did: they were served.
+    ensures served { IfOk result (λ r. LedOn (FramesLead settings.now.lease (I.remaining frames.reader) (W.contents writer.old) (W.contents writer.new) r.0)) }
     ensures left { IfErr result (LeavesAt settings.now (image_at S.Start) (FramesLead settings.now.lease (I.remaining frames.reader) (W.contents writer.old) (W.contents writer.new)) (W.contents writer.old) (W.contents writer.new)) }
     ensures status { IfOk result (λ r. IsExit r.0) }
 {
@@ -132,6 +160,8 @@ fn serve_store<D: Disk + Drop, I: Read + Drop, W: Write, E: Write + Drop>(
     // Where nobody else wrote the files, and the disk gave back what was written: the frames led from the rows that they had
     // to those that they have.
     ensures closed { IfOk result (λ r. AreClean D.Disk r.1.log r.1.db → ServedOver D.Disk settings.now (file_state conn) (I.remaining frames.reader) r.0 r.1 (W.contents writer.old) (W.contents writer.new)) }
+    // And whatever the disk did: they were served.
+    ensures served { IfOk result (λ r. LedOn (FramesLead settings.now.lease (I.remaining frames.reader) (W.contents writer.old) (W.contents writer.new) r.0)) }
     // Else it is said what a crash leaves.
     ensures left { IfErr result (LeavesOver settings.now conn (FramesLead settings.now.lease (I.remaining frames.reader) (W.contents writer.old) (W.contents writer.new)) (W.contents writer.old) (W.contents writer.new)) }
     ensures status { IfOk result (λ r. IsExit r.0) }

@@ -1,6 +1,6 @@
 //! The settings of a run.
 ghost use Rattle.std.specs.Prelude.{IfErr};
-ghost use Rattle.cellctl.specs.Exits.{IsExit};
+ghost use Rattle.cellctl.specs.Exits.{IsExit, IsUnset};
 
 use crate::texts::Trouble;
 use crate::troubles::{Subject, tell, trouble_of};
@@ -22,7 +22,8 @@ pub(crate) struct Chosen {
 /// The settings that a file says, or the standard ones where no file is named. Where there are none, the words of it go
 /// to the standard error, and the answer is the exit status.
 pub(crate) fn settings(rt: &HostRuntime, path: Option<&str>) -> Result<Chosen, u8>
-    ensures { IfErr result IsExit }
+    ensures exit { IfErr result IsExit }
+    ensures unset { IfErr result IsUnset }
 {
     match path {
         Some(path) => settings_at(rt, path),
@@ -31,7 +32,8 @@ pub(crate) fn settings(rt: &HostRuntime, path: Option<&str>) -> Result<Chosen, u
 }
 
 fn standard(rt: &HostRuntime) -> Result<Chosen, u8>
-    ensures { IfErr result IsExit }
+    ensures exit { IfErr result IsExit }
+    ensures unset { IfErr result IsUnset }
 {
     match Settings::standard(rt.alloc()) {
         Ok(settings) => Ok(Chosen {
@@ -46,7 +48,8 @@ fn standard(rt: &HostRuntime) -> Result<Chosen, u8>
 }
 
 fn settings_at(rt: &HostRuntime, path: &str) -> Result<Chosen, u8>
-    ensures { IfErr result IsExit }
+    ensures exit { IfErr result IsExit }
+    ensures unset { IfErr result IsUnset }
 {
     match fs::read_to_string(rt, path) {
         Ok(text) => said(rt, path, text.as_str()),
@@ -55,7 +58,8 @@ fn settings_at(rt: &HostRuntime, path: &str) -> Result<Chosen, u8>
 }
 
 fn said(rt: &HostRuntime, path: &str, text: &str) -> Result<Chosen, u8>
-    ensures { IfErr result IsExit }
+    ensures exit { IfErr result IsExit }
+    ensures unset { IfErr result IsUnset }
 {
     match read_settings(rt.alloc(), text) {
         Ok(settings) => Ok(Chosen {
@@ -67,7 +71,8 @@ fn said(rt: &HostRuntime, path: &str, text: &str) -> Result<Chosen, u8>
 }
 
 fn tell_fault(rt: &HostRuntime, path: &str, fault: &TextFault) -> u8
-    ensures { IsExit result }
+    ensures exit { IsExit result }
+    ensures unset { IsUnset result }
 {
     if matches!(fault, TextFault::NoMemory) {
         return tell(rt, Subject::Settings, path, Trouble::NoMemory);

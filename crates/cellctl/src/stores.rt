@@ -1,6 +1,8 @@
 //! The store that a script runs over.
-ghost use Rattle.std.specs.Prelude.{IfOk};
-ghost use Rattle.cellctl.specs.Exits.{IsExit};
+ghost use Rattle.std.specs.Prelude.{◌≡◌, None, IfOk, OnErr};
+ghost use Rattle.cellctl.specs.Anew.{EndsAnew, EndsRun};
+ghost use Rattle.cellctl.specs.Exits.{IsExit, IsShut};
+ghost use Rattle.cellctl.specs.Led.{EndsScript};
 
 use crate::admission::{admit, make_warned};
 use crate::bad_lines::tell_bad;
@@ -10,7 +12,6 @@ use crate::lines::LineReader;
 use crate::refusals::Output;
 use crate::runs::{Script, Unclosed, run_new, run_path};
 use crate::settings::Chosen;
-use crate::sources::Source;
 use crate::texts::Trouble;
 use crate::troubles::{Subject, tell, trouble_of};
 use anyhow::{Context, Result};
@@ -20,7 +21,7 @@ use sqlite_disk::Unknown;
 use sqlite_std_file::File;
 use std::cell::Cell;
 use std::fs;
-use std::io::{self, BufWriter, Stderr, Stdout};
+use std::io::{self, BufWriter, Read, Stderr, Write};
 
 /// How many bytes are written at once.
 const WRITE_SIZE: usize = 0x4_0000;
@@ -30,82 +31,95 @@ const FIRST_PAGE_AT: u64 = 56;
 
 /// The script that is asked for.
 #[derive(Drop)]
-pub(crate) struct Asked {
-    pub(crate) source: Source,
+pub(crate) struct Asked<I> {
+    pub(crate) source: I,
     /// Whether each message that is sent is told of.
     pub(crate) is_traced: bool,
 }
 
-// The lines of a script that were read, and what it wrote.
-type Lines<'a> = LineReader<'a, Source>;
-
-type Printed<'a> = Output<'a, BufWriter<Stdout>, Stderr>;
-
-/// Runs a script over the store in the file at a path, which is made where there is none, or over a new store in memory. Where it
-/// can't be opened, taken over or closed, or is that of another cell, the words of it go to the standard error, and the status is
-/// 3.
-pub(crate) fn run_over(
+/// Runs a script over the store in the file at a path, which is made where there is none, or over a new store in memory, and
+/// prints to the standard output. Where the store can't be opened, taken over or closed, or is that of another cell, the words of
+/// it go to the standard error, and the status is 3.
+pub(crate) fn run_printing<I: Read + Drop>(
     rt: &HostRuntime,
     chosen: &Chosen,
     path: Option<&str>,
-    asked: Asked,
+    asked: Asked<I>,
 ) -> Result<u8>
-    ensures { IfOk result IsExit }
-{
-    match path {
-        Some(path) => run_at(rt, chosen, path, asked),
-        None => run_in_memory(rt, chosen, asked),
-    }
-}
-
-fn run_in_memory(rt: &HostRuntime, chosen: &Chosen, asked: Asked) -> Result<u8>
-    ensures { IfOk result IsExit }
+    ensures exit { IfOk result IsExit }
+    // Of the standard output no byte is known; what is written is said by `run_over`.
+    ensures ran { IfOk result (λ status. EndsRun chosen.now.settings path.entry (I.remaining asked.source) status None None) }
 {
     let at = Cell::new(0);
-    let Asked { source, is_traced } = asked;
-    let mut lines = lines_of(rt, source, &at)?;
-    run_lines(rt, chosen, &mut lines, is_traced, &at)
+    let writer = BufWriter::with_capacity(rt.alloc(), WRITE_SIZE, rt.stdout());
+    let writer = writer.context("making room for the output")?;
+    let mut output = Output::new(writer, rt.stderr(), &at);
+    run_over(rt, chosen, path, asked, &mut output, &at)
 }
 
-fn run_lines(
+/// The same, to any writer: it was the script of all the source, and the status is what follows of it.
+fn run_over<I: Read + Drop, W: Write + Drop>(
     rt: &HostRuntime,
     chosen: &Chosen,
-    lines: &mut Lines<'_>,
-    is_traced: bool,
+    path: Option<&str>,
+    asked: Asked<I>,
+    output: &mut Output<'_, W, Stderr>,
     at: &Cell<u64>,
 ) -> Result<u8>
-    ensures { IfOk result IsExit }
+    ensures exit { IfOk result IsExit }
+    ensures ran { IfOk result (λ status. EndsRun chosen.now.settings path.entry (I.remaining asked.source) status (W.contents output.old.writer) (W.contents output.new.writer)) }
+    ensures none { OnErr result (W.contents output.new.writer ≡ W.contents output.old.writer) }
 {
-    let mut output = output_of(rt, at)?;
+    let Asked { source, is_traced } = asked;
+    let lines = LineReader::new(rt.alloc(), source, at);
+    let mut lines = lines.context("making room for the script")?;
     let script = Script {
-        reader: &mut *lines,
+        reader: &mut lines,
         errors: rt.stderr(),
         is_traced,
     };
-    match run_new(rt.alloc(), &chosen.settings, script, &mut output) {
-        Ok(status) => {
-            tell_end(rt, status, lines, output.failure(), at);
-            Ok(status)
-        }
-        Err(fault) => Ok(refused(rt, fault)),
+    let status = run_in(rt, chosen, path, script, output)?;
+    tell_end(rt, status, &lines, output.failure(), at);
+    Ok(status)
+}
+
+fn run_in<I: Read + Drop, W: Write>(
+    rt: &HostRuntime,
+    chosen: &Chosen,
+    path: Option<&str>,
+    script: Script<I, Stderr>,
+    writer: &mut W,
+) -> Result<u8>
+    ensures exit { IfOk result IsExit }
+    ensures ran { IfOk result (λ status. EndsRun chosen.now.settings path.entry (I.remaining script.reader) status (W.contents writer.old) (W.contents writer.new)) }
+    ensures none { OnErr result (W.contents writer.new ≡ W.contents writer.old) }
+{
+    match path {
+        Some(path) => run_at(rt, chosen, path, script, writer),
+        None => Ok(run_in_memory(rt, chosen, script, writer)),
     }
 }
 
-fn lines_of<'a>(rt: &HostRuntime, source: Source, at: &'a Cell<u64>) -> Result<Lines<'a>> {
-    LineReader::new(rt.alloc(), source, at).context("making room for the script")
-}
-
-fn output_of<'a>(rt: &HostRuntime, at: &'a Cell<u64>) -> Result<Printed<'a>> {
-    let writer = BufWriter::with_capacity(rt.alloc(), WRITE_SIZE, rt.stdout());
-    let writer = writer.context("making room for the output")?;
-    Ok(Output::new(writer, rt.stderr(), at))
+fn run_in_memory<I: Read + Drop, W: Write>(
+    rt: &HostRuntime,
+    chosen: &Chosen,
+    script: Script<I, Stderr>,
+    writer: &mut W,
+) -> u8
+    ensures exit { IsExit result }
+    ensures ran { EndsAnew chosen.now.settings (I.remaining script.reader) result (W.contents writer.old) (W.contents writer.new) }
+{
+    match run_new(rt.alloc(), &chosen.settings, script, writer) {
+        Ok(status) => status,
+        Err(fault) => refused(rt, fault),
+    }
 }
 
 // Tells why a script stopped before its end.
-fn tell_end(
+fn tell_end<I: Read + Drop>(
     rt: &HostRuntime,
     status: u8,
-    lines: &Lines<'_>,
+    lines: &LineReader<'_, I>,
     failure: Option<io::Error>,
     at: &Cell<u64>,
 ) {
@@ -121,15 +135,23 @@ fn tell_end(
 }
 
 // The files lie where a link leads.
-fn run_at(rt: &HostRuntime, chosen: &Chosen, path: &str, asked: Asked) -> Result<u8>
-    ensures { IfOk result IsExit }
+fn run_at<I: Read + Drop, W: Write>(
+    rt: &HostRuntime,
+    chosen: &Chosen,
+    path: &str,
+    script: Script<I, Stderr>,
+    writer: &mut W,
+) -> Result<u8>
+    ensures exit { IfOk result IsExit }
+    ensures ran { IfOk result (λ status. EndsScript chosen.now.settings.lease (I.remaining script.reader) status (W.contents writer.old) (W.contents writer.new)) }
+    ensures none { OnErr result (W.contents writer.new ≡ W.contents writer.old) }
 {
     match fs::canonicalize(rt, path) {
-        Ok(real) => run_there(rt, chosen, real.as_str(), asked),
+        Ok(real) => run_there(rt, chosen, real.as_str(), script, writer),
         Err(error) => match error.kind() {
             io::ErrorKind::NotFound => {
                 make_warned(rt, chosen, path);
-                run_real(rt, chosen, path, asked)
+                Ok(run_closing(rt, chosen, path, script, writer))
             }
             kind => Ok(tell_unfound(rt, path, kind)),
         },
@@ -138,66 +160,46 @@ fn run_at(rt: &HostRuntime, chosen: &Chosen, path: &str, asked: Asked) -> Result
 
 /// Tells why there is no way to a store, and answers the exit status.
 pub(crate) fn tell_unfound(rt: &HostRuntime, path: &str, kind: io::ErrorKind) -> u8
-    ensures { IsExit result }
+    ensures exit { IsExit result }
+    ensures shut { IsShut result }
 {
     tell(rt, Subject::Store, path, trouble_of(kind))
 }
 
 // Looks whose the store is, before it is run over.
-fn run_there(rt: &HostRuntime, chosen: &Chosen, path: &str, asked: Asked) -> Result<u8>
-    ensures { IfOk result IsExit }
+fn run_there<I: Read + Drop, W: Write>(
+    rt: &HostRuntime,
+    chosen: &Chosen,
+    path: &str,
+    script: Script<I, Stderr>,
+    writer: &mut W,
+) -> Result<u8>
+    ensures exit { IfOk result IsExit }
+    ensures ran { IfOk result (λ status. EndsScript chosen.now.settings.lease (I.remaining script.reader) status (W.contents writer.old) (W.contents writer.new)) }
+    ensures none { OnErr result (W.contents writer.new ≡ W.contents writer.old) }
 {
     let log = format!(in rt.alloc(); "{path}-wal").context("naming the log")?;
     match admit(rt, chosen, path, log.as_str()) {
-        Ok(()) => run_real(rt, chosen, path, asked),
+        Ok(()) => Ok(run_closing(rt, chosen, path, script, writer)),
         Err(status) => Ok(status),
     }
 }
 
-fn run_real(rt: &HostRuntime, chosen: &Chosen, path: &str, asked: Asked) -> Result<u8>
-    ensures { IfOk result IsExit }
-{
-    let at = Cell::new(0);
-    let Asked { source, is_traced } = asked;
-    let mut lines = lines_of(rt, source, &at)?;
-    run_file(rt, chosen, path, &mut lines, is_traced, &at)
-}
-
-fn run_file(
-    rt: &HostRuntime,
-    chosen: &Chosen,
-    path: &str,
-    lines: &mut Lines<'_>,
-    is_traced: bool,
-    at: &Cell<u64>,
-) -> Result<u8>
-    ensures { IfOk result IsExit }
-{
-    let mut output = output_of(rt, at)?;
-    let script = Script {
-        reader: &mut *lines,
-        errors: rt.stderr(),
-        is_traced,
-    };
-    let status = run_closing(rt, chosen, path, script, &mut output);
-    tell_end(rt, status, lines, output.failure(), at);
-    Ok(status)
-}
-
 // Behind the run the log is removed: the database file alone has the rows.
-fn run_closing(
+fn run_closing<I: Read + Drop, W: Write>(
     rt: &HostRuntime,
     chosen: &Chosen,
     path: &str,
-    script: Script<&mut Lines<'_>, Stderr>,
-    output: &mut Printed<'_>,
+    script: Script<I, Stderr>,
+    writer: &mut W,
 ) -> u8
-    ensures { IsExit result }
+    ensures exit { IsExit result }
+    ensures ran { EndsScript chosen.now.settings.lease (I.remaining script.reader) result (W.contents writer.old) (W.contents writer.new) }
 {
     let Ok(log) = format!(in rt.alloc(); "{path}-wal") else {
         return 4;
     };
-    match run_path(rt, &chosen.settings, path, Unknown, script, output) {
+    match run_path(rt, &chosen.settings, path, Unknown, script, writer) {
         Ok((status, files)) => {
             let _ = fs::remove_file(rt, log.as_str());
             drop(files);
@@ -216,7 +218,8 @@ pub(crate) fn left_open(
     log: &str,
     unclosed: Unclosed<File>,
 ) -> u8
-    ensures { IsExit result }
+    ensures exit { IsExit result }
+    ensures shut { IsShut result }
 {
     let cell = chosen.settings.cell();
     match unclosed {
@@ -251,7 +254,8 @@ pub(crate) fn remove_empty(rt: &HostRuntime, path: &str) {
 
 // Tells why the store at a path isn't taken over.
 fn tell_refused(rt: &HostRuntime, chosen: &Chosen, path: &str, fault: StoreFault) -> u8
-    ensures { IsExit result }
+    ensures exit { IsExit result }
+    ensures shut { IsShut result }
 {
     let cell = chosen.settings.cell();
     match fault {
@@ -263,7 +267,8 @@ fn tell_refused(rt: &HostRuntime, chosen: &Chosen, path: &str, fault: StoreFault
 }
 
 fn refused(rt: &HostRuntime, fault: StoreFault) -> u8
-    ensures { IsExit result }
+    ensures exit { IsExit result }
+    ensures shut { IsShut result }
 {
     let _ = eprintln!(rt; "cellctl: taking the store over: {fault}");
     match fault {
@@ -273,7 +278,8 @@ fn refused(rt: &HostRuntime, fault: StoreFault) -> u8
 }
 
 fn failed_status(error: &Error) -> u8
-    ensures { IsExit result }
+    ensures exit { IsExit result }
+    ensures shut { IsShut result }
 {
     match error {
         Error::SqliteFailure(ErrorCode::OutOfMemory) => 4,
@@ -283,7 +289,8 @@ fn failed_status(error: &Error) -> u8
 
 // A script that memory ended stays so.
 fn unclosed_status(status: u8, error: &Error) -> u8
-    ensures { IsExit result }
+    ensures exit { IsExit result }
+    ensures shut { IsShut result }
 {
     match status {
         4 => 4,

@@ -1,6 +1,6 @@
 //! What is told of a trouble, and the exit status that it has.
 ghost use Rattle.std.specs.Prelude.{◌≡◌};
-ghost use Rattle.cellctl.specs.Exits.{IsExit, IsUnwritten};
+ghost use Rattle.cellctl.specs.Exits.{IsExit, IsUnwritten, IsUnset, IsShut, IsOfText, IsOfRows};
 
 use crate::texts::{Trouble, words_of};
 use std::io;
@@ -20,6 +20,8 @@ pub(crate) enum Subject {
 pub(crate) fn tell(rt: &HostRuntime, subject: Subject, path: &str, trouble: Trouble) -> u8
     ensures exit { IsExit result }
     ensures output { subject ≡ Subject.Output → IsUnwritten result }
+    ensures rows { IsOfRows subject → IsShut result }
+    ensures text { IsOfText subject → IsUnset result }
 {
     let status = status_of(subject, trouble);
     let noun = noun_of(subject);
@@ -32,6 +34,8 @@ pub(crate) fn tell(rt: &HostRuntime, subject: Subject, path: &str, trouble: Trou
 fn status_of(subject: Subject, trouble: Trouble) -> u8
     ensures exit { IsExit result }
     ensures output { subject ≡ Subject.Output → IsUnwritten result }
+    ensures rows { IsOfRows subject → IsShut result }
+    ensures text { IsOfText subject → IsUnset result }
 {
     match (subject, trouble) {
         (_, Trouble::NoMemory) => 4,

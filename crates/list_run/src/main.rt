@@ -1,6 +1,7 @@
 //! Runs a script of standard input over rows in lists, and prints its lines.
 #![tactic(auto)]
 
+ghost use Rattle.std.specs.Prelude.{None};
 ghost use Rattle.list_run.specs.Runs.{Runs};
 
 use rows_cell::ListRecords;
@@ -14,15 +15,19 @@ use std::process::ExitCode;
 const NO_MEMORY: u8 = 4;
 
 fn main(rt: HostRuntime) -> ExitCode {
-    ExitCode::from(run(&rt))
+    ExitCode::from(run(&rt, rt.reader()))
 }
 
-fn run(rt: &HostRuntime) -> u8 {
+/// Runs a script over the rows of a new cell in lists, as `run_new`, and prints to the standard output, of which no byte is
+/// known.
+fn run<I: Read + Drop>(rt: &HostRuntime, reader: I) -> u8
+    ensures { Runs result (I.remaining reader) None None }
+{
     let alloc = rt.alloc();
     let Ok(mut output) = BufWriter::new(alloc, rt.stdout()) else {
         return NO_MEMORY;
     };
-    run_new(alloc, rt.reader(), &mut output, rt.stderr())
+    run_new(alloc, reader, &mut output, rt.stderr())
 }
 
 /// Runs a script over the rows of a new cell in lists, with the standard settings, and answers the exit status: that of the

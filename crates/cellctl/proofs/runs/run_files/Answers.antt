@@ -17,6 +17,14 @@ returns-in-Ok-close-clause-closed g c clean =
     (script_led_surely lease text before after status c.in-Ok.records c.close.result c.new-world.result c.script_on-status.new.world c.new-world.ensures c.close.ensures c.script_on-status.ensures.sure)
     (c.in-Ok-close.ensures.closed clean)
 
+pub returns-in-Ok-close-clause-ran : goal.returns-in-Ok-close-clause-ran
+returns-in-Ok-close-clause-ran g c = (
+  c.in-Ok.records,
+  c.close.result,
+  script_led c.args.settings.now.lease (g.I.Read.remaining c.args.script.reader) (g.W.Write.contents c.args.writer.now) (g.W.Write.contents c.script_on-status.new.writer) c.script_on-status.result c.in-Ok.records c.close.result
+      c.new-world.result c.script_on-status.new.world c.new-world.ensures c.close.ensures c.script_on-status.ensures.ran,
+)
+
 pub returns-in-Err-close-clause-left : goal.returns-in-Err-close-clause-left
 returns-in-Err-close-clause-left g c =
     let lease = c.args.settings.now.lease in

@@ -13,6 +13,9 @@ returns-in-Ok-clause-closed g c =
     (ScriptLeadsSurely c.args.settings.now.lease (g.I.Read.remaining c.args.script.reader) (g.W.Write.contents c.args.writer.now) (g.W.Write.contents c.run_files.new.writer)) c.run_files.result
     c.in-Ok.ensures.found c.run_files.ensures.closed
 
+pub returns-in-Ok-clause-ran : goal.returns-in-Ok-clause-ran
+returns-in-Ok-clause-ran g c = c.run_files.ensures.ran
+
 pub returns-in-Ok-clause-left : goal.returns-in-Ok-clause-left
 returns-in-Ok-clause-left g c =
     left_at c.args.settings.now (image_at g.S.Start) c.in-Ok.conn

@@ -13,6 +13,9 @@ returns-in-Ok-clause-closed g c =
     (FramesLead c.args.settings.now.lease (g.I.Read.remaining c.args.frames.reader) (g.W.Write.contents c.args.writer.now) (g.W.Write.contents c.serve_store.new.writer)) c.serve_store.result
     c.in-Ok.ensures.found c.serve_store.ensures.closed
 
+pub returns-in-Ok-clause-served : goal.returns-in-Ok-clause-served
+returns-in-Ok-clause-served g c = c.serve_store.ensures.served
+
 pub returns-in-Ok-clause-left : goal.returns-in-Ok-clause-left
 returns-in-Ok-clause-left g c =
     left_at c.args.settings.now (image_at g.S.Start) c.in-Ok.conn

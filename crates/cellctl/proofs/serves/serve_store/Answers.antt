@@ -18,6 +18,14 @@ returns-in-Ok-close-clause-closed g c clean =
     (frames_led_surely lease text before after status c.in-Ok.records c.close.result (without_master c.in-Ok.records) (hosted (λ s. s) c.serve_seat-seat.result.0) refl c.close.ensures c.serve_seat-seat.ensures.served)
     (c.in-Ok-close.ensures.closed clean)
 
+pub returns-in-Ok-close-clause-served : goal.returns-in-Ok-close-clause-served
+returns-in-Ok-close-clause-served g c = (
+  c.in-Ok.records,
+  c.close.result,
+  frames_led c.args.settings.now.lease (g.I.Read.remaining c.args.frames.reader) (g.W.Write.contents c.args.writer.now) (g.W.Write.contents c.serve_seat-seat.new.writer) c.serve_seat-seat.result.1 c.in-Ok.records c.close.result
+      (without_master c.in-Ok.records) (hosted (λ s. s) c.serve_seat-seat.result.0) refl c.close.ensures c.serve_seat-seat.ensures.served,
+)
+
 pub returns-in-Err-close-clause-left : goal.returns-in-Err-close-clause-left
 returns-in-Err-close-clause-left g c =
     let lease = c.args.settings.now.lease in

@@ -1,0 +1,6 @@
+use Rattle.cellctl.proofs.Overs.{any_frames}
+use Rattle.cellctl.proofs.pipes.serve_rows.Goals as goal
+
+pub returns-in-Ok-clause-served : goal.returns-in-Ok-clause-served
+returns-in-Ok-clause-served g c =
+    any_frames c.in-Ok.chosen.settings.lease (g.I.Read.remaining c.args.reader) (g.W.Write.contents c.args.writer.now) (g.W.Write.contents c.serve_folder.new.writer) c.serve_folder.result c.serve_folder.ensures.served
