@@ -75,6 +75,12 @@ impl Asked {
         self.parts.number
     }
 
+    /// The epoch of the master that it is for; 0 of a Start.
+    #[must_use]
+    pub fn epoch(&self) -> u64 {
+        self.parts.epoch
+    }
+
     /// Whether a session is to begin.
     #[must_use]
     pub fn is_start(&self) -> bool {
@@ -158,7 +164,7 @@ mod tests {
 
     #[test]
     fn bytes_that_are_none_ask_for_nothing() {
-        for bytes in [&b""[..], b"\x02\x09", b"hello"] {
+        for bytes in [&b""[..], b"asked", b"hello"] {
             assert!(Asked::read(bytes).is_none(), "{bytes:?}");
         }
     }

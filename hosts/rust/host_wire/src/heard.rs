@@ -286,7 +286,7 @@ mod tests {
         let said = SaidParts { what: 4, fault: 28, client: 7, number: 5, ..SaidParts::default() };
         let answer = Said { client: 7, number: 5, answer: Answer::Refused(28) };
         let rows = [
-            (HeardParts { said, ..of(2) }, Told::Message(7, answer, &BLOCK[10..])),
+            (HeardParts { said, ..of(2) }, Told::Message(7, answer, &BLOCK[MESSAGE_AT..])),
             (of(3), Told::Bad(5)),
             (of(4), Told::End(None)),
             (HeardParts { is_timed: 1, ..of(4) }, Told::End(Some(9))),
@@ -296,7 +296,7 @@ mod tests {
             assert_eq!(told(parts, "").told(), wanted, "{parts:?}");
         }
         assert!(Heard::read(b"").is_none());
-        assert!(Heard::read(b"\x02\x00up 1").is_none());
+        assert!(Heard::read(b"up 1").is_none());
     }
 
     #[test]

@@ -15,6 +15,7 @@ mod heard;
 mod library;
 mod names;
 mod notices;
+pub mod rows;
 mod said;
 mod shown;
 

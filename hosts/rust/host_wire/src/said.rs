@@ -100,6 +100,6 @@ mod tests {
     fn a_reply_that_the_store_refused_is_read_as_it_was_written() {
         let said = |client| write_store_refused(client, 2, 5).map(|bytes| Said::read(&bytes));
         assert_eq!(said(7), Some(Some(Said { client: 7, number: 5, answer: Answer::Reply(Some(15)) })));
-        assert_eq!((said(0), Said::read(b""), Said::read(b"\x02\x04")), (None, None, None));
+        assert_eq!((said(0), Said::read(b""), Said::read(b"said")), (None, None, None));
     }
 }

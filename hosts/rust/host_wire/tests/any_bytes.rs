@@ -1,13 +1,23 @@
 //! Whatever bytes come: they are read as what they are, or as nothing.
 
-use host_wire::{Asked, Blocks, Heard, Hello, Notice, Said, Told, TurnedAway, Welcome, common_name, framed, is_component};
+use host_wire::rows::{Question, write_verdict};
+use host_wire::{
+    Asked, Blocks, Frame, Heard, Hello, Notice, Said, TurnedAway, Welcome, common_name, framed, is_component, write_store_refused,
+};
 use proptest::collection::vec;
 use proptest::prelude::*;
 
-// Bytes that begin as messages do more often than any do.
+// Bytes that begin as messages, frames and notices do more often than any do.
 fn bytes() -> impl Strategy<Value = Vec<u8>> {
-    let kinds = prop_oneof![Just(Vec::new()), (0..5_u8).prop_map(|kind| vec![2, kind])];
-    (kinds, vec(prop_oneof![Just(0), any::<u8>()], 0..300)).prop_map(|(head, rest)| [head, rest].concat())
+    let notice = Notice { number: 7, reason: "no room".to_owned() }.write();
+    let written = [write_store_refused(7, 1, 5), Frame::Tick(7).write(), write_verdict(true), Some(notice), Some(Vec::new())];
+    let written: Vec<Vec<u8>> = written.into_iter().flatten().collect();
+    // (frames have the number of their bytes in front, which none of those that read them is handed)
+    let fronts = (0..written.len(), 0..5_usize, 0..40_usize).prop_map(move |(which, from, length)| {
+        let bytes = &written[which];
+        bytes.iter().copied().skip(from).take(length).collect::<Vec<u8>>()
+    });
+    (fronts, vec(prop_oneof![Just(0), any::<u8>()], 0..300)).prop_map(|(front, rest)| [front, rest].concat())
 }
 
 proptest! {
@@ -23,10 +33,15 @@ proptest! {
         let asked = Asked::read(&bytes);
         prop_assert!(asked.is_none_or(|asked| asked.deed().is_none_or(|deed| asked.is_from(deed.client, ""))));
         if let Some(heard) = Heard::read(&bytes) {
-            prop_assert!(heard.told() != Told::Other || (bytes[1] > 3 && bytes[1] < 9));
+            prop_assert_eq!(heard.told(), heard.told());
         }
-        prop_assert_eq!(Notice::read(&bytes).is_some(), bytes.len() >= 10 && bytes[..2] == [2, 4]);
-        prop_assert!(Said::read(&bytes).is_none() || bytes.len() > 26);
+        if let Some(notice) = Notice::read(&bytes) {
+            prop_assert_eq!(Notice::read(&notice.write()), Some(notice));
+        }
+        prop_assert!(Said::read(&bytes).is_none_or(|said| said.client > 0 && said.number > 0));
+        if let Some(Question::Commit(_, edits)) = Question::read(&bytes) {
+            prop_assert!(edits.len() <= bytes.len());
+        }
         prop_assert!(common_name(&bytes).is_none());
     }
 

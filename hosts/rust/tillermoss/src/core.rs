@@ -73,7 +73,7 @@ pub enum Tried {
 }
 
 /// What the cache answered holds, while the client makes no further step and its lease runs.
-#[derive(Clone, Copy, Debug, PartialEq, Eq)]
+#[derive(Clone, Copy, Debug, Default, PartialEq, Eq)]
 pub struct Mark {
     turn: u64,
     leased_until: u64,

@@ -19,6 +19,7 @@
 //! `examples/` has a program for each task of the guide: an election, a lock, a registration, a configuration, a barrier.
 
 mod admin;
+mod bare;
 mod calls;
 mod client;
 mod clock;
@@ -35,6 +36,7 @@ mod refusals;
 mod viewer;
 
 pub use admin::Admin;
+pub use bare::Bare;
 pub use calls::{Create, Life, Opening};
 pub use client::{Client, Handle, Options, Watch};
 pub use errors::Error;

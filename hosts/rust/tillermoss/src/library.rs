@@ -437,78 +437,81 @@ mod tests {
     use crate::events::{Event, Events};
     use crate::lines::{Answer, Line, Shown};
     use crate::nodes::{Kind, LockMode, Mode, Right, Stat};
+    use host_wire::Asked;
+    use trials::Master;
 
     const CLIENT: u64 = 7;
-
-    fn words(head: &[u8], words: &[u64]) -> Vec<u8> {
-        let mut out = head.to_vec();
-        out.extend(words.iter().flat_map(|word| word.to_be_bytes()));
-        out
-    }
-
-    // A client that was given a session at 1000 ms, of 12,000 ms: it is trusted until 11,293 have passed.
-    fn started() -> Library {
-        let mut library = Library::open(CLIENT, "ann").unwrap();
-        assert_eq!(library.beat(1000), Status::Send);
-        assert_eq!(library.give(1100, &words(&[2, 0], &[CLIENT, 1, 1, 12_000])), Status::Done);
-        library
-    }
+    const OTHER: u64 = 8;
+    const BOTH: Mode = Mode::READ.and(Mode::WRITE);
 
     fn lines(library: &mut Library) -> Vec<Line> {
         library.lines().into_iter().filter_map(Line::of).collect()
     }
 
-    // The same with handle 1 on /ls/c/f, whose bytes are "abcd".
-    fn opened(mode: Mode) -> Library {
-        let mut library = started();
-        assert_eq!(library.call(1100, &Call::Open(&Opening::new("/ls/c/f", mode))), Status::Send);
-        let opened = [words(&[2, 2], &[CLIENT, 1, 1]), vec![0, 0], b"\0\0\0\x04abcd".to_vec(), words(&[], &[4]), vec![0]].concat();
-        assert_eq!(library.give(1100, &opened), Status::Done);
-        assert_eq!(lines(&mut library), [Line::Done(1, Answer::Opened(1))]);
+    // Hands the master a client's message at this moment, and these clients what it says to them.
+    fn serve<const N: usize>(master: &mut Master, message: &[u8], mut clients: [(u64, &mut Library); N]) {
+        for (number, said) in master.ask(1100, message).unwrap() {
+            let (_, library) = clients.iter_mut().find(|(client, _)| *client == number).unwrap();
+            assert_eq!(library.give(1100, &said), Status::Done);
+        }
+    }
+
+    // A client that was given a session at 1000 ms, of 12,000 ms: it is trusted until 11,293 have passed.
+    fn began(master: &mut Master, number: u64) -> Library {
+        let mut library = Library::open(number, "ann").unwrap();
+        assert_eq!(library.beat(1000), Status::Send);
+        let start = library.message().unwrap();
+        serve(master, &start, [(number, &mut library)]);
         library
     }
 
-    // What a read shows of a file or a directory.
-    fn shown(kind: Kind, content: &[u8], children: &[&str]) -> Shown {
-        let acl = ["base", "own", "base"].map(str::to_owned);
-        let (lock_generation, is_ephemeral, length) = (None, false, content.len() as u64);
-        let stat = Stat { kind, instance: 4, content_generation: 1, acl_generation: 1, lock_generation, acl, is_ephemeral, length };
-        Shown { stat, content: content.to_vec(), children: children.iter().map(|name| (*name).to_owned()).collect() }
+    fn started() -> (Master, Library) {
+        let mut master = Master::start().unwrap();
+        let library = began(&mut master, CLIENT);
+        (master, library)
     }
 
-    // The same as bytes of a message.
-    fn view(kind: u8, content: &[u8], children: &[&str]) -> Vec<u8> {
-        let mut out = words(&[2, kind], &[4, 1, 1]);
-        for text in [b"base".as_slice(), b"own", b"base"] {
-            put(&mut out, text);
-        }
-        out.push(0);
-        put(&mut out, content);
-        out.extend(u32::try_from(children.len()).unwrap().to_be_bytes());
-        for name in children {
-            put(&mut out, name.as_bytes());
-        }
-        out
+    // Makes a call that the master does, and gives the lines that came of it.
+    fn call(master: &mut Master, library: &mut Library, number: u64, call: &Call) -> Vec<Line> {
+        assert_eq!(library.call(1100, call), Status::Send, "{call:?}");
+        let message = library.message().unwrap();
+        serve(master, &message, [(number, library)]);
+        lines(library)
     }
 
-    fn put(out: &mut Vec<u8>, bytes: &[u8]) {
-        out.extend(u32::try_from(bytes.len()).unwrap().to_be_bytes());
-        out.extend(bytes);
+    fn file(content: &[u8]) -> Create {
+        Create { must: true, content: Some(content.to_vec()), ..Create::default() }
     }
 
-    fn reply(number: u64, stamp: &[u8], result: &[u8]) -> Vec<u8> {
-        [&words(&[2, 2], &[CLIENT, 1, number]), stamp, result].concat()
+    fn making(name: &str, create: Create) -> Opening {
+        Opening { create: Some(create), ..Opening::new(name, BOTH.and(Mode::CHANGE)) }
+    }
+
+    // The same with handle 1 on /ls/c/f.
+    fn opened() -> (Master, Library) {
+        let (mut master, mut library) = started();
+        let told = call(&mut master, &mut library, CLIENT, &Call::Open(&making("/ls/c/f", file(b"hello"))));
+        assert_eq!(told, [Line::Done(1, Answer::Opened(1))]);
+        (master, library)
     }
 
     // The same, and its content cached.
-    fn cached() -> Library {
-        let mut library = opened(Mode::READ);
+    fn cached() -> (Master, Library) {
+        let (mut master, mut library) = opened();
         assert_eq!(library.read(1100, 1, &mut Vec::new()), Status::Send);
-        let call = [words(&[2, 2], &[CLIENT, 1, 2]), vec![2], b"\0\0\0\x04abcd".to_vec(), vec![0]].concat();
-        assert_eq!(library.message(), Some(call));
-        let view = reply(2, &words(&[1], &[0]), &view(0, b"hello", &[]));
-        assert_eq!(library.give(1100, &view), Status::Done);
-        library
+        let read = library.message().unwrap();
+        serve(&mut master, &read, [(CLIENT, &mut library)]);
+        (master, library)
+    }
+
+    fn base() -> [String; 3] {
+        ["base"; 3].map(str::to_owned)
+    }
+
+    // The numbers of the first node that is made.
+    fn stat(kind: Kind, instance: u64, content_generation: u64, length: u64) -> Stat {
+        let (lock_generation, is_ephemeral) = (None, false);
+        Stat { kind, instance, content_generation, acl_generation: 1, lock_generation, acl: base(), is_ephemeral, length }
     }
 
     #[test]
@@ -523,73 +526,102 @@ mod tests {
         let mut library = Library::open(CLIENT, "ann").unwrap();
         assert_eq!((library.leased_until(), library.message(), lines(&mut library)), (0, None, vec![]));
         assert_eq!(library.beat(1000), Status::Send);
-        let start = [words(&[2, 0], &[CLIENT, 1]), b"\0\0\0\x03ann".to_vec()].concat();
-        assert_eq!(library.message(), Some(start));
-        assert_eq!(library.call(1000, &Call::Read(1)), Status::Refused(Refusal::NoSession));
-        library = started();
+        let start = Asked::read(&library.message().unwrap()).unwrap();
+        assert!(start.is_start() && start.is_from(CLIENT, "ann"));
+        assert_eq!((start.number(), library.call(1000, &Call::Read(1))), (1, Status::Refused(Refusal::NoSession)));
+        let (_, mut library) = started();
         assert_eq!(library.leased_until(), 12_294);
         assert_eq!(library.call(1100, &Call::Read(1)), Status::Refused(Refusal::BadHandle));
         assert_eq!(library.beat(1100), Status::Send);
-        assert_eq!(library.message(), Some(words(&[2, 1], &[CLIENT, 1, 2, 0, 0])));
+        let beat = Asked::read(&library.message().unwrap()).unwrap();
+        assert!(!beat.is_start() && beat.is_from(CLIENT, "ann"));
+        assert_eq!((beat.number(), beat.epoch()), (2, 1));
     }
 
     #[test]
     fn a_call_is_sent_and_sent_again() {
-        let mut library = started();
+        let (_, mut library) = started();
         let opening = Opening::new("/ls/c/f", Mode::READ);
         assert_eq!(library.again(), None);
         assert_eq!(library.call(1100, &Call::Open(&opening)), Status::Send);
-        let open = b"\0\0\0\0\x07/ls/c/f\x01\0\0\0\0\0\0\0\0\0\0\0".to_vec();
-        let sent = [words(&[2, 2], &[CLIENT, 1, 1]), open].concat();
-        assert_eq!((library.message(), library.again()), (Some(sent.clone()), Some(sent)));
+        let sent = library.message();
+        assert!(sent.is_some() && library.again() == sent);
         assert_eq!(library.call(1100, &Call::Open(&opening)), Status::Refused(Refusal::CallOutstanding));
     }
 
-    // (each goes to the master with what the client puts: its number, the epoch, the call's number, the handle's bytes)
+    // Each call with what a master of a new store answers, in this order.
     #[test]
-    fn each_call_has_its_bytes() {
-        const HANDLE: &str = "00000004 61626364";
-        let acl = ["a", "b", "c"].map(str::to_owned);
-        let mode = Mode::READ.and(Mode::WRITE);
-        let open = |create| Opening { create, events: Events::CONTENTS.and(Events::LOCK), lock_delay: 258, ..Opening::new("/ls/c", mode) };
-        let file = Create { must: true, content: Some(b"\xff".to_vec()), life: Life::Ephemeral, acl: Some(acl.clone()) };
-        let [plain, file, directory] = [open(None), open(Some(file)), open(Some(Create::default()))];
-        let made = |made: &str| format!("00 00000005 2f6c732f63 03 {made} 0000000000000102 05 00");
-        let rows = [
-            (Call::Open(&plain), made("00")),
-            (Call::Open(&file), made("01 01 00 00000001 ff 01 01 00000001 61 00000001 62 00000001 63")),
-            (Call::Open(&directory), made("01 00 01 00 00")),
-            (Call::Read(1), format!("02 {HANDLE} 00")),
-            (Call::Stat(1), format!("03 {HANDLE} 00")),
-            (Call::List(1), format!("04 {HANDLE} 00")),
-            (Call::Set(1, b"\xab", None), format!("05 {HANDLE} 00000001 ab 00 00")),
-            (Call::Set(1, b"", Some(2)), format!("05 {HANDLE} 00000000 01 0000000000000002 00")),
-            (Call::Set(1, b"", Some(0)), format!("05 {HANDLE} 00000000 01 ffffffffffffffff 00")),
-            (Call::SetAcl(1, &acl, None), format!("06 {HANDLE} 00000001 61 00000001 62 00000001 63 00 00")),
-            (Call::SetAcl(1, &acl, Some(2)), format!("06 {HANDLE} 00000001 61 00000001 62 00000001 63 01 0000000000000002 00")),
-            (Call::Delete(1), format!("07 {HANDLE} 00")),
-            (Call::Acquire(1, LockMode::Exclusive), format!("08 {HANDLE} 00 00")),
-            (Call::TryAcquire(1, LockMode::Shared), format!("09 {HANDLE} 01 00")),
-            (Call::Release(1), format!("0a {HANDLE} 00")),
-            (Call::GetSequencer(1), format!("0b {HANDLE} 00")),
-            (Call::SetSequencer(1, b"\xcd"), format!("0c {HANDLE} 01 00000001 cd")),
-            (Call::CheckSequencer(b"\xcd"), "0d 00000001 cd 00".to_owned()),
-            (Call::Close(1), format!("01 {HANDLE} 00")),
-            (Call::Leave, "0e 00".to_owned()),
-        ];
-        let mut library = opened(Mode::WRITE);
-        for ((call, wanted), number) in rows.into_iter().zip(2..) {
-            assert_eq!(library.call(1100, &call), Status::Send, "{call:?}");
-            let sent = [words(&[2, 2], &[CLIENT, 1, number]), hex::decode(wanted.replace(' ', "")).unwrap()].concat();
-            assert_eq!(library.message().map(hex::encode), Some(hex::encode(sent)), "{call:?}");
-            assert_eq!(library.give(1100, &reply(number, &[0], &[7, 6])), Status::Done, "{call:?}");
-            assert_eq!(lines(&mut library), [Line::Done(number, Answer::Refused(Refusal::Exists))], "{call:?}");
-        }
+    fn each_call_is_done() {
+        let (mut master, mut library) = started();
+        let mut number = 0;
+        let mut done = |call: Call, wanted: Answer| {
+            number += 1;
+            let told = self::call(&mut master, &mut library, CLIENT, &call);
+            assert_eq!(told, [Line::Done(number, wanted)], "{call:?}");
+        };
+        let refused = Answer::Refused;
+        let changed = [base()[0].clone(), "own".to_owned(), base()[0].clone()];
+        let own = Create { acl: Some(changed.clone()), life: Life::Ephemeral, ..file(b"\xff") };
+        // (nobody stands in an ACL that isn't there)
+        let opening = Opening { lock_delay: 258, events: Events::CONTENTS, ..making("/ls/c/e", own) };
+        done(Call::Open(&opening), refused(Refusal::Denied(Right::Write)));
+        done(Call::Open(&Opening { mode: Mode::READ.and(Mode::CHANGE), ..opening }), Answer::Opened(1));
+        let ephemeral = Stat { acl: changed, is_ephemeral: true, lock_generation: Some(0), ..stat(Kind::File, 4, 1, 1) };
+        done(Call::Stat(1), Answer::Stated(ephemeral));
+        done(Call::Open(&making("/ls/c/d", Create::default())), Answer::Opened(2));
+        done(Call::Open(&making("/ls/c/d/f", file(b"new"))), Answer::Opened(3));
+        done(Call::Open(&making("/ls/c/d/f", file(b""))), refused(Refusal::Exists));
+        done(Call::Open(&Opening::new("/ls/c/d/f", BOTH)), Answer::Opened(4));
+        done(Call::Open(&Opening::new("/ls/c/d/f", Mode::READ)), Answer::Opened(5));
+        done(Call::Set(5, b"", None), refused(Refusal::Denied(Right::Write)));
+        done(Call::Set(3, b"\xab\xcd", None), Answer::Done);
+        done(Call::Set(3, b"", Some(3)), refused(Refusal::WrongGeneration(2)));
+        done(Call::Set(3, b"", Some(0)), refused(Refusal::WrongGeneration(2)));
+        done(Call::Set(3, b"abc", Some(2)), Answer::Done);
+        done(Call::Set(2, b"", None), refused(Refusal::WrongKind(Kind::Directory)));
+        done(Call::SetAcl(3, &base(), Some(2)), refused(Refusal::WrongGeneration(1)));
+        done(Call::SetAcl(3, &base(), None), Answer::Done);
+        done(Call::Acquire(3, LockMode::Shared), Answer::Done);
+        done(Call::TryAcquire(4, LockMode::Exclusive), refused(Refusal::Held(LockMode::Shared)));
+        done(Call::TryAcquire(4, LockMode::Shared), Answer::Done);
+        done(Call::Release(4), Answer::Done);
+        done(Call::Release(4), refused(Refusal::NotHolder));
+        done(Call::GetSequencer(4), refused(Refusal::NotHolder));
+        done(Call::CheckSequencer(b"\xcd"), refused(Refusal::BadSequencer));
+        done(Call::SetSequencer(4, b"\xcd"), refused(Refusal::BadSequencer));
+        done(Call::Delete(2), refused(Refusal::NotEmpty));
+        let locked = Stat { acl_generation: 2, lock_generation: Some(1), ..stat(Kind::File, 6, 3, 3) };
+        done(Call::Stat(3), Answer::Stated(locked.clone()));
+        let shown = Stat { lock_generation: None, ..locked };
+        done(Call::Read(3), Answer::Viewed(Shown { stat: shown, content: b"abc".to_vec(), children: Vec::new() }));
+        done(Call::List(2), Answer::Names(vec!["f".to_owned()]));
+        done(Call::Delete(1), refused(Refusal::Denied(Right::Write)));
+        done(Call::Open(&making("/ls/c/g", file(b""))), Answer::Opened(6));
+        done(Call::Delete(6), Answer::Done);
+        done(Call::Stat(6), refused(Refusal::StaleInstance));
+        done(Call::Open(&Opening::new("/ls/c", Mode::READ)), Answer::Opened(7));
+        let children = ["acl", "d", "e"].map(str::to_owned).to_vec();
+        done(Call::Read(7), Answer::Viewed(Shown { stat: stat(Kind::Directory, 1, 0, 0), content: Vec::new(), children }));
+        done(Call::Close(4), Answer::Closed);
+        done(Call::Leave, Answer::Done);
+    }
+
+    #[test]
+    fn a_sequencer_goes_out_as_it_came() {
+        let (mut master, mut library) = opened();
+        assert_eq!(call(&mut master, &mut library, CLIENT, &Call::Acquire(1, LockMode::Exclusive)), [Line::Done(2, Answer::Done)]);
+        let told = call(&mut master, &mut library, CLIENT, &Call::GetSequencer(1));
+        let [Line::Done(3, Answer::Sequencer(sequencer))] = &told[..] else { panic!("{told:?}") };
+        assert_eq!(call(&mut master, &mut library, CLIENT, &Call::CheckSequencer(sequencer)), [Line::Done(4, Answer::Done)]);
+        assert_eq!(call(&mut master, &mut library, CLIENT, &Call::SetSequencer(1, sequencer)), [Line::Done(5, Answer::Done)]);
+        assert_eq!(call(&mut master, &mut library, CLIENT, &Call::Release(1)), [Line::Done(6, Answer::Done)]);
+        let stale = Answer::Refused(Refusal::SequencerStale);
+        assert_eq!(call(&mut master, &mut library, CLIENT, &Call::CheckSequencer(sequencer)), [Line::Done(7, stale)]);
     }
 
     #[test]
     fn what_is_no_name_isnt_sent() {
-        let mut library = opened(Mode::READ);
+        let (_, mut library) = opened();
         let acl = |name: &str| [name, "b", "c"].map(str::to_owned);
         let open = |name, acl| Opening { create: Some(Create { acl: Some(acl), ..Create::default() }), ..Opening::new(name, Mode::READ) };
         for opening in [open("/ls/c/D", acl("a")), open("/ls/c/d", acl("")), open("/ls/c/d", acl("a/b"))] {
@@ -599,70 +631,68 @@ mod tests {
         assert_eq!(lines(&mut library), [Line::Done(1, Answer::Opened(1))]);
     }
 
-    // What a reply, or an Alive that tells of an event, is told as.
+    // What one client does, and what is told another, which has opened the directory, the file in it and its lock.
     #[test]
-    fn lines_have_their_values() {
-        let mut stat = words(&[3, 1], &[4, 1, 1, 9]);
-        for text in [b"base".as_slice(), b"own", b"base"] {
-            put(&mut stat, text);
+    fn events_have_their_values() {
+        let (mut master, mut library) = started();
+        let all = Events::CONTENTS.and(Events::LOCK).and(Events::CONFLICT);
+        let watched = |name, events| Opening { events, ..Opening::new(name, BOTH) };
+        let made = Opening { create: Some(file(b"")), ..watched("/ls/c/f", all) };
+        for (opening, number) in [watched("/ls/c", Events::CHILDREN), made].into_iter().zip(1..) {
+            let told = call(&mut master, &mut library, CLIENT, &Call::Open(&opening));
+            assert_eq!(told, [Line::Done(number, Answer::Opened(number))]);
         }
-        stat.extend(words(&[1], &[0]));
-        let directory = shown(Kind::Directory, b"", &["acl", "f"]);
-        let listed = directory.children.clone();
-        let stated = Stat { lock_generation: Some(9), is_ephemeral: true, ..directory.stat.clone() };
+        // (it is told of what it made itself)
+        assert_eq!(library.beat(1100), Status::Send);
+        let beat = library.message().unwrap();
+        serve(&mut master, &beat, [(CLIENT, &mut library)]);
+        let own = || "/ls/c/f".to_owned();
+        assert_eq!(lines(&mut library), [Line::Event(Some(1), Event::ChildAdded(own()))]);
+        let mut other = began(&mut master, OTHER);
+        let opened = call(&mut master, &mut other, OTHER, &Call::Open(&Opening::new("/ls/c/f", BOTH)));
+        assert_eq!(opened, [Line::Done(1, Answer::Opened(1))]);
+        let (name, making) = (|| "/ls/c/g".to_owned(), making("/ls/c/g", file(b"")));
+        let lock = LockMode::Exclusive;
         let rows = [
-            (Call::Stat(1), stat, Answer::Stated(stated)),
-            (Call::Read(1), view(1, b"", &["acl", "f"]), Answer::Viewed(directory)),
-            (Call::List(1), [vec![4], view(1, b"", &["acl", "f"]).split_off(1)].concat(), Answer::Names(listed)),
-            (Call::GetSequencer(1), b"\x05\0\0\0\x03seq".to_vec(), Answer::Sequencer(b"seq".to_vec())),
-            (Call::Release(1), vec![6], Answer::Done),
-            (Call::Release(1), vec![7, 24], Answer::Refused(Refusal::NotHolder)),
-            (Call::Release(1), vec![7, 7, 1], Answer::Refused(Refusal::WrongKind(Kind::Directory))),
-            (Call::Release(1), vec![7, 9, 0], Answer::Refused(Refusal::Denied(Right::Read))),
-            (Call::Release(1), vec![7, 9, 1], Answer::Refused(Refusal::Denied(Right::Write))),
-            (Call::Release(1), vec![7, 9, 2], Answer::Refused(Refusal::Denied(Right::Change))),
-            (Call::Release(1), vec![7, 22, 1], Answer::Refused(Refusal::Held(LockMode::Shared))),
-            (Call::Release(1), words(&[7, 10], &[5]), Answer::Refused(Refusal::WrongGeneration(5))),
-            (Call::Release(1), words(&[7, 23], &[60_000]), Answer::Refused(Refusal::Delayed(60_000))),
+            (Call::Open(&making), vec![(1, Event::ChildAdded(name()))]),
+            (Call::Set(2, b"new", None), vec![(1, Event::ChildModified(name()))]),
+            (Call::Delete(2), vec![(1, Event::ChildRemoved(name()))]),
+            (Call::Set(1, b"", None), vec![(1, Event::ChildModified(own())), (2, Event::Contents { instance: 4, generation: 2 })]),
+            (Call::Acquire(1, lock), vec![(2, Event::Locked)]),
         ];
-        let mut library = opened(Mode::READ);
-        for ((call, result, wanted), number) in rows.into_iter().zip(2..) {
-            assert_eq!(library.call(1100, &call), Status::Send, "{call:?}");
-            assert_eq!(library.give(1100, &reply(number, &[0], &result)), Status::Done, "{wanted:?}");
-            assert_eq!(lines(&mut library), [Line::Done(number, wanted)]);
+        for (deed, events) in rows {
+            tell(&mut master, (CLIENT, &mut library), (OTHER, &mut other), &deed);
+            let wanted: Vec<Line> = events.into_iter().map(|(opened, event)| Line::Event(Some(opened), event)).collect();
+            assert_eq!(lines(&mut library), wanted);
         }
     }
 
+    // A Beat of the first waits at the master, and the other makes a call: what that tells the first is given to it.
+    fn tell(master: &mut Master, (number, library): (u64, &mut Library), (by, other): (u64, &mut Library), deed: &Call) {
+        assert_eq!(library.beat(1100), Status::Send);
+        let beat = library.message().unwrap();
+        serve(master, &beat, [(number, library), (by, other)]);
+        assert_eq!(other.call(1100, deed), Status::Send, "{deed:?}");
+        let message = other.message().unwrap();
+        serve(master, &message, [(number, library), (by, other)]);
+    }
+
     #[test]
-    fn events_have_their_values() {
-        let name = b"\0\0\0\x07/ls/c/f".to_vec();
-        let child = |kind| [words(&[kind], &[1]), name.clone()].concat();
-        let name = || "/ls/c/f".to_owned();
-        let rows = [
-            (vec![0], None, Event::Failover),
-            (words(&[1], &[1, 4, 3]), Some(1), Event::Contents { instance: 4, generation: 3 }),
-            (child(2), Some(1), Event::ChildAdded(name())),
-            (child(3), Some(1), Event::ChildRemoved(name())),
-            (child(4), Some(1), Event::ChildModified(name())),
-            (words(&[5], &[1]), Some(1), Event::Invalid),
-            (words(&[6], &[1]), Some(1), Event::Locked),
-            (words(&[7], &[1]), Some(1), Event::Conflict),
-            (vec![8], None, Event::Lost),
-        ];
-        let mut library = opened(Mode::READ);
-        for ((bytes, opened, event), number) in rows.into_iter().zip(1..) {
+    fn a_fail_over_is_an_event_of_no_handle() {
+        let (mut master, mut library) = started();
+        master.again().unwrap();
+        for wanted in [vec![], vec![Line::Event(None, Event::Failover)]] {
             assert_eq!(library.beat(1100), Status::Send);
-            let alive = words(&[2, 1], &[CLIENT, 1, number + 1, 12_000]);
-            let events = [vec![0, 0, 0, 0, 0, 0, 0, 1], words(&[], &[number]), bytes].concat();
-            assert_eq!(library.give(1100, &[alive, events].concat()), Status::Done, "{event:?}");
-            assert_eq!(lines(&mut library), [Line::Event(opened, event)]);
+            let beat = library.message().unwrap();
+            serve(&mut master, &beat, [(CLIENT, &mut library)]);
+            assert_eq!(lines(&mut library), wanted);
         }
     }
 
     #[test]
     fn a_read_is_served_while_the_lease_runs() {
-        let mut library = cached();
-        let shown = shown(Kind::File, b"hello", &[]);
+        let (_master, mut library) = cached();
+        let shown = Shown { stat: stat(Kind::File, 4, 1, 5), content: b"hello".to_vec(), children: Vec::new() };
         assert_eq!(lines(&mut library), [Line::Done(2, Answer::Viewed(shown.clone()))]);
         assert_eq!(library.content(), b"hello");
         for capacity in [0, 4, 5, 100] {
@@ -678,7 +708,7 @@ mod tests {
 
     #[test]
     fn a_hit_is_what_a_read_is_served() {
-        let mut library = cached();
+        let (_master, mut library) = cached();
         let (before, end) = (lines(&mut library), 12_294);
         for (now, number) in [(0, 1), (1100, 1), (end - 1, 1), (end, 1), (1 << 53, 1), (1100, 0), (1100, 2)] {
             let is_served = number == 1 && now < end;
@@ -692,12 +722,12 @@ mod tests {
         let mut room = b"old".to_vec();
         assert_eq!(library.poison(1100, 1), Status::Done);
         assert!(!library.hit(1100, 1, &mut room) && room.is_empty());
-        assert!(!started().hit(1100, 1, &mut room));
+        assert!(!started().1.hit(1100, 1, &mut room));
     }
 
     #[test]
     fn a_poisoned_handle_is_refused() {
-        let mut library = cached();
+        let (_master, mut library) = cached();
         assert_eq!(library.poison(1100, 2), Status::Refused(Refusal::BadHandle));
         assert_eq!(library.poison(1100, 1), Status::Done);
         assert_eq!(lines(&mut library), [Line::Done(0, Answer::Poisoned)]);
@@ -706,9 +736,13 @@ mod tests {
 
     #[test]
     fn what_is_no_message_changes_nothing() {
-        let mut library = cached();
+        let (mut master, mut library) = cached();
         let before = lines(&mut library);
-        let rows: &[(&[u8], u32)] = &[(b"", 82), (b"\x01\0", 83), (b"\x02\x09", 84), (&[2, 0, 0], 82)];
+        let mut other = Library::open(OTHER, "ann").unwrap();
+        assert_eq!(other.beat(1000), Status::Send);
+        let said = master.ask(1100, &other.message().unwrap()).unwrap().remove(0).1;
+        let rows: &[(&[u8], u32)] =
+            &[(b"", 82), (&said[..said.len() - 1], 82), (&[&[1], &said[1..]].concat(), 83), (&[&said[..], b"a"].concat(), 87)];
         for (message, code) in rows {
             assert_eq!(library.give(9_999_999, message), Status::Bad(*code), "{message:?}");
         }

@@ -4,14 +4,23 @@ use crate::client::{Client, Handle};
 use crate::clock;
 use crate::core::Mark;
 use crate::errors::Error;
-use std::collections::HashMap;
+use rustc_hash::FxHashMap;
 use std::ops::Deref;
 
 /// What a viewer knows of a file: its content, and for how long that is what the cache answers.
-#[derive(Debug)]
+#[derive(Debug, Default)]
 struct Kept {
     mark: Mark,
     content: Vec<u8>,
+}
+
+impl Kept {
+    /// Reads the file again. Refused, what is known of it holds no more.
+    fn read_again(&mut self, client: &Client, handle: Handle) -> Result<(), Error> {
+        self.mark = Mark::NEVER;
+        self.mark = client.read_marked(handle, &mut self.content)?;
+        Ok(())
+    }
 }
 
 /// Reads the files of a client for one thread, as [`Client::read_into`] does: what its cache answers without a lock and without a
@@ -37,7 +46,8 @@ struct Kept {
 #[derive(Debug)]
 pub struct Viewer<C: Deref<Target = Client>> {
     client: C,
-    kept: HashMap<u64, Kept>,
+    // (a client counts its handles itself, so nobody chooses numbers that hash alike)
+    kept: FxHashMap<u64, Kept>,
 }
 
 impl<C: Deref<Target = Client>> Viewer<C> {
@@ -57,7 +67,7 @@ impl<C: Deref<Target = Client>> Viewer<C> {
     /// ```
     #[must_use]
     pub fn of(client: C) -> Viewer<C> {
-        Viewer { client, kept: HashMap::new() }
+        Viewer { client, kept: FxHashMap::default() }
     }
 
     /// The content of a file, as [`Client::read_into`] reads it.
@@ -79,16 +89,10 @@ impl<C: Deref<Target = Client>> Viewer<C> {
         let number = self.client.own(handle)?;
         // (the clock first: at that moment the client stood as it does when its turns are read)
         let now = clock::now();
-        if !self.kept.get(&number).is_some_and(|kept| self.client.stands_as(kept.mark, now)) {
-            self.read_again(handle, number)?;
+        let kept = self.kept.entry(number).or_default();
+        if !self.client.stands_as(kept.mark, now) {
+            kept.read_again(&self.client, handle)?;
         }
-        Ok(&self.kept[&number].content)
-    }
-
-    fn read_again(&mut self, handle: Handle, number: u64) -> Result<(), Error> {
-        let mut content = self.kept.remove(&number).map(|kept| kept.content).unwrap_or_default();
-        let mark = self.client.read_marked(handle, &mut content)?;
-        self.kept.insert(number, Kept { mark, content });
-        Ok(())
+        Ok(&kept.content)
     }
 }

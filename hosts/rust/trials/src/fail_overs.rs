@@ -1,15 +1,14 @@
 //! What clients notice of a fail-over, and how long a client that doesn't let go is waited for.
 
-use crate::calls::{ask, call, handle, open_call, read_call};
 use crate::far::far_from;
-use crate::plain::{BEAT, Plain, again, message, new, start as start_of, start_numbered};
+use crate::plain::{Plain, Talker, again, new};
 use crate::servers::{Kill, Start, folder};
 use std::io;
 use std::net::Shutdown;
 use std::sync::atomic::{AtomicBool, Ordering};
 use std::thread;
 use std::time::{Duration, Instant};
-use tillermoss::{Client, Create, Error, Event, Events, Handle, LockMode, Mode, Opening, Options, Refusal, Watch};
+use tillermoss::{Bare, Client, Create, Error, Event, Events, Handle, LockMode, Mode, Opening, Options, Refusal, Watch};
 
 /// So long clients do nothing before their server goes: then their Beats wait for answers.
 const QUIET: Duration = Duration::from_secs(5);
@@ -136,24 +135,24 @@ pub fn start_behind_clients_that_left(clients: usize) -> Result<Duration, Error>
     Ok(answered)
 }
 
-// Sends these, each with the next number, until it is over. What the master sends is read, or the connection would be cut off.
-fn send_on(mut connection: Plain, each: impl Fn(u64) -> Vec<u8>, is_over: &AtomicBool) -> io::Result<()> {
-    let mut heard = connection.stream.try_clone()?;
+// Beats, each time with the next number, until it is over. What the master sends is read, or the connection would be cut off; but the
+// client isn't given it.
+fn beat_on(mut talker: Talker, is_over: &AtomicBool) -> io::Result<()> {
+    let mut heard = talker.connection.stream.try_clone()?;
     thread::spawn(move || io::copy(&mut heard, &mut io::sink()));
-    let mut number = 1;
     while !is_over.load(Ordering::Relaxed) {
-        number += 1;
-        connection.send(&each(number))?;
+        let beat = talker.beat().ok_or_else(|| io::Error::other("the client's session is lost"))?;
+        talker.connection.send(&beat)?;
         thread::sleep(PACE);
     }
-    connection.stream.shutdown(Shutdown::Both)
+    talker.connection.stream.shutdown(Shutdown::Both)
 }
 
-// How long a write lasts beside a client that sends these.
-fn write_beside(writer: &Client, file: Handle, connection: Plain, each: impl Fn(u64) -> Vec<u8> + Send) -> Result<Duration, Error> {
+// How long a write lasts beside a client that beats, and is told nothing.
+fn write_beside(writer: &Client, file: Handle, talker: Talker) -> Result<Duration, Error> {
     let is_over = AtomicBool::new(false);
     thread::scope(|scope| {
-        let sending = scope.spawn(|| send_on(connection, each, &is_over));
+        let sending = scope.spawn(|| beat_on(talker, &is_over));
         let begun = Instant::now();
         let written = write(writer, file);
         let waited = begun.elapsed();
@@ -163,23 +162,17 @@ fn write_beside(writer: &Client, file: Handle, connection: Plain, each: impl Fn(
     })
 }
 
-// A Beat that acknowledges nothing.
-fn idle_beat(client: u64, epoch: u64, number: u64) -> Vec<u8> {
-    message(BEAT, &[client, epoch, number, 0, 0], b"")
-}
-
-// How long a write waits for a client of bob's that has the file in its cache, and from then on sends these, by its number, the epoch and
-// the number of the message; under this lease in milliseconds.
-fn write_beside_one_that_cached(lease: u64, each: fn(u64, u64, u64) -> Vec<u8>) -> Result<Duration, Error> {
+// How long a write waits for a client of bob's that has the file in its cache, and from then on beats as this client does, which is made
+// of it, and is told nothing; under this lease in milliseconds.
+fn write_beside_one_that_cached(lease: u64, beats: fn(Bare) -> Result<Bare, Error>) -> Result<Duration, Error> {
     let folder = folder("keeps");
     let server = Start::new(&folder.join("store.db")).settings(&format!("lease = {lease}\n")).start()?;
     let writer = Client::connect(&Options { patience: PATIENCE, ..Options::new(&server.address, "ann") })?;
     let file = writer.create("/ls/c/f", b"")?;
-    let (mut connection, client, epoch) = Plain::begin(server.place(), "bob")?;
-    let opened = ask(&mut connection, &call(client, epoch, 1, &open_call("/ls/c/f", b"")));
-    let opened = opened.as_deref().and_then(handle).ok_or_else(|| Error::Malformed("an opened file".to_owned()))?;
-    ask(&mut connection, &call(client, epoch, 2, &read_call(&opened)));
-    let waited = write_beside(&writer, file, connection, move |number| each(client, epoch, number))?;
+    let mut talker = Plain::begin(server.place(), "bob")?;
+    let opened = talker.open("/ls/c/f", b"").ok_or_else(|| Error::Malformed("an opened file".to_owned()))?;
+    talker.read(opened);
+    let waited = write_beside(&writer, file, Talker { client: beats(talker.client)?, ..talker })?;
     std::fs::remove_dir_all(folder)?;
     Ok(waited)
 }
@@ -190,7 +183,7 @@ fn write_beside_one_that_cached(lease: u64, each: fn(u64, u64, u64) -> Vec<u8>) 
 ///
 /// As `fail_over`.
 pub fn write_beside_one_that_keeps(lease: u64) -> Result<Duration, Error> {
-    write_beside_one_that_cached(lease, idle_beat)
+    write_beside_one_that_cached(lease, Ok)
 }
 
 /// The same for one that doesn't beat, and sends Starts of its session, which lives.
@@ -199,7 +192,12 @@ pub fn write_beside_one_that_keeps(lease: u64) -> Result<Duration, Error> {
 ///
 /// As `fail_over`.
 pub fn write_beside_one_that_starts(lease: u64) -> Result<Duration, Error> {
-    write_beside_one_that_cached(lease, |client, _epoch, number| start_numbered(client, number, "bob"))
+    write_beside_one_that_cached(lease, |client| {
+        let mut starting = Bare::new(client.number(), "bob")?;
+        // (the first was sent before)
+        starting.beat(0);
+        Ok(starting)
+    })
 }
 
 /// How long a write waits behind a new master for a client that beats there, and never acknowledges that it is another; under this lease
@@ -214,15 +212,18 @@ pub fn write_beside_one_that_stays_behind(lease: u64) -> Result<Duration, Error>
     let mut server = start.start()?;
     let writer = Client::connect(&Options { patience: PATIENCE, ..Options::new(&server.address, "ann") })?;
     let file = writer.create("/ls/c/f", b"")?;
-    let (mut connection, welcome) = Plain::greet(server.place(), &new("bob"))?;
+    let (connection, welcome) = Plain::greet(server.place(), &new("bob"))?;
     let welcome = welcome.map_err(Error::TurnedAway)?;
-    connection.send(&start_of(welcome.client, "bob"))?;
-    connection.next_block();
+    let mut talker = Talker { connection, client: Bare::new(welcome.client, "bob")? };
+    let begins = talker.beat();
+    talker.ask(begins);
     server.kill(Kill::InOrder)?;
     let server = start.with(&[&server.address]).start()?;
-    let (connection, _) = Plain::greet(server.place(), &again("bob", welcome))?;
-    // (the second master of a store has the second epoch)
-    let waited = write_beside(&writer, file, connection, |number| idle_beat(welcome.client, 2, number))?;
+    talker.connection = Plain::greet(server.place(), &again("bob", welcome))?.0;
+    // (it is told of the second epoch, and of nothing else)
+    let beat = talker.beat();
+    talker.ask(beat);
+    let waited = write_beside(&writer, file, talker)?;
     std::fs::remove_dir_all(folder)?;
     Ok(waited)
 }

@@ -1,18 +1,17 @@
 //! What server, clients and command line are tested with.
 
-mod calls;
 mod disks;
 mod fail_overs;
 mod far;
 mod history;
 mod holds;
+mod masters;
 mod plain;
 mod proxy;
 mod relay;
 mod servers;
 mod workers;
 
-pub use calls::{ask, call, forged, handle, open_call, read_call, set_call};
 pub use disks::{Filled, fill};
 pub use fail_overs::{
     Noticed, fail_over, start_behind_clients_that_left, write_beside_one_that_keeps, write_beside_one_that_starts,
@@ -21,7 +20,8 @@ pub use fail_overs::{
 pub use far::far_from;
 pub use history::{Read, Write, check_history};
 pub use holds::{Hold, check_holds};
-pub use plain::{Plain, again, message, new, start, start_numbered};
+pub use masters::{Master, forged, messages, opening};
+pub use plain::{Plain, Talker, again, answer, new, start};
 pub use proxy::{Counts, Proxy};
 pub use relay::{Passing, Relay};
 pub use servers::{Kill, Server, Start, certificates, folder, master_program, program, server_of_its_own, with_client};

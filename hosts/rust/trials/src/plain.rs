@@ -1,23 +1,11 @@
-//! Connections by bytes, without the client library. An attacker lays its messages out by itself: no library writes what it sends.
+//! Connections by bytes, without the client library's own.
 
-use host_wire::{Blocks, Hello, TurnedAway, Welcome, write_block};
+use crate::masters::opening;
+use host_wire::{Answer, Asked, Blocks, Hello, Said, TurnedAway, Welcome, write_block, write_store_refused};
 use std::io::{self, Write};
 use std::net::TcpStream;
 use std::time::Duration;
-
-/// The version of messages.
-const VERSION: u8 = 2;
-
-/// The kinds of a client's messages.
-const START: u8 = 0;
-pub(crate) const BEAT: u8 = 1;
-pub(crate) const CALL: u8 = 2;
-
-/// The kinds of a master's messages; and of the results of calls that of a refusal.
-const STARTED: u8 = 0;
-pub(crate) const REPLY: u8 = 2;
-pub(crate) const REFUSED: u8 = 3;
-pub(crate) const REFUSAL: u8 = 7;
+use tillermoss::Bare;
 
 /// A connection to a server at `tcp:`.
 #[derive(Debug)]
@@ -63,19 +51,22 @@ impl Plain {
         Ok((connection, answer))
     }
 
-    /// Greets as a new client for this principal, and begins a session; gives its number and the epoch.
+    /// Greets as a new client for this principal, and begins a session.
     ///
     /// # Errors
     ///
     /// As `greet`, and where it is turned away or gets no session.
-    pub fn begin(place: &str, principal: &str) -> io::Result<(Plain, u64, u64)> {
-        let (mut connection, welcome) = Plain::greet(place, &new(principal))?;
-        let client = welcome.map_err(|reason| io::Error::other(reason.to_string()))?.client;
-        connection.send(&start(client, principal))?;
-        let started = connection.next_block().filter(|block| block.starts_with(&[VERSION, STARTED]));
-        let started = started.ok_or_else(|| io::Error::other("no session began"))?;
-        let epoch = started[10..18].try_into().map_or(0, u64::from_be_bytes);
-        Ok((connection, client, epoch))
+    pub fn begin(place: &str, principal: &str) -> io::Result<Talker> {
+        let (connection, welcome) = Plain::greet(place, &new(principal))?;
+        let number = welcome.map_err(|reason| io::Error::other(reason.to_string()))?.client;
+        let client = Bare::new(number, principal).map_err(|error| io::Error::other(error.to_string()))?;
+        let mut talker = Talker { connection, client };
+        let start = talker.client.beat(NOW);
+        talker.ask(start);
+        if talker.client.leased_until() == 0 {
+            return Err(io::Error::other("no session began"));
+        }
+        Ok(talker)
     }
 
     /// Sends a block.
@@ -125,24 +116,82 @@ pub fn again(principal: &str, welcome: Welcome) -> Hello {
     Hello::Again { principal: principal.to_owned(), client: welcome.client, token: welcome.token }
 }
 
-/// The bytes of a message, of its kind, words, and what stands behind.
-#[must_use]
-pub fn message(kind: u8, words: &[u64], rest: &[u8]) -> Vec<u8> {
-    let mut out = vec![VERSION, kind];
-    out.extend(words.iter().flat_map(|word| word.to_be_bytes()));
-    out.extend_from_slice(rest);
-    out
+/// A client whose clock stands still, and its connection. It says what it is told to, and nothing by itself.
+#[derive(Debug)]
+pub struct Talker {
+    /// What goes both ways.
+    pub connection: Plain,
+    /// What it says is its own: no message is laid out here.
+    pub client: Bare,
 }
 
-/// The bytes of a client's first Start.
+/// The moment at which it stands.
+const NOW: u64 = 0;
+
+impl Talker {
+    /// Its next Start or Beat.
+    pub fn beat(&mut self) -> Option<Vec<u8>> {
+        self.client.beat(NOW)
+    }
+
+    /// The call to read by a handle.
+    pub fn read_call(&mut self, handle: u64) -> Option<Vec<u8>> {
+        self.client.read(NOW, handle)
+    }
+
+    /// Sends a message of its own, and gives the client what comes until that is answered; the answer. None where there was nothing to
+    /// send, and where the connection ended.
+    pub fn ask(&mut self, message: Option<Vec<u8>>) -> Option<Answer> {
+        self.told(message).map(|(answer, _)| answer)
+    }
+
+    // The same, with the handle that was opened.
+    fn told(&mut self, message: Option<Vec<u8>>) -> Option<(Answer, Option<u64>)> {
+        let message = message?;
+        let number = Asked::read(&message)?.number();
+        self.connection.send(&message).ok()?;
+        loop {
+            let block = self.connection.next_block()?;
+            let opened = self.client.give(NOW, &block);
+            match Said::read(&block) {
+                Some(said) if said.number == number => return Some((said.answer, opened)),
+                _ => {}
+            }
+        }
+    }
+
+    /// Opens a file to read and to write, which is made with this content where there is none; its handle.
+    pub fn open(&mut self, name: &str, content: &[u8]) -> Option<u64> {
+        let open = self.client.open(NOW, &opening(name, content));
+        self.told(open)?.1
+    }
+
+    /// Reads by a handle; what is answered.
+    pub fn read(&mut self, handle: u64) -> Option<Answer> {
+        let read = self.read_call(handle);
+        self.ask(read)
+    }
+
+    /// Ends the outstanding call as if it had been refused, whatever the master says to it later.
+    pub fn forget(&mut self, call: &[u8]) {
+        let refused = Asked::read(call).and_then(|call| write_store_refused(self.client.number(), call.epoch(), call.number()));
+        if let Some(refused) = refused {
+            self.client.give(NOW, &refused);
+        }
+    }
+}
+
+/// What the server sends next for the master, read; None where it ended the connection, or that is none.
+pub fn answer(connection: &mut Plain) -> Option<Answer> {
+    Said::read(&connection.next_block()?).map(|said| said.answer)
+}
+
+/// A client's first Start.
+///
+/// # Panics
+///
+/// Where there is no such client.
 #[must_use]
 pub fn start(client: u64, principal: &str) -> Vec<u8> {
-    start_numbered(client, 1, principal)
-}
-
-/// The bytes of a Start of this number.
-#[must_use]
-pub fn start_numbered(client: u64, number: u64, principal: &str) -> Vec<u8> {
-    let length = [0, 0, 0, principal.len() as u8];
-    message(START, &[client, number], &[&length[..], principal.as_bytes()].concat())
+    Bare::new(client, principal).ok().and_then(|mut client| client.beat(NOW)).expect("a client begins by a Start")
 }

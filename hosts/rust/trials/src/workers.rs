@@ -165,7 +165,9 @@ impl Worker {
             Ok(()) => {
                 let begin = self.now();
                 let sequencer = self.client.sequencer(self.lock)?;
-                let generation = sequencer[10..18].try_into().map_or(0, u64::from_be_bytes);
+                let generation = self.client.stat(self.lock)?.lock_generation.unwrap_or(0);
+                // (held still, so that generation is its own)
+                self.client.check_sequencer(&sequencer)?;
                 thread::sleep(Duration::from_millis(self.random.gen_range(0..5)));
                 self.deeds.holds.push(Hold { client: self.client.number(), begin, end: self.now(), generation });
             }

@@ -1,11 +1,12 @@
 //! The calls of a client, each with a server.
 
+use host_wire::Answer;
 use std::path::PathBuf;
 use std::sync::atomic::{AtomicU64, Ordering};
 use std::thread;
 use std::time::{Duration, Instant};
 use tillermoss::{Client, Create, Error, Event, Events, Handle, Kind, Life, LockMode, Mode, Opening, Options, Refusal, Right};
-use trials::{Kill, Plain, Server, ask, call, folder, handle, open_call, read_call};
+use trials::{Kill, Plain, Server, folder};
 
 const BOTH: Mode = Mode::READ.and(Mode::WRITE);
 
@@ -257,9 +258,9 @@ fn one_that_is_killed_is_waited_for_until_its_time_is_up() {
     let cell = Cell::new("killed");
     let client = cell.client("ann");
     let file = client.create("/ls/c/f", b"old").unwrap();
-    let (mut other, number, epoch) = Plain::begin(cell.server.place(), "bob").unwrap();
-    let opened = ask(&mut other, &call(number, epoch, 1, &open_call("/ls/c/f", b""))).unwrap();
-    assert_eq!(ask(&mut other, &call(number, epoch, 2, &read_call(&handle(&opened).unwrap()))).unwrap()[0], 2);
+    let mut other = Plain::begin(cell.server.place(), "bob").unwrap();
+    let opened = other.open("/ls/c/f", b"").unwrap();
+    assert_eq!(other.read(opened), Some(Answer::Reply(None)));
     drop(other);
     let begun = Instant::now();
     client.set(file, b"new", None).unwrap();
@@ -286,10 +287,9 @@ fn to_open_what_may_be_made_waits_for_nobody_where_it_is_there() {
     let cell = Cell::new("may-make");
     let client = cell.client("ann");
     client.create("/ls/c/f", b"kept").unwrap();
-    let (mut other, number, epoch) = Plain::begin(cell.server.place(), "bob").unwrap();
-    let opened = ask(&mut other, &call(number, epoch, 1, &open_call("/ls/c/f", b""))).unwrap();
-    let view = ask(&mut other, &call(number, epoch, 2, &read_call(&handle(&opened).unwrap()))).unwrap();
-    assert_eq!(view[0], 2);
+    let mut other = Plain::begin(cell.server.place(), "bob").unwrap();
+    let opened = other.open("/ls/c/f", b"").unwrap();
+    assert_eq!(other.read(opened), Some(Answer::Reply(None)));
     let create = Create { content: Some(Vec::new()), ..Create::default() };
     let opening = |name| Opening { create: Some(create.clone()), ..Opening::new(name, BOTH) };
     let begun = Instant::now();

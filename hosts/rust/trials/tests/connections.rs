@@ -1,12 +1,8 @@
 //! To whom the server binds a connection, and what ends it: by bytes, without the client library.
 
-use host_wire::{Hello, TurnedAway, Welcome};
+use host_wire::{Answer, Hello, TurnedAway, Welcome};
 use std::path::Path;
-use trials::{Kill, Plain, Server, again, folder, message, new, start};
-
-/// The kinds of messages.
-const STARTED: u8 = 0;
-const REFUSED: u8 = 3;
+use trials::{Kill, Master, Plain, Server, again, answer, folder, messages, new, start};
 
 fn greeted(server: &Server, hello: &Hello) -> (Plain, Result<Welcome, TurnedAway>) {
     Plain::greet(server.place(), hello).unwrap()
@@ -58,21 +54,29 @@ fn a_connection_carries_its_own_client_alone() {
     let (mut connection, welcome) = greeted(&server, &new("ann"));
     let client = welcome.unwrap().client;
     connection.send(&start(client, "ann")).unwrap();
-    assert_eq!(connection.next_block().unwrap()[..2], [2, STARTED]);
-    // (a Beat of no epoch is refused)
-    connection.send(&message(1, &[client, 9, 2, 0, 0], b"")).unwrap();
-    assert_eq!(connection.next_block().unwrap()[..2], [2, REFUSED]);
+    let started = connection.next_block().unwrap();
+    assert!(matches!(host_wire::Said::read(&started).unwrap().answer, Answer::Started(_)));
+    // (28: a Beat of no epoch)
+    let beat = Master::of_epoch(9).unwrap().client(client, "ann").unwrap().beat(0).unwrap();
+    connection.send(&beat).unwrap();
+    assert_eq!(answer(&mut connection), Some(Answer::Refused(28)));
 
+    let mut master = Master::start().unwrap();
+    let [_, own, _] = messages(&mut master, client, "ann").unwrap();
+    let [other_start, other_beat, other_call] = messages(&mut master, client + 1, "ann").unwrap();
+    let own_start = start(client, "ann");
     let others = [
-        start(client + 1, "ann"),
+        other_start,
         start(client, "bob"),
-        message(1, &[client + 1, 1, 2, 0, 0], b""),
-        message(2, &[client + 1, 1, 1], b"\x0d\0\0\0\x01a\0"),
-        message(3, &[client + 1, 1, 2, 0, 0], b""),
-        message(4, &[client, 1, 2, 0, 0], b""),
-        start(client, "ann")[..20].to_vec(),
-        b"\x02\x01".to_vec(),
-        [vec![1], message(1, &[client, 1, 2, 0, 0], b"")[1..].to_vec()].concat(),
+        other_beat,
+        other_call,
+        // (what a master says)
+        started,
+        own_start[..own_start.len() - 1].to_vec(),
+        own[..own.len() - 1].to_vec(),
+        own[..2].to_vec(),
+        [&own[..], b"a"].concat(),
+        [&[1], &own[1..]].concat(),
         Vec::new(),
     ];
     for other in others {
@@ -91,7 +95,7 @@ fn a_later_connection_ends_an_earlier_one() {
     let (mut later, _) = greeted(&server, &again("ann", welcome.unwrap()));
     assert_eq!(earlier.next_block(), None);
     later.send(&start(welcome.unwrap().client, "ann")).unwrap();
-    assert_eq!(later.next_block().unwrap()[..2], [2, STARTED]);
+    assert!(matches!(answer(&mut later), Some(Answer::Started(_))));
     std::fs::remove_dir_all(folder).unwrap();
 }
 

@@ -121,17 +121,19 @@ impl Found {
         Ok(pairs)
     }
 
-    /// As they are told to a master.
-    pub fn rows(&self) -> Result<Vec<Vec<u8>>> {
+    /// As they are told to a master: how many there are, and their bytes.
+    pub fn rows(&self) -> Result<(usize, Vec<u8>)> {
         let mut rows = Vec::new();
         for (name, node) in &self.nodes {
-            rows.push(node.write(name, self.generations.get(name).copied().unwrap_or(0))?);
+            rows.extend(node.row(name, self.generations.get(name).copied().unwrap_or(0))?);
         }
-        rows.extend(self.sessions.iter().map(|(client, session)| session.write(*client)));
+        for (client, session) in &self.sessions {
+            rows.extend(session.row(*client)?);
+        }
         for (key, lock) in &self.locks {
-            rows.push(lock.write(*key)?);
+            rows.extend(lock.row(*key)?);
         }
-        Ok(rows)
+        Ok((self.nodes.len() + self.sessions.len() + self.locks.len(), rows))
     }
 
     /// The instance of each node.

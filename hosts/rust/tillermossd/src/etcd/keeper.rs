@@ -3,8 +3,9 @@
 use crate::etcd::found::{Found, lock_key};
 use crate::etcd::gateway::{Compare, Deed, Gateway, Lost};
 use crate::etcd::mastership::Mastership;
-use crate::etcd::rows::{Asked, Edit, Meta, told, verdict};
+use crate::etcd::rows::{Answer, Lock, Meta, Node, Session};
 use anyhow::{Context, Result, bail};
+use host_wire::rows::{Edit, Question};
 use std::collections::{BTreeMap, BTreeSet, HashMap};
 use std::sync::Arc;
 use std::thread;
@@ -68,7 +69,8 @@ impl Change {
             Edit::NextInstance(next) => self.meta.next_instance = *next,
             Edit::PutNode(name, node) => {
                 self.nodes.push((name.clone(), Some(node.instance)));
-                self.put(format!("nodes{name}"), Some(serde_json::to_vec(node)?));
+                let node = Node::of(node).context("a node that isn't understood")?;
+                self.put(format!("nodes{name}"), Some(serde_json::to_vec(&node)?));
             }
             Edit::LockGeneration(name, generation) => {
                 if self.instance(known, name).is_some() {
@@ -76,8 +78,11 @@ impl Change {
                 }
             }
             Edit::RemoveNode(name) => self.remove(known, name),
-            Edit::PutSession(client, session) => self.put(format!("sessions/{client}"), Some(serde_json::to_vec(session)?)),
-            Edit::PutLock(key, lock) => self.put(lock_key(*key), Some(serde_json::to_vec(lock)?)),
+            Edit::PutSession(client, session) => self.put(format!("sessions/{client}"), Some(serde_json::to_vec(&Session::of(session))?)),
+            Edit::PutLock(key, lock) => {
+                let lock = Lock::of(*lock).context("a lock that isn't understood")?;
+                self.put(lock_key(*key), Some(serde_json::to_vec(&lock)?));
+            }
             Edit::RemoveLock(key) => self.put(lock_key(*key), None),
         }
         Ok(())
@@ -118,18 +123,19 @@ impl Keeper {
     }
 
     /// What is answered to the bytes of a question; or why nothing is answered any more.
-    pub fn answer(&mut self, block: &[u8]) -> Result<Vec<u8>> {
-        match Asked::read(block)? {
-            Asked::Load => self.load(),
-            Asked::Commit(number, edits) => Ok(verdict(self.commit(number, &edits)?)),
+    pub fn answer(&mut self, block: &[u8]) -> Result<Answer> {
+        match Question::read(block).context("the master asks what isn't understood")? {
+            Question::Load => self.load(),
+            Question::Commit(number, edits) => Ok(Answer::Verdict(self.commit(number, &edits)?)),
         }
     }
 
     // All rows at one revision.
-    fn load(&mut self) -> Result<Vec<u8>> {
+    fn load(&mut self) -> Result<Answer> {
         let found = Found::read(&self.gateway, &self.prefix)?;
         let (meta, changed) = found.meta.clone().with_context(|| format!("{}meta isn't there: no cell stands there", self.prefix))?;
-        let told = told(&meta, &found.rows()?)?;
+        let (count, rows) = found.rows()?;
+        let told = Answer::rows(&meta, count, rows)?;
         self.known = Some(Known { meta, changed, instances: found.instances() });
         self.mastership.check()?;
         Ok(told)
@@ -218,7 +224,7 @@ mod tests {
     use crate::etcd::mastership::Seat;
     use crate::etcd::pretended::{Pretended, Way};
 
-    const META: &str = r#"{"cell":"c","secret":"00","epoch":1,"next_instance":4,"number":0,"by":0}"#;
+    const META: &str = r#"{"cell":"c","secret":"0000000000000000000000000000000000000000000000000000000000000000","epoch":1,"next_instance":4,"number":0,"by":0}"#;
 
     // A keeper that has loaded the rows of a new cell.
     fn keeper(etcd: &Pretended) -> Keeper {
@@ -227,12 +233,12 @@ mod tests {
         let seat = Seat { address: String::new(), server: "first".to_owned() };
         let mastership = Mastership::wait(&gateway, "c/", &seat, 60, |_| {});
         let mut keeper = Keeper::new(gateway, "c/", mastership);
-        keeper.answer(&[2, 0]).unwrap();
+        keeper.load().unwrap();
         keeper
     }
 
     fn edits() -> Vec<Edit> {
-        vec![Edit::Epoch(2), Edit::PutSession(7, crate::etcd::rows::Session { principal: "ann".to_owned(), live: true })]
+        vec![Edit::Epoch(2), Edit::PutSession(7, host_wire::rows::Session { principal: "ann".to_owned(), is_live: true })]
     }
 
     // The number of the last commit that stands, and whether its session does.

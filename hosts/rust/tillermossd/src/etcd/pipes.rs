@@ -1,12 +1,14 @@
 //! Two named pipes to a master: what it asks in one, what is answered in the other.
 
 use crate::etcd::keeper::Keeper;
-use crate::etcd::rows::verdict;
-use anyhow::{Result, bail};
+use crate::etcd::rows::Answer;
+use anyhow::{Context, Result};
+use host_wire::rows::write_verdict;
+use host_wire::{ANSWER_LIMIT, Blocks};
 use nix::sys::stat::Mode;
 use nix::unistd::mkfifo;
 use std::fs::File;
-use std::io::{ErrorKind, Read, Write};
+use std::io::Write;
 use std::path::Path;
 use std::sync::Arc;
 use std::sync::atomic::{AtomicBool, Ordering};
@@ -48,12 +50,13 @@ pub fn keep(mut keeper: Keeper) -> Result<Kept> {
     }
     let kept = Kept { folder, has_ended: Arc::default() };
     let (path, has_ended) = (kept.folder().to_owned(), kept.has_ended.clone());
-    thread::spawn(move || {
-        match serve(&mut keeper, &path, &has_ended) {
-            Ok(()) => debug!("the master asks no more"),
-            Err(fault) => error!(reason = %format_args!("{fault:#}"), "the rows are kept no more"),
+    thread::spawn(move || match serve(&mut keeper, &path, &has_ended) {
+        // (one that goes in order is gone before all that it told is heard)
+        Ok(()) => debug!("the master asks no more"),
+        Err(fault) => {
+            error!(reason = %format_args!("{fault:#}"), "the rows are kept no more");
+            has_ended.store(true, Ordering::SeqCst);
         }
-        has_ended.store(true, Ordering::SeqCst);
     });
     Ok(kept)
 }
@@ -62,30 +65,19 @@ pub fn keep(mut keeper: Keeper) -> Result<Kept> {
 fn serve(keeper: &mut Keeper, folder: &Path, has_ended: &AtomicBool) -> Result<()> {
     let mut asked = File::open(folder.join(ASKED))?;
     let mut answered = File::options().write(true).open(folder.join(ANSWERED))?;
-    while let Some(block) = next(&mut asked)? {
+    let mut blocks = Blocks::new(ANSWER_LIMIT);
+    while let Some(block) = blocks.next(&mut asked)? {
         let answer = keeper.answer(&block);
-        if answer.as_ref().map_or(true, |answer| *answer == verdict(false)) {
+        if matches!(answer, Err(_) | Ok(Answer::Verdict(false))) {
             has_ended.store(true, Ordering::SeqCst);
         }
-        let answer = answer?;
-        answered.write_all(&u32::try_from(answer.len())?.to_be_bytes())?;
-        answered.write_all(&answer)?;
+        match answer? {
+            Answer::Rows(front, rows) => {
+                answered.write_all(&front)?;
+                answered.write_all(&rows)?;
+            }
+            Answer::Verdict(is_kept) => answered.write_all(&write_verdict(is_kept).context("memory is wanting")?)?,
+        }
     }
     Ok(())
-}
-
-// The next block; none where the master is gone.
-fn next(asked: &mut File) -> Result<Option<Vec<u8>>> {
-    let mut head = [0; 4];
-    match asked.read_exact(&mut head) {
-        Ok(()) => {}
-        Err(error) if error.kind() == ErrorKind::UnexpectedEof => return Ok(None),
-        Err(error) => return Err(error.into()),
-    }
-    let length = u64::from(u32::from_be_bytes(head));
-    let mut block = Vec::new();
-    if asked.take(length).read_to_end(&mut block)? as u64 != length {
-        bail!("the master ended within a question");
-    }
-    Ok(Some(block))
 }

@@ -1,19 +1,8 @@
-//! The rows as a master tells its edits of them, as it is told them, and as they stand in etcd: docs/FORMATS.md has the frames,
-//! docs/BEYOND_ONE_MACHINE.md the keys.
+//! The rows as they stand in etcd, and what a master asks and is told of them: docs/BEYOND_ONE_MACHINE.md has the keys.
 
-use anyhow::{Context, Result, bail};
-use host_wire::Fields;
+use anyhow::{Context, Result};
+use host_wire::rows::{self, Own};
 use serde::{Deserialize, Serialize};
-
-/// The version of frames.
-const VERSION: u8 = 2;
-
-/// The kinds of what is asked, and of what is answered.
-const LOAD: u8 = 0;
-const COMMIT: u8 = 1;
-const ROWS: u8 = 0;
-const KEPT: u8 = 1;
-const REFUSED: u8 = 2;
 
 /// The words of choices, each at its place.
 pub const KINDS: [&str; 2] = ["file", "dir"];
@@ -93,60 +82,15 @@ pub struct Meta {
 /// The key of a lock's row.
 pub type LockKey = (u64, u64, u64);
 
-/// One edit.
-#[derive(Clone, Debug, PartialEq, Eq)]
-pub enum Edit {
-    /// How many masters came up.
-    Epoch(u64),
-    /// The instance of the next node.
-    NextInstance(u64),
-    /// A node at a name.
-    PutNode(String, Node),
-    /// The generation of the lock of the node at a name.
-    LockGeneration(String, u64),
-    /// The node at a name goes, with its locks.
-    RemoveNode(String),
-    /// The session of a client.
-    PutSession(u64, Session),
-    /// A row of a lock.
-    PutLock(LockKey, Lock),
-    /// It goes.
-    RemoveLock(LockKey),
-}
-
-/// What the master asks.
-#[derive(Clone, Debug, PartialEq, Eq)]
-pub enum Asked {
-    /// All rows.
-    Load,
-    /// That these edits be done, as the commit of this number.
-    Commit(u64, Vec<Edit>),
-}
-
 /// One of a list of words, by its place.
-pub fn chosen(words: &[&str], place: u8) -> Option<String> {
-    words.get(usize::from(place)).map(|word| (*word).to_owned())
+pub fn chosen(words: &[&str], place: u32) -> Option<String> {
+    words.get(place as usize).map(|word| (*word).to_owned())
 }
 
 /// The place of a word in its list.
-pub fn place(words: &[&str], word: &str) -> Result<u8> {
+pub fn place(words: &[&str], word: &str) -> Result<u32> {
     let at = words.iter().position(|known| *known == word).with_context(|| format!("{word} is none of {words:?}"))?;
-    Ok(at as u8)
-}
-
-fn text(fields: &mut Fields) -> Option<String> {
-    String::from_utf8(fields.bytes()?.to_vec()).ok()
-}
-
-fn put_bytes(out: &mut Vec<u8>, bytes: &[u8]) {
-    out.extend_from_slice(&(bytes.len() as u32).to_be_bytes());
-    out.extend_from_slice(bytes);
-}
-
-fn put_words(out: &mut Vec<u8>, words: &[u64]) {
-    for word in words {
-        out.extend_from_slice(&word.to_be_bytes());
-    }
+    Ok(at as u32)
 }
 
 impl Content {
@@ -169,145 +113,85 @@ impl Content {
 }
 
 impl Node {
-    fn read(fields: &mut Fields) -> Option<Node> {
+    /// That of a master; None of one that isn't understood.
+    pub fn of(node: &rows::Node) -> Option<Node> {
+        let [read, write, change] = node.acl.clone();
         Some(Node {
-            kind: chosen(&KINDS, fields.byte()?)?,
-            instance: fields.word()?,
-            content_generation: fields.word()?,
-            acl_generation: fields.word()?,
-            read: text(fields)?,
-            write: text(fields)?,
-            change: text(fields)?,
-            life: chosen(&LIVES, fields.byte()?)?,
-            content: Content::of(fields.bytes()?),
+            kind: chosen(&KINDS, node.kind)?,
+            instance: node.instance,
+            content_generation: node.content_generation,
+            acl_generation: node.acl_generation,
+            read,
+            write,
+            change,
+            life: chosen(&LIVES, node.life)?,
+            content: Content::of(&node.content),
         })
     }
 
     /// A row that a master is told.
-    pub fn write(&self, name: &str, lock_generation: u64) -> Result<Vec<u8>> {
-        let mut out = vec![0];
-        put_bytes(&mut out, name.as_bytes());
-        out.push(place(&KINDS, &self.kind)?);
-        put_words(&mut out, &[self.instance, self.content_generation, self.acl_generation]);
-        for acl in [&self.read, &self.write, &self.change] {
-            put_bytes(&mut out, acl.as_bytes());
-        }
-        out.push(place(&LIVES, &self.life)?);
-        put_bytes(&mut out, &self.content.bytes()?);
-        put_words(&mut out, &[lock_generation]);
-        Ok(out)
+    pub fn row(&self, name: &str, lock_generation: u64) -> Result<Vec<u8>> {
+        let node = rows::Node {
+            kind: place(&KINDS, &self.kind)?,
+            life: place(&LIVES, &self.life)?,
+            instance: self.instance,
+            content_generation: self.content_generation,
+            acl_generation: self.acl_generation,
+            acl: [&self.read, &self.write, &self.change].map(Clone::clone),
+            content: self.content.bytes()?,
+        };
+        node.row(name, lock_generation).with_context(|| format!("the node at {name} can't be told"))
     }
 }
 
 impl Session {
-    fn read(fields: &mut Fields) -> Option<Session> {
-        Some(Session { principal: text(fields)?, live: fields.byte()? == 1 })
+    /// That of a master.
+    pub fn of(session: &rows::Session) -> Session {
+        Session { principal: session.principal.clone(), live: session.is_live }
     }
 
     /// A row that a master is told.
-    #[must_use]
-    pub fn write(&self, client: u64) -> Vec<u8> {
-        let mut out = vec![1];
-        put_words(&mut out, &[client]);
-        put_bytes(&mut out, self.principal.as_bytes());
-        out.push(u8::from(self.live));
-        out
+    pub fn row(&self, client: u64) -> Result<Vec<u8>> {
+        let session = rows::Session { principal: self.principal.clone(), is_live: self.live };
+        session.row(client).with_context(|| format!("the session of {client} can't be told"))
     }
 }
 
 impl Lock {
-    fn read(fields: &mut Fields) -> Option<Lock> {
-        Some(Lock { state: chosen(&STATES, fields.byte()?)?, delay: fields.word()? })
+    /// That of a master; None of one that isn't understood.
+    pub fn of(lock: rows::Lock) -> Option<Lock> {
+        Some(Lock { state: chosen(&STATES, lock.state)?, delay: lock.delay })
     }
 
     /// A row that a master is told.
-    pub fn write(&self, key: LockKey) -> Result<Vec<u8>> {
-        let mut out = vec![2];
-        put_words(&mut out, &[key.0, key.1, key.2]);
-        out.push(place(&STATES, &self.state)?);
-        put_words(&mut out, &[self.delay]);
-        Ok(out)
+    pub fn row(&self, key: LockKey) -> Result<Vec<u8>> {
+        let lock = rows::Lock { state: place(&STATES, &self.state)?, delay: self.delay };
+        lock.row(key).with_context(|| format!("the lock {key:?} can't be told"))
     }
 }
 
-fn lock_key(fields: &mut Fields) -> Option<LockKey> {
-    Some((fields.word()?, fields.word()?, fields.word()?))
+/// What a master is answered.
+#[derive(Clone, Debug, PartialEq, Eq)]
+pub enum Answer {
+    /// All rows: what stands in front of them, and their bytes.
+    Rows(Vec<u8>, Vec<u8>),
+    /// Whether a commit stands.
+    Verdict(bool),
 }
 
-fn edit(fields: &mut Fields) -> Option<Edit> {
-    Some(match fields.byte()? {
-        0 => Edit::Epoch(fields.word()?),
-        1 => Edit::NextInstance(fields.word()?),
-        2 => Edit::PutNode(text(fields)?, Node::read(fields)?),
-        3 => Edit::LockGeneration(text(fields)?, fields.word()?),
-        4 => Edit::RemoveNode(text(fields)?),
-        5 => Edit::PutSession(fields.word()?, Session::read(fields)?),
-        6 => Edit::PutLock(lock_key(fields)?, Lock::read(fields)?),
-        7 => Edit::RemoveLock(lock_key(fields)?),
-        _ => return None,
-    })
-}
-
-fn commit(fields: &mut Fields) -> Option<Asked> {
-    let number = fields.word()?;
-    let count = u32::from_be_bytes(fields.take(4)?.try_into().ok()?);
-    let mut edits = Vec::new();
-    for _ in 0..count {
-        edits.push(edit(fields)?);
+impl Answer {
+    /// That these are all rows: so many, and their bytes.
+    pub fn rows(meta: &Meta, count: usize, rows: Vec<u8>) -> Result<Answer> {
+        let secret = hex::decode(&meta.secret)?;
+        let own = Own { number: meta.number, cell: &meta.cell, secret: &secret, epoch: meta.epoch, next_instance: meta.next_instance };
+        let front = own.before(count, rows.len()).context("the rows are more than 4 GiB, or the cell's own row is none")?;
+        Ok(Answer::Rows(front, rows))
     }
-    fields.is_done().then_some(Asked::Commit(number, edits))
-}
-
-impl Asked {
-    /// What is asked, of its bytes without their number in front.
-    pub fn read(block: &[u8]) -> Result<Asked> {
-        let mut fields = Fields(block);
-        let head = (fields.byte(), fields.byte());
-        let asked = match head {
-            (Some(VERSION), Some(LOAD)) if fields.is_done() => Some(Asked::Load),
-            (Some(VERSION), Some(COMMIT)) => commit(&mut fields),
-            _ => None,
-        };
-        asked.context("the master asks what isn't understood")
-    }
-}
-
-/// Whether a commit stands, as it is told, without the number of its bytes.
-#[must_use]
-pub fn verdict(is_kept: bool) -> Vec<u8> {
-    vec![VERSION, if is_kept { KEPT } else { REFUSED }]
-}
-
-/// All rows as they are told.
-pub fn told(meta: &Meta, rows: &[Vec<u8>]) -> Result<Vec<u8>> {
-    let mut out = vec![VERSION, ROWS];
-    put_words(&mut out, &[meta.number]);
-    put_bytes(&mut out, meta.cell.as_bytes());
-    put_bytes(&mut out, &hex::decode(&meta.secret)?);
-    put_words(&mut out, &[meta.epoch, meta.next_instance]);
-    out.extend_from_slice(&u32::try_from(rows.len())?.to_be_bytes());
-    for row in rows {
-        out.extend_from_slice(row);
-    }
-    if out.len() > u32::MAX as usize {
-        bail!("the rows are more than 4 GiB");
-    }
-    Ok(out)
 }
 
 #[cfg(test)]
 mod tests {
     use super::*;
-
-    #[test]
-    fn what_is_asked_is_read() {
-        assert_eq!(Asked::read(&[2, 0]).unwrap(), Asked::Load);
-        let commit = hex::decode("0201000000000000000700000002000000000000000003010000000000000005").unwrap();
-        assert_eq!(Asked::read(&commit).unwrap(), Asked::Commit(7, vec![Edit::Epoch(3), Edit::NextInstance(5)]));
-        for other in [&[2][..], &[1, 0], &[2, 0, 0], &[2, 2], &commit[..commit.len() - 1]] {
-            assert!(Asked::read(other).is_err(), "{other:?}");
-        }
-    }
 
     #[test]
     fn contents_are_readable_where_they_can_be() {
@@ -319,23 +203,38 @@ mod tests {
     }
 
     #[test]
-    fn rows_are_written() {
-        let node = Node {
-            kind: "file".to_owned(),
+    fn what_a_master_puts_has_its_words() {
+        let acl = ["base", "own", "acl"].map(str::to_owned);
+        let node = |kind, life| rows::Node {
+            kind,
+            life,
             instance: 4,
             content_generation: 1,
-            acl_generation: 1,
-            read: "base".to_owned(),
-            write: "base".to_owned(),
-            change: "base".to_owned(),
-            life: "permanent".to_owned(),
-            content: Content::of(b"hi"),
+            acl_generation: 2,
+            acl: acl.clone(),
+            content: b"hi".to_vec(),
         };
-        let name = "00000007".to_owned() + &hex::encode("/ls/c/f");
-        let base = "00000004".to_owned() + &hex::encode("base");
-        let wanted = format!("00{name}00{:016x}{:016x}{:016x}{base}{base}{base}00000000026869{:016x}", 4, 1, 1, 9);
-        assert_eq!(hex::encode(node.write("/ls/c/f", 9).unwrap()), wanted);
-        let lock = Lock { state: "shared".to_owned(), delay: 60 };
-        assert_eq!(hex::encode(lock.write((4, 1, 2)).unwrap()), format!("02{:016x}{:016x}{:016x}02{:016x}", 4, 1, 2, 60));
+        let words = |kind, life| Node::of(&node(kind, life)).map(|node| (node.kind, node.life, node.change));
+        let wanted = |kind: &str, life: &str| Some((kind.to_owned(), life.to_owned(), "acl".to_owned()));
+        let rows = [(0, 0, wanted("file", "permanent")), (1, 1, wanted("dir", "ephemeral")), (2, 0, None), (0, 2, None)];
+        for (kind, life, wanted) in rows {
+            assert_eq!(words(kind, life), wanted, "{kind} {life}");
+        }
+        let locks = [(0, Some("lapsed")), (1, Some("exclusive")), (2, Some("shared")), (3, None)];
+        for (state, wanted) in locks {
+            let lock = Lock::of(rows::Lock { state, delay: 60 });
+            assert_eq!(lock, wanted.map(|state| Lock { state: state.to_owned(), delay: 60 }), "{state}");
+        }
+    }
+
+    #[test]
+    fn rows_go_out_as_a_master_knows_them() {
+        let acl = ["base", "own", "acl"].map(str::to_owned);
+        let node = rows::Node { kind: 0, life: 1, instance: 4, content_generation: 1, acl_generation: 2, acl, content: vec![0, 255] };
+        assert_eq!(Node::of(&node).unwrap().row("/ls/c/f", 9).ok(), node.row("/ls/c/f", 9));
+        let session = rows::Session { principal: "ann".to_owned(), is_live: true };
+        assert_eq!(Session::of(&session).row(7).ok(), session.row(7));
+        let lock = rows::Lock { state: 2, delay: 60 };
+        assert_eq!(Lock::of(lock).unwrap().row((4, 1, 2)).ok(), lock.row((4, 1, 2)));
     }
 }

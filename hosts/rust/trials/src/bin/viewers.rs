@@ -52,8 +52,11 @@ fn measure(client: &Client, files: &[Handle], hits: usize, viewers: usize) -> Re
 fn read(viewer: &mut Viewer<&Client>, files: &[Handle], hits: usize, k: usize) -> Result<Done, Error> {
     let before = busy()?;
     let mut found = 0;
-    for turn in 0..hits {
-        found += u64::from(black_box(viewer.read(files[(k * 1000 + turn) % files.len()])?).len() == 64);
+    let mut at = k * 1000 % files.len();
+    for _ in 0..hits {
+        let content = viewer.read(black_box(files[at]))?;
+        at = if at + 1 < files.len() { at + 1 } else { 0 };
+        found += u64::from(black_box(content).len() == 64);
     }
     Ok(Done { found, busy: busy()? - before })
 }
