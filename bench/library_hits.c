@@ -16,12 +16,12 @@ static void want(const char *what, uint32_t code, uint32_t wanted) {
     exit(1);
 }
 
-static void give(struct cell_client *client, struct bytes message) {
+static void give(struct client_exports *client, struct bytes message) {
     want("give", cell_client_give(client, 0, message.at, message.count), CELL_CLIENT_DONE);
 }
 
 /* All files stand in the cache, under a lease of 12 s at moment 0. */
-static void fill(struct cell_client *client) {
+static void fill(struct client_exports *client) {
     want("beat", cell_client_beat(client, 0), CELL_CLIENT_SEND);
     give(client, started(1, 12000));
     for (uint64_t k = 0; k < FILES; k++) {
@@ -38,7 +38,7 @@ static void fill(struct cell_client *client) {
     }
 }
 
-typedef uint32_t reads(struct cell_client *, uint64_t, uint64_t, uint8_t *, size_t, size_t *);
+typedef uint32_t reads(struct client_exports *, uint64_t, uint64_t, uint8_t *, size_t, size_t *);
 
 static uint64_t nanoseconds(clockid_t clock) {
     struct timespec now;
@@ -48,7 +48,7 @@ static uint64_t nanoseconds(clockid_t clock) {
 
 int main(int count, char **words) {
     if (count != 3) return 2;
-    struct cell_client client = {0};
+    struct client_exports client = {0};
     reads *read = strcmp(words[1], "hit") == 0 ? cell_client_hit : cell_client_read;
     uint64_t hits = strtoull(words[2], NULL, 10), found = 0;
     want("open a client", cell_client_open(1, (const uint8_t *)"ann", 3, &client.at), CELL_CLIENT_DONE);

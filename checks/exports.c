@@ -15,15 +15,15 @@ static void expect(const char *what, uint64_t found, uint64_t wanted) {
 
 /* ---- what is answered */
 
-static uint32_t ask(struct cell_client *client, uint64_t now, struct bytes call) {
+static uint32_t ask(struct client_exports *client, uint64_t now, struct bytes call) {
     return cell_client_ask(client, now, call.at, call.count);
 }
 
-static uint32_t give(struct cell_client *client, uint64_t now, struct bytes message) {
+static uint32_t give(struct client_exports *client, uint64_t now, struct bytes message) {
     return cell_client_give(client, now, message.at, message.count);
 }
 
-static void expect_lines(struct cell_client *client, const char *wanted) {
+static void expect_lines(struct client_exports *client, const char *wanted) {
     uint8_t room[512];
     size_t length = 0;
     expect("lines", cell_client_lines(client, room, sizeof room, &length), CELL_CLIENT_DONE);
@@ -32,10 +32,10 @@ static void expect_lines(struct cell_client *client, const char *wanted) {
     wrong++;
 }
 
-typedef uint32_t shown(struct cell_client *, uint8_t *, size_t, size_t *);
+typedef uint32_t shown(struct client_exports *, uint8_t *, size_t, size_t *);
 
 /* How many bytes it shows, and the last of them. */
-static void expect_message(shown *shows, struct cell_client *client, size_t count, int last) {
+static void expect_message(shown *shows, struct client_exports *client, size_t count, int last) {
     uint8_t room[512] = {0};
     size_t length = 9999;
     expect("message", shows(client, room, sizeof room, &length), CELL_CLIENT_DONE);
@@ -50,7 +50,7 @@ static void expect_message(shown *shows, struct cell_client *client, size_t coun
 }
 
 static void opens(void) {
-    struct cell_client client = {0};
+    struct client_exports client = {0};
     expect("number 0", cell_client_open(0, (const uint8_t *)"ann", 3, &client.at), CELL_CLIENT_BAD_NUMBER);
     expect("number 2^53", cell_client_open((uint64_t)1 << 53, (const uint8_t *)"ann", 3, &client.at), CELL_CLIENT_BAD_NUMBER);
     expect("no principal", cell_client_open(1, (const uint8_t *)"Ann", 3, &client.at), CELL_CLIENT_BAD_TEXT);
@@ -61,7 +61,7 @@ static void opens(void) {
 }
 
 /* Bytes that are none, or ask for nothing: the message, the lines and the lease stay. */
-static void refuses(struct cell_client *client) {
+static void refuses(struct client_exports *client) {
     struct bytes start = head(0, 1), call = call_on(2, 1, 8);
     expect("a call that is cut", ask(client, 1010, call), CELL_CLIENT_CUT);
     put(&call, 0, 1);
@@ -98,7 +98,7 @@ struct look {
 };
 
 /* Hits of the content "hello" of handle 1; a small room stays as it is. */
-static void looks(struct cell_client *client, const struct look *row, size_t rows) {
+static void looks(struct client_exports *client, const struct look *row, size_t rows) {
     for (; rows > 0; row++, rows--) {
         uint8_t room[8] = "........";
         size_t length = 9999;
@@ -135,7 +135,7 @@ static const struct look in_jeopardy[] = {
     {"a hit in jeopardy, at an earlier moment", 12293, 1, 8, 0},
 };
 
-static void begins(struct cell_client *client) {
+static void begins(struct client_exports *client) {
     expect("no lease", cell_client_leased_until(client), 0);
     expect_message(cell_client_message, client, 0, 0);
     expect("a beat", cell_client_beat(client, 1000), CELL_CLIENT_SEND);
@@ -147,7 +147,7 @@ static void begins(struct cell_client *client) {
     expect("a lease", cell_client_leased_until(client), 12294);
 }
 
-static void reads(struct cell_client *client) {
+static void reads(struct client_exports *client) {
     uint8_t room[8] = "........";
     size_t length = 9999;
     LOOKS(client, before_a_read);
@@ -170,7 +170,7 @@ static void reads(struct cell_client *client) {
     expect_lines(client, "done 1 2 view file 4 1 1 base base base permanent 5 68656c6c6f\n");
 }
 
-static void serves(struct cell_client *client) {
+static void serves(struct client_exports *client) {
     uint8_t room[8] = "........";
     size_t length = 9999;
     expect("a read of the cache", cell_client_read(client, 12293, 1, room, 4, &length), CELL_CLIENT_SERVED);
@@ -214,7 +214,7 @@ static struct bytes with(struct bytes made, const char *text, uint64_t number, i
     return made;
 }
 
-static void expect_line(struct cell_client *client, const char *what, struct cell_client_line wanted) {
+static void expect_line(struct client_exports *client, const char *what, struct cell_client_line wanted) {
     struct cell_client_line found;
     memset(&found, 0xff, sizeof found);
     cell_client_line(client, 0, &found);
@@ -224,7 +224,7 @@ static void expect_line(struct cell_client *client, const char *what, struct cel
 }
 
 /* The call was sent, and is refused as 7. */
-static void expect_call(struct cell_client *client, const char *what, uint32_t code, struct bytes wanted, uint64_t number) {
+static void expect_call(struct client_exports *client, const char *what, uint32_t code, struct bytes wanted, uint64_t number) {
     uint8_t room[512];
     size_t length = 0;
     expect(what, code, CELL_CLIENT_SEND);
@@ -238,11 +238,11 @@ static void expect_call(struct cell_client *client, const char *what, uint32_t c
 
 static const uint8_t *text(const char *it) { return (const uint8_t *)it; }
 
-static uint32_t open_as(struct cell_client *client, const char *name, struct cell_client_opening opening) {
+static uint32_t open_as(struct client_exports *client, const char *name, struct cell_client_opening opening) {
     return cell_client_open_node(client, 1010, text(name), strlen(name), &opening, text("hi"), 2);
 }
 
-static void opens_by_parts(struct cell_client *client) {
+static void opens_by_parts(struct client_exports *client) {
     struct {
         const char *what, *name;
         struct cell_client_opening opening;
@@ -280,7 +280,7 @@ static void opens_by_parts(struct cell_client *client) {
     expect_call(client, "an Open of a directory", open_as(client, "/ls/c/d", to_be_new), directory, 3);
 }
 
-static void calls_by_parts(struct cell_client *client) {
+static void calls_by_parts(struct client_exports *client) {
     uint64_t at = 1010;
     expect("an Open", open_as(client, "/ls/c/f", (struct cell_client_opening){.mode = 1}), CELL_CLIENT_SEND);
     expect("opened", give(client, at, opened(4)), CELL_CLIENT_DONE);
@@ -312,7 +312,7 @@ static void calls_by_parts(struct cell_client *client) {
 }
 
 /* What replies tell, on handle 1 of a client whose last call was of the number 1. */
-static void lines_in_parts(struct cell_client *client) {
+static void lines_in_parts(struct client_exports *client) {
     uint8_t room[8] = "........";
     struct bytes stat = reply(2, 3), sequencer = reply(4, 5);
     put(&stat, 1, 1); /* a directory */
@@ -364,16 +364,16 @@ static void lines_in_parts(struct cell_client *client) {
 
 /* ---- ACL names, the names of a line, events and refusals by parts */
 
-static uint32_t open_under(struct cell_client *client, const char *name, struct cell_client_opening opening, const char *read, const char *change) {
+static uint32_t open_under(struct client_exports *client, const char *name, struct cell_client_opening opening, const char *read, const char *change) {
     return cell_client_open_under(client, 1010, text(name), strlen(name), &opening, text(""), 0, text(read), strlen(read), text("write"), 5,
                                   text(change), strlen(change));
 }
 
-static uint32_t set_acl(struct cell_client *client, uint64_t handle, const char *write, uint64_t generation) {
+static uint32_t set_acl(struct client_exports *client, uint64_t handle, const char *write, uint64_t generation) {
     return cell_client_set_acl(client, 1010, handle, text("read"), 4, text(write), strlen(write), text("change"), 6, generation);
 }
 
-static void acls_by_parts(struct cell_client *client) {
+static void acls_by_parts(struct client_exports *client) {
     struct cell_client_opening plain = {.mode = 1}, making = {.mode = 1, .create = 2, .kind = 1};
     expect("no ACL name to read", open_under(client, "/ls/c/d", making, "", "c"), CELL_CLIENT_BAD_TEXT);
     expect("no ACL name to change", open_under(client, "/ls/c/d", making, "r", "a/b"), CELL_CLIENT_BAD_TEXT);
@@ -408,7 +408,7 @@ static void acls_by_parts(struct cell_client *client) {
 }
 
 /* The names that the line at the first place shows; NULL for none. */
-static void expect_names(struct cell_client *client, const char *what, const char *child, const char *acl, const char *name) {
+static void expect_names(struct client_exports *client, const char *what, const char *child, const char *acl, const char *name) {
     uint8_t room[512];
     static const char *const others[] = {"", "own", "base"};
     const char *wanted[] = {child ? child : "", acl ? acl : "", acl ? others[1] : "", acl ? others[2] : "", name ? name : ""};
@@ -440,7 +440,7 @@ static struct bytes listed(uint64_t number, int kind) {
     return made;
 }
 
-static void names_by_parts(struct cell_client *client) {
+static void names_by_parts(struct client_exports *client) {
     uint8_t room[8] = "........";
     struct cell_client_line seen = {
         .what = CELL_CLIENT_SEEN, .instance = 4, .acl_generation = 1, .kind = CELL_CLIENT_A_DIRECTORY, .children = 2,
@@ -478,7 +478,7 @@ static void names_by_parts(struct cell_client *client) {
 }
 
 /* An Alive that answers the Beat of this number, with its event: number - 1, the kind, so many words, and a name where there is one. */
-static void event(struct cell_client *client, uint64_t number, int kind, int words, const char *name, struct cell_client_line wanted) {
+static void event(struct client_exports *client, uint64_t number, int kind, int words, const char *name, struct cell_client_line wanted) {
     struct bytes alive = head(1, number);
     expect("a beat", cell_client_beat(client, 1010), CELL_CLIENT_SEND);
     put(&alive, 12000, 8);
@@ -494,7 +494,7 @@ static void event(struct cell_client *client, uint64_t number, int kind, int wor
     expect_names(client, "names of an event", NULL, NULL, name);
 }
 
-static void events_by_parts(struct cell_client *client) {
+static void events_by_parts(struct client_exports *client) {
     event(client, 2, 0, 0, NULL, (struct cell_client_line){.event = CELL_CLIENT_FAIL_OVER});
     event(client, 3, 1, 3, NULL, (struct cell_client_line){.event = CELL_CLIENT_CONTENTS_SET, .opened = 1, .instance = 2, .content_generation = 3});
     event(client, 4, 2, 1, "/ls/c/f/a", (struct cell_client_line){.event = CELL_CLIENT_CHILD_ADDED, .opened = 1});
@@ -507,7 +507,7 @@ static void events_by_parts(struct cell_client *client) {
 }
 
 /* What stands behind the number of a refusal, so wide, and what the line says of it. */
-static void refusals_by_parts(struct cell_client *client) {
+static void refusals_by_parts(struct client_exports *client) {
     static const struct {
         uint32_t fault;
         uint64_t bytes;
@@ -528,8 +528,8 @@ static void refusals_by_parts(struct cell_client *client) {
     }
 }
 
-static struct cell_client with_session(void) {
-    struct cell_client client = {0};
+static struct client_exports with_session(void) {
+    struct client_exports client = {0};
     cell_client_open(1, text("ann"), 3, &client.at);
     cell_client_beat(&client, 1000);
     give(&client, 1005, started(1, 12000));
@@ -537,7 +537,7 @@ static struct cell_client with_session(void) {
 }
 
 static void by_parts(void) {
-    struct cell_client client = with_session();
+    struct client_exports client = with_session();
     expect_line(&client, "no line", (struct cell_client_line){0});
     opens_by_parts(&client);
     calls_by_parts(&client);
@@ -550,7 +550,7 @@ static void by_parts(void) {
     client = with_session();
     acls_by_parts(&client);
     cell_client_close(client);
-    void (*const each[])(struct cell_client *) = {names_by_parts, events_by_parts, refusals_by_parts};
+    void (*const each[])(struct client_exports *) = {names_by_parts, events_by_parts, refusals_by_parts};
     for (size_t i = 0; i < sizeof each / sizeof *each; i++) {
         client = with_session();
         open_as(&client, "/ls/c/f", (struct cell_client_opening){.mode = 1});
@@ -561,7 +561,7 @@ static void by_parts(void) {
 }
 
 int main(void) {
-    struct cell_client client = {0};
+    struct client_exports client = {0};
     opens();
     by_parts();
     expect("open", cell_client_open(1, (const uint8_t *)"ann", 3, &client.at), CELL_CLIENT_DONE);

@@ -1,4 +1,4 @@
-/* Calls each export of crates/cell_server by messages and blocks that are laid out by hand, as docs/FORMATS.md says, and compares what
+/* Calls each export of crates/server_exports by messages and blocks that are laid out by hand, as docs/FORMATS.md says, and compares what
  * comes of it by the structs of include/cell_server.h: so both sides have their fields in the same places. What differs goes to the
  * standard error; the status is 0 where nothing does. */
 #include <stdio.h>

@@ -13,7 +13,7 @@ static const uint8_t started[] = {
     0, 0, 0, 0, 0, 0, 0x2e, 0xe0,
 };
 
-static int beat(struct cell_client *client, uint64_t now) {
+static int beat(struct client_exports *client, uint64_t now) {
     uint8_t room[256];
     size_t length = 0;
     if (cell_client_beat(client, now) != CELL_CLIENT_SEND) return 0;
@@ -25,7 +25,7 @@ static int beat(struct cell_client *client, uint64_t now) {
 }
 
 int main(void) {
-    struct cell_client client = {0};
+    struct client_exports client = {0};
     if (cell_client_open(1, (const uint8_t *)"ann", 3, &client.at) != CELL_CLIENT_DONE) return 1;
     int well = beat(&client, 1000) && cell_client_give(&client, 1005, started, sizeof started) == CELL_CLIENT_DONE;
     printf("leased until %" PRIu64 "\n", cell_client_leased_until(&client));

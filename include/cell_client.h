@@ -28,7 +28,7 @@ extern "C" {
 #endif
 
 /* An open client. */
-struct cell_client {
+struct client_exports {
     void *at;
 };
 
@@ -197,7 +197,7 @@ uint32_t cell_client_open(uint64_t number, const uint8_t *principal, size_t prin
  * none was given. The lease that the answer brings counts from `now`. A master answers a Beat when it has something to say, and
  * before the lease ends: beat again as soon as an Alive was given, and when none came for long.
  */
-uint32_t cell_client_beat(struct cell_client *client, uint64_t now);
+uint32_t cell_client_beat(struct client_exports *client, uint64_t now);
 
 /*
  * ---- Calls by their parts. Each is a step, and answers as cell_client_ask does: SEND, SERVED, DONE or a refusal. A handle is the
@@ -206,55 +206,55 @@ uint32_t cell_client_beat(struct cell_client *client, uint64_t now);
 
 /* Opens a node, or makes it, a file with this content. BAD_NUMBER for another mode or other events, BAD_KIND for another number that
  * is a choice, and BAD_TEXT for another name than /ls/CELL/.., told in this order. */
-uint32_t cell_client_open_node(struct cell_client *client, uint64_t now, const uint8_t *name, size_t name_length,
+uint32_t cell_client_open_node(struct client_exports *client, uint64_t now, const uint8_t *name, size_t name_length,
                                const struct cell_client_opening *opening, const uint8_t *content, size_t content_length);
 
 /* The same, and where the node is made it has these ACL names: to read, to write, and to change the ACL names. Last of all BAD_TEXT for one
  * that is no component, also where nothing is made. */
-uint32_t cell_client_open_under(struct cell_client *client, uint64_t now, const uint8_t *name, size_t name_length,
+uint32_t cell_client_open_under(struct client_exports *client, uint64_t now, const uint8_t *name, size_t name_length,
                                 const struct cell_client_opening *opening, const uint8_t *content, size_t content_length,
                                 const uint8_t *read, size_t read_length, const uint8_t *write, size_t write_length,
                                 const uint8_t *change, size_t change_length);
 
-uint32_t cell_client_close_handle(struct cell_client *client, uint64_t now, uint64_t handle);
+uint32_t cell_client_close_handle(struct client_exports *client, uint64_t now, uint64_t handle);
 
 /* Asks for the numbers of the node. */
-uint32_t cell_client_stat(struct cell_client *client, uint64_t now, uint64_t handle);
+uint32_t cell_client_stat(struct client_exports *client, uint64_t now, uint64_t handle);
 
 /* Asks for the names of a directory's children. */
-uint32_t cell_client_list(struct cell_client *client, uint64_t now, uint64_t handle);
+uint32_t cell_client_list(struct client_exports *client, uint64_t now, uint64_t handle);
 
 /* Sets the whole content of a file; where `generation` isn't 0, only where that is the present content generation. */
-uint32_t cell_client_set(struct cell_client *client, uint64_t now, uint64_t handle, const uint8_t *content, size_t content_length,
+uint32_t cell_client_set(struct client_exports *client, uint64_t now, uint64_t handle, const uint8_t *content, size_t content_length,
                          uint64_t generation);
 
 /* Names the ACLs of a node: to read, to write, and to change the ACL names; BAD_TEXT for one that is no component. Where `generation`
  * isn't 0, only where that is the present ACL generation. */
-uint32_t cell_client_set_acl(struct cell_client *client, uint64_t now, uint64_t handle, const uint8_t *read, size_t read_length,
+uint32_t cell_client_set_acl(struct client_exports *client, uint64_t now, uint64_t handle, const uint8_t *read, size_t read_length,
                              const uint8_t *write, size_t write_length, const uint8_t *change, size_t change_length,
                              uint64_t generation);
 
-uint32_t cell_client_delete(struct cell_client *client, uint64_t now, uint64_t handle);
+uint32_t cell_client_delete(struct client_exports *client, uint64_t now, uint64_t handle);
 
 /* Takes the node's lock, EXCLUSIVE or SHARED, else BAD_KIND: waits until it is free, or is refused where it isn't. */
-uint32_t cell_client_acquire(struct cell_client *client, uint64_t now, uint64_t handle, uint32_t mode);
-uint32_t cell_client_try_acquire(struct cell_client *client, uint64_t now, uint64_t handle, uint32_t mode);
+uint32_t cell_client_acquire(struct client_exports *client, uint64_t now, uint64_t handle, uint32_t mode);
+uint32_t cell_client_try_acquire(struct client_exports *client, uint64_t now, uint64_t handle, uint32_t mode);
 
 /* Gives the lock back. */
-uint32_t cell_client_release(struct cell_client *client, uint64_t now, uint64_t handle);
+uint32_t cell_client_release(struct client_exports *client, uint64_t now, uint64_t handle);
 
 /* Asks for what describes the lock that the handle holds; cell_client_line_bytes has it then. */
-uint32_t cell_client_get_sequencer(struct cell_client *client, uint64_t now, uint64_t handle);
+uint32_t cell_client_get_sequencer(struct client_exports *client, uint64_t now, uint64_t handle);
 
 /* Once this is done each later call on the handle but a Close stands under this sequencer. */
-uint32_t cell_client_set_sequencer(struct cell_client *client, uint64_t now, uint64_t handle, const uint8_t *sequencer,
+uint32_t cell_client_set_sequencer(struct client_exports *client, uint64_t now, uint64_t handle, const uint8_t *sequencer,
                                    size_t sequencer_length);
 
 /* Asks whether a sequencer is valid still. */
-uint32_t cell_client_check_sequencer(struct cell_client *client, uint64_t now, const uint8_t *sequencer, size_t sequencer_length);
+uint32_t cell_client_check_sequencer(struct client_exports *client, uint64_t now, const uint8_t *sequencer, size_t sequencer_length);
 
 /* Ends the session: its locks are free at once. From here on the client serves nothing, and every other call is NO_SESSION. */
-uint32_t cell_client_leave(struct cell_client *client, uint64_t now);
+uint32_t cell_client_leave(struct client_exports *client, uint64_t now);
 
 /* ---- A call by its bytes, and the other steps. */
 
@@ -270,14 +270,14 @@ uint32_t cell_client_leave(struct cell_client *client, uint64_t now);
  * A Leave ends the session. From then on the cache is empty and off, and each other call is NO_SESSION; go on beating. Behind "done C N ok"
  * the session is over, and the cell waits for the client no more. Where that was refused, ask again.
  */
-uint32_t cell_client_ask(struct cell_client *client, uint64_t now, const uint8_t *call, size_t call_length);
+uint32_t cell_client_ask(struct client_exports *client, uint64_t now, const uint8_t *call, size_t call_length);
 
 /*
  * Asks for the content and the numbers of the node of this handle: as an ask for a Read. SERVED: `length` is how long the content
  * is; if that is at most `room_length` it stands in the room, else the room is as it was (cell_client_content has it then). After
  * any other answer length and room are as they were.
  */
-uint32_t cell_client_read(struct cell_client *client, uint64_t now, uint64_t handle, uint8_t *room, size_t room_length, size_t *length);
+uint32_t cell_client_read(struct client_exports *client, uint64_t now, uint64_t handle, uint8_t *room, size_t room_length, size_t *length);
 
 /*
  * The content that cell_client_read would answer SERVED with now: SERVED, and `length` and the room as there. DONE where it would answer
@@ -285,16 +285,16 @@ uint32_t cell_client_read(struct cell_client *client, uint64_t now, uint64_t han
  * noted, and the message, the lines and the content of the last step stay. So where the room was too small the same call again, with
  * `length` bytes of room, has it. It takes no memory; it costs a look-up of the handle, one of its name, and the copy.
  */
-uint32_t cell_client_hit(struct cell_client *client, uint64_t now, uint64_t handle, uint8_t *room, size_t room_length, size_t *length);
+uint32_t cell_client_hit(struct client_exports *client, uint64_t now, uint64_t handle, uint8_t *room, size_t room_length, size_t *length);
 
 /* Poisons this handle: each later call on it but a Close is POISONED. DONE, or a refusal. */
-uint32_t cell_client_poison(struct cell_client *client, uint64_t now, uint64_t handle);
+uint32_t cell_client_poison(struct client_exports *client, uint64_t now, uint64_t handle);
 
 /*
  * Gives the client a message of the master, by its bytes. DONE, or PROTOCOL_FAULT; what came of it stands in the lines. A message
  * may come late, twice or never.
  */
-uint32_t cell_client_give(struct cell_client *client, uint64_t now, const uint8_t *message, size_t message_length);
+uint32_t cell_client_give(struct client_exports *client, uint64_t now, const uint8_t *message, size_t message_length);
 
 /*
  * ---- what came of the last step. These change nothing. They answer DONE and write how long it is; where that is at most
@@ -302,49 +302,49 @@ uint32_t cell_client_give(struct cell_client *client, uint64_t now, const uint8_
  */
 
 /* The message to send; of length 0 where there is none. */
-uint32_t cell_client_message(struct cell_client *client, uint8_t *room, size_t room_length, size_t *length);
+uint32_t cell_client_message(struct client_exports *client, uint8_t *room, size_t room_length, size_t *length);
 
 /*
  * The lines, each with a LF behind it, as docs/FORMATS.md has them. "done C N RESULT" is how the call of number N ended, or one that the
  * client answered by itself, which is 0: there stands the number of a new handle, and what a call gives. "event C EVENT" tells of an
  * event, "jeopardy C", "safe C" and "lost C" of the session.
  */
-uint32_t cell_client_lines(struct cell_client *client, uint8_t *room, size_t room_length, size_t *length);
+uint32_t cell_client_lines(struct client_exports *client, uint8_t *room, size_t room_length, size_t *length);
 
 /*
  * The line that stands at this place among those of the last step, the first at 0; its `what` is NO_LINE behind the last.
  */
-void cell_client_line(struct cell_client *client, size_t place, struct cell_client_line *line);
+void cell_client_line(struct client_exports *client, size_t place, struct cell_client_line *line);
 
 /* The content, or the sequencer, that the line at this place shows; of length 0 where it shows none. The length is the answer; where
  * that is at most `room_length` the bytes stand in the room, else the room is as it was. */
-size_t cell_client_line_bytes(struct cell_client *client, size_t place, uint8_t *room, size_t room_length);
+size_t cell_client_line_bytes(struct client_exports *client, size_t place, uint8_t *room, size_t room_length);
 
 /*
  * The names that the line at this place shows, in the same way, each of length 0 where it shows none: the last component of the name of a
  * child, the first at 0, in order of bytes; the ACL for READ, WRITE or CHANGE_ACL of the node that is VIEWED, STATED or SEEN; and the whole
  * name of the child that an EVENT is about, or of the node that is SEEN or ABSENT. A component has 64 bytes at most, a whole name 512.
  */
-size_t cell_client_line_child(struct cell_client *client, size_t place, size_t index, uint8_t *room, size_t room_length);
-size_t cell_client_line_acl(struct cell_client *client, size_t place, uint32_t right, uint8_t *room, size_t room_length);
-size_t cell_client_line_name(struct cell_client *client, size_t place, uint8_t *room, size_t room_length);
+size_t cell_client_line_child(struct client_exports *client, size_t place, size_t index, uint8_t *room, size_t room_length);
+size_t cell_client_line_acl(struct client_exports *client, size_t place, uint32_t right, uint8_t *room, size_t room_length);
+size_t cell_client_line_name(struct client_exports *client, size_t place, uint8_t *room, size_t room_length);
 
 /* The whole content of the view that the last of the lines shows; of length 0 where that shows none. The length is the answer. */
-size_t cell_client_content(struct cell_client *client, uint8_t *room, size_t room_length);
+size_t cell_client_content(struct client_exports *client, uint8_t *room, size_t room_length);
 
 /* ---- how the client stands. These change nothing. */
 
 /* The outstanding call's message, to be sent again, as cell_client_message; of length 0 where no call is outstanding. */
-uint32_t cell_client_again(struct cell_client *client, uint8_t *room, size_t room_length, size_t *length);
+uint32_t cell_client_again(struct client_exports *client, uint8_t *room, size_t room_length, size_t *length);
 
 /*
  * The moment from which on the client trusts its lease no more, if no better one comes; 0 without a lease. Its cache may serve only
  * before that moment.
  */
-uint64_t cell_client_leased_until(struct cell_client *client);
+uint64_t cell_client_leased_until(struct client_exports *client);
 
 /* Closes the client and frees its memory. The cell learns nothing: a session that wasn't ended ends when its lease has run out. */
-void cell_client_close(struct cell_client client);
+void cell_client_close(struct client_exports client);
 
 #ifdef __cplusplus
 }

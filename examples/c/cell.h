@@ -13,7 +13,7 @@
 
 #include "../../include/cell_client.h"
 
-static struct cell_client client;
+static struct client_exports client;
 static int stream;
 static uint8_t room[65536];
 
@@ -62,7 +62,7 @@ static uint64_t greet(const char *principal) {
 
 /* ---- the session */
 
-static void send_shown(uint32_t (*shows)(struct cell_client *, uint8_t *, size_t, size_t *)) {
+static void send_shown(uint32_t (*shows)(struct client_exports *, uint8_t *, size_t, size_t *)) {
     size_t length = 0;
     if (shows(&client, room, sizeof room, &length) != CELL_CLIENT_DONE || length > sizeof room) fail("no room for a message");
     if (length > 0) put_block(room, length);

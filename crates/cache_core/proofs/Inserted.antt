@@ -3,7 +3,7 @@ use Rattle.std.proofs.Common.{◌≡◌, ℕ, ◌+◌, ◌≤◌, Bool, true, fa
 use Rattle.std.specs.List.{AllByRecursion, IsDistinct}
 use Rattle.std.specs.Map.{keys_of, lookup, remove_entry}
 use Rattle.indexmap.specs.IndexMap.{insert_entry}
-use Rattle.plain.proofs.Entries.{cond_twice, cond_apart}
+use Rattle.collections.proofs.Entries.{cond_twice, cond_apart}
 
 -- one more where the key is new
 abbrev pub grown : Bool → ℕ → ℕ

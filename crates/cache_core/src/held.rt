@@ -8,10 +8,10 @@ ghost use Rattle.indexmap.specs.IndexMap.{insert_entry};
 ghost use Rattle.cache_core.specs.Caches.{same_name, entry_of, flushed};
 
 use crate::shared::Shared;
+use collections::Table;
 use indexmap::IndexMap;
 use names_cell::Name;
 use node_core::View;
-use plain::Table;
 use std::alloc::{AllocError, Global};
 use std::marker::Model;
 use std::mem;

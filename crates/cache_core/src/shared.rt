@@ -1,7 +1,7 @@
 //! A value that several caches hold without a copy of it.
 ghost use Rattle.std.specs.Prelude.{◌≡◌, IfOk};
 
-use plain::Same;
+use collections::Same;
 use std::alloc::{AllocError, Global};
 use std::marker::Model;
 use std::sync::Arc;

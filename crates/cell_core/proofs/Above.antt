@@ -2,7 +2,7 @@
 use Rattle.std.proofs.Common.{◌≡◌, ◌≢◌, ℕ, List, ◌∷◌, ◌++◌, length, true, false, Some, ap, sym, ◌∙◌, arith, length-append}
 use Rattle.std.specs.Option.{option_map_or}
 use Rattle.std.specs.Str.{bytes_eq}
-use Rattle.plain.proofs.Keys.{bytes_self}
+use Rattle.collections.proofs.Keys.{bytes_self}
 use Rattle.names_cell.specs.Text.{is_name, parent_of, is_child}
 use Rattle.node_core.proofs.Walks.{child_form}
 

@@ -1,6 +1,6 @@
 -- What asking for names leaves as it is.
 use Rattle.std.proofs.Common.{◌≡◌, ℕ, List, [], ◌∷◌, refl}
-use Rattle.cell_state.specs.State.{MasterState}
+use Rattle.master_state.specs.State.{MasterState}
 use Rattle.cell_core.specs.Step.{asking, asking_for}
 
 -- all but the rights and the sessions

@@ -28,16 +28,16 @@ use Rattle.lock_core.specs.declared.turns.Acquired.{Acquired}
 use Rattle.lock_core.specs.declared.turns.Acquired.TheVariants as asked
 use Rattle.lock_core.specs.State.{LockState}
 use Rattle.lock_core.specs.Turns.{tried, acquired, released, closed_by}
-use Rattle.cell_state.specs.declared.updates.Change.{Change}
-use Rattle.cell_state.specs.declared.updates.LockPut.{LockPut}
-use Rattle.cell_parts.specs.declared.handles.Note.{Note}
-use Rattle.cell_parts.specs.declared.handles.HandleState.TheVariants as states
-use Rattle.cell_parts.specs.Claims.{owner_of, claim_of}
-use Rattle.cell_state.specs.NameSpace.{name_space, caller}
-use Rattle.cell_state.specs.State.{MasterState}
-use Rattle.cell_state.specs.Lookups.{may, missing_right, is_of_cell, sequencer_fault, lock_under, holds_lock, node_of_handle, new_handle, open_present, plain_open, opened_answer, opened_note, answer_on}
-use Rattle.cell_parts.specs.Calls.{create_fault, bytes_of}
-use Rattle.cell_parts.specs.Keys.{key_of}
+use Rattle.master_state.specs.declared.updates.Change.{Change}
+use Rattle.master_state.specs.declared.updates.LockPut.{LockPut}
+use Rattle.master_parts.specs.declared.handles.Note.{Note}
+use Rattle.master_parts.specs.declared.handles.HandleState.TheVariants as states
+use Rattle.master_parts.specs.Claims.{owner_of, claim_of}
+use Rattle.master_state.specs.NameSpace.{name_space, caller}
+use Rattle.master_state.specs.State.{MasterState}
+use Rattle.master_state.specs.Lookups.{may, missing_right, is_of_cell, sequencer_fault, lock_under, holds_lock, node_of_handle, new_handle, open_present, plain_open, opened_answer, opened_note, answer_on}
+use Rattle.master_parts.specs.Calls.{create_fault, bytes_of}
+use Rattle.master_parts.specs.Keys.{key_of}
 use Rattle.cell_core.specs.declared.effects.Effect.{Effect}
 use Rattle.cell_core.specs.declared.effects.Leave.{Leave}
 use Rattle.cell_core.specs.declared.effects.Locking.TheVariants as lockings

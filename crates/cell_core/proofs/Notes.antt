@@ -1,11 +1,11 @@
 -- A master that has noted something of a handle.
 use Rattle.std.proofs.Common.{◌≡◌, Option, Some, refl}
 use Rattle.std.specs.BTreeMap.{insert_entry}
-use Rattle.cell_parts.specs.declared.handles.Note.{Note}
-use Rattle.cell_parts.specs.Keys.{handle_order}
-use Rattle.cell_parts.specs.State.{TableState}
-use Rattle.cell_state.specs.State.{MasterState, tables_of}
-use Rattle.cell_state.specs.Updates.{with_note}
+use Rattle.master_parts.specs.declared.handles.Note.{Note}
+use Rattle.master_parts.specs.Keys.{handle_order}
+use Rattle.master_parts.specs.State.{TableState}
+use Rattle.master_state.specs.State.{MasterState, tables_of}
+use Rattle.master_state.specs.Updates.{with_note}
 
 -- a master with these tables
 abbrev pub over : MasterState → TableState → MasterState

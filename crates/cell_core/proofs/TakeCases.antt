@@ -13,15 +13,15 @@ use Rattle.tags_cell.specs.declared.messages.outs.CallResult.{CallResult}
 use Rattle.tags_cell.specs.declared.messages.outs.CallResult.TheVariants as results
 use Rattle.tags_cell.specs.declared.messages.outs.Reply.{Reply}
 use Rattle.cell_core.specs.declared.admissions.Admission.{Admission}
-use Rattle.cell_parts.specs.declared.pending.Taken.{Taken}
+use Rattle.master_parts.specs.declared.pending.Taken.{Taken}
 use Rattle.session_core.specs.declared.records.Kept.{Kept}
 use Rattle.session_core.specs.Session.{beat_fault, kept_answer}
-use Rattle.cell_parts.specs.declared.pending.Task.TheVariants as tasks
-use Rattle.cell_parts.specs.declared.pending.Work.TheVariants as works
-use Rattle.cell_state.specs.State.{MasterState}
-use Rattle.cell_state.specs.Lookups.{session_of, kept_of, is_live, is_full, may_start, turned_away, refusal, nothing, is_spent, noted, repeated}
+use Rattle.master_parts.specs.declared.pending.Task.TheVariants as tasks
+use Rattle.master_parts.specs.declared.pending.Work.TheVariants as works
+use Rattle.master_state.specs.State.{MasterState}
+use Rattle.master_state.specs.Lookups.{session_of, kept_of, is_live, is_full, may_start, turned_away, refusal, nothing, is_spent, noted, repeated}
 use Rattle.cell_core.specs.Step.{queued, replied, is_cachable, granting, telling, waits, admission_for, admit_step, new_call_by, new_call, kept_step, call_step, start_step, beat_by, beat_step, take_at, take_step, is_past_end, ended_step}
-use Rattle.cell_state.specs.Updates.{with_note}
+use Rattle.master_state.specs.Updates.{with_note}
 use Rattle.cell_core.specs.Cases.{IsHeard, IsNew, TakeCase, taken_by}
 use Rattle.cell_core.specs.Cases.TakeCase.{StartRefused, StartRecovering, StartFull, StartQueued, OldBeat, BeatRefused, BeatParked, OldEpoch, NoSession, Repeated, OlderCall, Outstanding, Recovering, Answered, Granted, Waits, LeftBefore}
 use Rattle.tags_cell.specs.Messages.{is_leave}

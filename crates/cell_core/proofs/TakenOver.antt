@@ -12,7 +12,7 @@ use Rattle.tags_cell.specs.declared.messages.outs.Reply.{Reply}
 use Rattle.session_core.specs.declared.records.Session.{Session}
 use Rattle.session_core.specs.Session.{recovered_session}
 use Rattle.session_core.specs.Sessions.{SessionTable, with_new}
-use Rattle.cell_parts.specs.StoredSessions.{taken_over}
+use Rattle.master_parts.specs.StoredSessions.{taken_over}
 
 abbrev pub Stored : Type 0
 Stored = List (ℕ × stored.Session)

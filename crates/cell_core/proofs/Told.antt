@@ -15,7 +15,7 @@ use Rattle.tags_cell.specs.Modes.{has_right}
 use Rattle.tags_cell.specs.Handles.{read_handle, is_ordinal}
 use Rattle.tags_cell.specs.declared.handles.Handle.{Handle}
 use Rattle.tags_cell.specs.declared.messages.requests.CallMessage.{CallMessage}
-use Rattle.cell_parts.specs.declared.pending.Task.TheVariants as tasks
+use Rattle.master_parts.specs.declared.pending.Task.TheVariants as tasks
 use Rattle.tags_cell.specs.declared.messages.calls.Open.{Open}
 use Rattle.tags_cell.specs.declared.messages.calls.Create.{Create}
 use Rattle.tags_cell.specs.declared.messages.calls.Call.{Call}
@@ -23,18 +23,18 @@ use Rattle.tags_cell.specs.declared.messages.calls.Call.TheVariants as calls
 use Rattle.tags_cell.specs.declared.messages.outs.CallResult.{CallResult}
 use Rattle.tags_cell.specs.declared.messages.outs.CallResult.TheVariants as results
 use Rattle.cell_core.specs.declared.admissions.Admission.{Admission}
-use Rattle.cell_state.specs.NameSpace.{name_space, caller}
-use Rattle.cell_state.specs.State.{MasterState}
-use Rattle.cell_state.specs.Lookups.{own_handle, shown_handle, node_of_handle, is_usable, handle_state_of, list_answer, answer_on, answer_on_node, answer_under, missing_right, open_present, plain_open, opened_answer, is_of_cell, sequencer_fault, sequencer_result, release_fault, lock_under}
-use Rattle.cell_parts.specs.Calls.{needing, write_fault, is_too_long}
-use Rattle.cell_parts.specs.Keys.{key_of}
+use Rattle.master_state.specs.NameSpace.{name_space, caller}
+use Rattle.master_state.specs.State.{MasterState}
+use Rattle.master_state.specs.Lookups.{own_handle, shown_handle, node_of_handle, is_usable, handle_state_of, list_answer, answer_on, answer_on_node, answer_under, missing_right, open_present, plain_open, opened_answer, is_of_cell, sequencer_fault, sequencer_result, release_fault, lock_under}
+use Rattle.master_parts.specs.Calls.{needing, write_fault, is_too_long}
+use Rattle.master_parts.specs.Keys.{key_of}
 use Rattle.cell_core.specs.declared.asking.Touched.{Touched}
 use Rattle.cell_core.specs.declared.asking.Touched.TheVariants.{WithParent}
 use Rattle.cell_core.specs.Step.{names_of, task_of, admission_for, touched_by, viewed_name, told_by_open, handle_admission, admission_of_open, admission_of, admission_under, check_admission, answering}
 use Rattle.tags_cell.specs.declared.sequencers.Sequencer.{Sequencer}
 use Rattle.lock_core.specs.State.{hold_of}
 use Rattle.lock_core.specs.Locks.{sequencer_of}
-use Rattle.cell_parts.specs.Claims.{owner_of}
+use Rattle.master_parts.specs.Claims.{owner_of}
 use Rattle.cell_core.specs.Names.{call_touched, names_touched, name_asked, shown_by}
 
 -- a handle that is shown is the one whose bytes are shown

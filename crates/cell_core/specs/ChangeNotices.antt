@@ -10,16 +10,16 @@ use Rattle.lock_core.specs.Locks.{LockTable, lock_at}
 use Rattle.tags_cell.specs.Handles.{read_handle}
 use Rattle.tags_cell.specs.declared.messages.calls.Call.{Call}
 use Rattle.tags_cell.specs.declared.messages.outs.CallResult.{CallResult}
-use Rattle.cell_state.specs.declared.updates.Change.{Change}
-use Rattle.cell_state.specs.declared.updates.LockPut.{LockPut}
-use Rattle.cell_parts.specs.declared.notices.Notice.{Notice}
-use Rattle.cell_state.specs.Updates.{new_generation}
-use Rattle.cell_state.specs.State.{MasterState}
+use Rattle.master_state.specs.declared.updates.Change.{Change}
+use Rattle.master_state.specs.declared.updates.LockPut.{LockPut}
+use Rattle.master_parts.specs.declared.notices.Notice.{Notice}
+use Rattle.master_state.specs.Updates.{new_generation}
+use Rattle.master_state.specs.State.{MasterState}
 use Rattle.cell_core.specs.declared.effects.Effect.{Effect}
 use Rattle.node_core.specs.declared.refusals.Fault.TheVariants as faults
 use Rattle.tags_cell.specs.declared.messages.calls.Call.TheVariants as calls
 use Rattle.tags_cell.specs.declared.messages.outs.CallResult.TheVariants as results
-use Rattle.cell_parts.specs.declared.notices.Notice.TheVariants as notices
+use Rattle.master_parts.specs.declared.notices.Notice.TheVariants as notices
 
 -- ---- a change of the map
 

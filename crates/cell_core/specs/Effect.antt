@@ -22,7 +22,7 @@ use Rattle.tags_cell.specs.declared.messages.calls.Disposition.TheVariants.{May,
 use Rattle.tags_cell.specs.declared.messages.calls.Call.{Call}
 use Rattle.tags_cell.specs.declared.messages.outs.CallResult.{CallResult}
 use Rattle.cell_core.specs.declared.effects.Effect.{Effect}
-use Rattle.cell_parts.specs.declared.pending.Idle.{Idle}
+use Rattle.master_parts.specs.declared.pending.Idle.{Idle}
 use Rattle.cell_core.specs.declared.effects.Locking.{Locking}
 use Rattle.cell_core.specs.declared.effects.Locking.TheVariants.{Nothing, Takes, Waits, Leaves, Goes}
 use Rattle.lock_core.specs.declared.claims.Claim.{Claim}
@@ -31,19 +31,19 @@ use Rattle.lock_core.specs.declared.turns.Acquired.{Acquired}
 use Rattle.lock_core.specs.State.{LockState}
 use Rattle.lock_core.specs.Locks.{lock_at}
 use Rattle.lock_core.specs.Turns.{tried, acquired, released, closed_by}
-use Rattle.cell_state.specs.declared.updates.LockPut.{LockPut}
-use Rattle.cell_parts.specs.Claims.{owner_of, claim_of}
-use Rattle.cell_state.specs.NameSpace.{NameSpace, Caller}
-use Rattle.cell_state.specs.Lookups.{may, missing_right, is_of_cell, sequencer_fault, lock_under, holds_lock, node_of_handle, new_handle, open_present, plain_open, opened_answer, opened_note, answer_on}
-use Rattle.cell_parts.specs.Calls.{create_fault, bytes_of}
-use Rattle.cell_parts.specs.Keys.{key_of}
+use Rattle.master_state.specs.declared.updates.LockPut.{LockPut}
+use Rattle.master_parts.specs.Claims.{owner_of, claim_of}
+use Rattle.master_state.specs.NameSpace.{NameSpace, Caller}
+use Rattle.master_state.specs.Lookups.{may, missing_right, is_of_cell, sequencer_fault, lock_under, holds_lock, node_of_handle, new_handle, open_present, plain_open, opened_answer, opened_note, answer_on}
+use Rattle.master_parts.specs.Calls.{create_fault, bytes_of}
+use Rattle.master_parts.specs.Keys.{key_of}
 use Rattle.node_core.specs.declared.refusals.Fault.TheVariants as faults
 use Rattle.node_core.specs.declared.kinds.Kind.TheVariants as kinds
 use Rattle.node_core.specs.declared.kinds.Right.TheVariants as rights
 use Rattle.tags_cell.specs.declared.messages.calls.NewNode.TheVariants as made
 use Rattle.tags_cell.specs.declared.messages.calls.Call.TheVariants as calls
 use Rattle.tags_cell.specs.declared.messages.outs.CallResult.TheVariants as results
-use Rattle.cell_parts.specs.declared.handles.HandleState.TheVariants as states
+use Rattle.master_parts.specs.declared.handles.HandleState.TheVariants as states
 use Rattle.lock_core.specs.declared.turns.Acquired.TheVariants as asked
 
 -- an answer that changes nothing

@@ -5,10 +5,10 @@ use Rattle.node_core.specs.declared.refusals.Fault.{Fault}
 use Rattle.node_core.specs.declared.nodes.Node.{Node}
 use Rattle.node_core.specs.Nodes.{get_node, with_parent}
 use Rattle.gate_core.specs.Gate.{push_answer}
-use Rattle.cell_parts.specs.declared.pending.Idle.{Idle}
-use Rattle.cell_parts.specs.declared.pending.Task.TheVariants as tasks
-use Rattle.cell_parts.specs.Ephemerals.{is_left, goes, idle_of}
-use Rattle.cell_state.specs.State.{MasterState, tables_of}
+use Rattle.master_parts.specs.declared.pending.Idle.{Idle}
+use Rattle.master_parts.specs.declared.pending.Task.TheVariants as tasks
+use Rattle.master_parts.specs.Ephemerals.{is_left, goes, idle_of}
+use Rattle.master_state.specs.State.{MasterState, tables_of}
 use Rattle.cell_core.specs.Step.{queued, asking_for}
 
 -- how long ephemeral nodes stay at least once a recovery has ended, in milliseconds: by then who holds one open has shown its handle, or its session has ended

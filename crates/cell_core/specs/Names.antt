@@ -6,18 +6,18 @@ use Rattle.tags_cell.specs.Handles.{read_handle}
 use Rattle.tags_cell.specs.declared.messages.calls.Call.{Call}
 use Rattle.tags_cell.specs.declared.messages.requests.CallMessage.{CallMessage}
 use Rattle.tags_cell.specs.declared.messages.outs.CallResult.{CallResult}
-use Rattle.cell_parts.specs.declared.pending.Task.{Task}
-use Rattle.cell_parts.specs.declared.pending.Work.{Work}
-use Rattle.cell_state.specs.State.{MasterState}
+use Rattle.master_parts.specs.declared.pending.Task.{Task}
+use Rattle.master_parts.specs.declared.pending.Work.{Work}
+use Rattle.master_state.specs.State.{MasterState}
 use Rattle.node_core.specs.Nodes.{with_parent}
 use Rattle.cell_core.specs.declared.asking.Touched.{Touched}
 use Rattle.cell_core.specs.declared.asking.Touched.TheVariants.{WithParent}
 use Rattle.cell_core.specs.Step.{touched_by, names_of, task_of, admission_for}
-use Rattle.cell_parts.specs.Calls.{bytes_of}
+use Rattle.master_parts.specs.Calls.{bytes_of}
 use Rattle.tags_cell.specs.declared.messages.calls.Call.TheVariants as calls
 use Rattle.tags_cell.specs.declared.messages.outs.CallResult.TheVariants as results
-use Rattle.cell_parts.specs.declared.pending.Task.TheVariants as tasks
-use Rattle.cell_parts.specs.declared.pending.Work.TheVariants as works
+use Rattle.master_parts.specs.declared.pending.Task.TheVariants as tasks
+use Rattle.master_parts.specs.declared.pending.Work.TheVariants as works
 
 -- what it touches: the names whose view it may change
 abbrev pub call_touched : List ℕ → Call → Option Touched

@@ -6,15 +6,15 @@ use Rattle.node_core.specs.declared.views.Mod.{Mod}
 use Rattle.node_core.specs.declared.views.Mod.TheVariants.{Put, Gone}
 use Rattle.tags_cell.specs.declared.messages.outs.CallResult.{CallResult}
 use Rattle.tags_cell.specs.declared.messages.outs.Reply.{Reply}
-use Rattle.cell_state.specs.declared.updates.LockPut.{LockPut}
+use Rattle.master_state.specs.declared.updates.LockPut.{LockPut}
 use Rattle.cell_core.specs.declared.effects.Effect.{Effect}
 use Rattle.cell_core.specs.declared.effects.Leave.{Leave}
 use Rattle.cell_core.specs.declared.effects.Locking.{Locking}
 use Rattle.cell_core.specs.declared.effects.Locking.TheVariants.{Takes, Waits, Leaves, Goes}
-use Rattle.cell_state.specs.declared.updates.Change.{Change}
-use Rattle.cell_state.specs.State.{MasterState}
-use Rattle.cell_state.specs.Lookups.{reply_of}
-use Rattle.cell_state.specs.Replies.{replies_to, turn_replies, locked_line, locked_lines, line_if}
+use Rattle.master_state.specs.declared.updates.Change.{Change}
+use Rattle.master_state.specs.State.{MasterState}
+use Rattle.master_state.specs.Lookups.{reply_of}
+use Rattle.master_state.specs.Replies.{replies_to, turn_replies, locked_line, locked_lines, line_if}
 use Rattle.node_core.specs.declared.refusals.Fault.TheVariants as faults
 use Rattle.node_core.specs.declared.lines.Line.TheVariants as lines
 use Rattle.tags_cell.specs.declared.messages.outs.CallResult.TheVariants as results

@@ -16,25 +16,25 @@ use Rattle.tags_cell.specs.declared.messages.requests.CallMessage.{CallMessage}
 use Rattle.tags_cell.specs.declared.messages.requests.Request.{Request}
 use Rattle.tags_cell.specs.declared.messages.outs.CallResult.{CallResult}
 use Rattle.tags_cell.specs.declared.messages.outs.Reply.{Reply}
-use Rattle.cell_parts.specs.declared.pending.Taken.{Taken}
+use Rattle.master_parts.specs.declared.pending.Taken.{Taken}
 use Rattle.session_core.specs.declared.records.Kept.{Kept}
 use Rattle.session_core.specs.Session.{beat_fault, beaten, kept_answer, keeping}
 use Rattle.session_core.specs.Sessions.{with_session, issued_by}
-use Rattle.cell_parts.specs.declared.pending.Asked.{Asked}
-use Rattle.cell_parts.specs.declared.pending.Task.{Task}
-use Rattle.cell_parts.specs.declared.handles.Note.{Note}
+use Rattle.master_parts.specs.declared.pending.Asked.{Asked}
+use Rattle.master_parts.specs.declared.pending.Task.{Task}
+use Rattle.master_parts.specs.declared.handles.Note.{Note}
 use Rattle.cell_core.specs.declared.admissions.Admission.{Admission}
 use Rattle.cell_core.specs.declared.asking.Touched.{Touched}
 use Rattle.cell_core.specs.declared.asking.Touched.TheVariants.{Alone, WithParent}
-use Rattle.cell_parts.specs.Keys.{key_of}
-use Rattle.cell_state.specs.NameSpace.{name_space, caller}
-use Rattle.cell_state.specs.State.{MasterState}
-use Rattle.cell_state.specs.Lookups.{session_of, kept_of, is_live, may_start, is_full, nothing, turned_away, refusal, reply_of, stamped_reply, sends, repeated, granted_lines, acknowledgement, handle_state_of, shown_handle, is_of_cell, plain_open, opened_answer, opened_note, sequencer_fault, check_answer, answer_on, noted, is_spent}
+use Rattle.master_parts.specs.Keys.{key_of}
+use Rattle.master_state.specs.NameSpace.{name_space, caller}
+use Rattle.master_state.specs.State.{MasterState}
+use Rattle.master_state.specs.Lookups.{session_of, kept_of, is_live, may_start, is_full, nothing, turned_away, refusal, reply_of, stamped_reply, sends, repeated, granted_lines, acknowledgement, handle_state_of, shown_handle, is_of_cell, plain_open, opened_answer, opened_note, sequencer_fault, check_answer, answer_on, noted, is_spent}
 use Rattle.tags_cell.specs.Messages.{is_leave}
-use Rattle.cell_parts.specs.Calls.{create_fault, bytes_of}
-use Rattle.cell_parts.specs.Answered.{answered_by}
-use Rattle.cell_parts.specs.Notes.{open_note}
-use Rattle.cell_state.specs.Updates.{with_note}
+use Rattle.master_parts.specs.Calls.{create_fault, bytes_of}
+use Rattle.master_parts.specs.Answered.{answered_by}
+use Rattle.master_parts.specs.Notes.{open_note}
+use Rattle.master_state.specs.Updates.{with_note}
 use Rattle.node_core.specs.declared.refusals.Fault.TheVariants as faults
 use Rattle.node_core.specs.declared.lines.Line.TheVariants as lines
 use Rattle.gate_core.specs.Gate as of_gate
@@ -42,8 +42,8 @@ use Rattle.tags_cell.specs.declared.messages.calls.Call.TheVariants as calls
 use Rattle.tags_cell.specs.declared.messages.requests.Request.TheVariants as requests
 use Rattle.tags_cell.specs.declared.messages.outs.CallResult.TheVariants as results
 use Rattle.tags_cell.specs.declared.messages.outs.Out.TheVariants as outs
-use Rattle.cell_parts.specs.declared.pending.Task.TheVariants as tasks
-use Rattle.cell_parts.specs.declared.pending.Work.TheVariants as works
+use Rattle.master_parts.specs.declared.pending.Task.TheVariants as tasks
+use Rattle.master_parts.specs.declared.pending.Work.TheVariants as works
 
 -- ---- what the master keeps
 

@@ -3,16 +3,16 @@ ghost use Rattle.std.specs.Prelude.{◌≡◌, Some, None, IfOk};
 ghost use Rattle.std.specs.Option.{option_and_then};
 ghost use Rattle.tags_cell.specs.Handles.{read_handle};
 ghost use Rattle.cell_core.specs.Step.{admission_for, admission_of_open, open_admission, handle_admission, check_admission, leave_admission, answering, shown_note, touched_by, viewed_name, told_by_open};
-ghost use Rattle.cell_state.specs.NameSpace.{name_space};
-ghost use Rattle.cell_state.specs.Lookups.{sequencer_fault, is_of_cell};
-ghost use Rattle.cell_parts.specs.Calls.{bytes_of};
+ghost use Rattle.master_state.specs.NameSpace.{name_space};
+ghost use Rattle.master_state.specs.Lookups.{sequencer_fault, is_of_cell};
+ghost use Rattle.master_parts.specs.Calls.{bytes_of};
 
 use crate::asking::Touched;
-use cell_parts::{HandleKey, Note, OpenHandle, bytes_of, create_fault};
-use cell_state::Master;
+use collections::Bytes;
+use master_parts::{HandleKey, Note, OpenHandle, bytes_of, create_fault};
+use master_state::Master;
 use names_cell::Name;
 use node_core::Fault;
-use plain::Bytes;
 use std::alloc::AllocError;
 use tags_cell::{Call, CallMessage, CallResult, ClientNumber, Handle, MessageNumber, Open};
 

@@ -1,14 +1,14 @@
 //! How often the answer of a step is wanted.
 ghost use Rattle.std.specs.Prelude.{◌≡◌, IfOk};
 
-use cell_parts::Taken;
+use master_parts::Taken;
 use std::alloc::AllocError;
 use std::marker::Model;
 
 /// The answer of a step as often as it is wanted. It is made before the step has any effect, so that want of memory
 /// leaves all as it was.
 pub trait Answers: Drop {
-    ghost use Rattle.cell_parts.specs.declared.pending.Taken.{Taken};
+    ghost use Rattle.master_parts.specs.declared.pending.Taken.{Taken};
 
     /// The answer, of which all are copies.
     ghost answer: { Self → Taken };
@@ -36,7 +36,7 @@ pub struct Thrice {
 
 impl Model for Thrice {
     ghost use Rattle.std.specs.Prelude.{◌≡◌};
-    ghost use Rattle.cell_parts.specs.declared.pending.Taken.{Taken};
+    ghost use Rattle.master_parts.specs.declared.pending.Taken.{Taken};
 
     ghost Value = { Taken };
 

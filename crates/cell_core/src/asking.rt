@@ -7,9 +7,9 @@ ghost use Rattle.rights_core.specs.Rights.{clients_to_ask, renumbered};
 ghost use Rattle.cell_core.specs.Step.{names_of, asking, asking_for};
 ghost use Rattle.cell_core.specs.Asking.{names_asked, IsToAsk, AboveFits};
 
-use cell_state::Master;
+use collections::{Items, Table};
+use master_state::Master;
 use names_cell::Name;
-use plain::{Items, Table};
 use std::alloc::{AllocError, Global};
 
 /// What a change that waits touches: the names whose view it may change (Burrows 2006, section 2.7).

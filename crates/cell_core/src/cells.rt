@@ -1,15 +1,15 @@
 //! The master in memory.
 ghost use Rattle.std.specs.Prelude.{◌≡◌, ◌≤◌, IfOk, OnOk, OnErr};
 ghost use Rattle.lease_core.specs.Lease.{IsMoment, least_lease, longest_lease};
-ghost use Rattle.cell_state.specs.State.{master_of};
-ghost use Rattle.cell_state.specs.Lookups.{noted};
-ghost use Rattle.cell_state.specs.Notices.{with_tellings};
-ghost use Rattle.cell_state.specs.Updates.{BeginsNew, grown, undone, rest_of, with_rest};
+ghost use Rattle.master_state.specs.State.{master_of};
+ghost use Rattle.master_state.specs.Lookups.{noted};
+ghost use Rattle.master_state.specs.Notices.{with_tellings};
+ghost use Rattle.master_state.specs.Updates.{BeginsNew, grown, undone, rest_of, with_rest};
 
 use crate::stored::{locks_of, sessions_of};
-use cell_parts::{Nodes, Tables, Telling};
-use cell_state::{Former, Grown, Master, Rest, Update, finish, grow, settle, undo};
-use plain::Items;
+use collections::Items;
+use master_parts::{Nodes, Tables, Telling};
+use master_state::{Former, Grown, Master, Rest, Update, finish, grow, settle, undo};
 use rows_cell::Rows;
 use std::alloc::{AllocError, Global};
 use std::marker::Model;
@@ -22,7 +22,7 @@ pub struct Cell {
 }
 
 impl Model for Cell {
-    ghost use Rattle.cell_state.specs.State.{MasterState};
+    ghost use Rattle.master_state.specs.State.{MasterState};
 
     ghost Value = { MasterState };
 

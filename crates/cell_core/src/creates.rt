@@ -1,15 +1,15 @@
 //! What an Open that may make a node does when its turn comes.
 ghost use Rattle.std.specs.Prelude.{◌≡◌, ◌<◌, ◌+◌, ◌-◌, ◌^◌, None, Ok, IfOk};
 ghost use Rattle.node_core.specs.declared.views.Mod.TheVariants.{Put};
-ghost use Rattle.cell_state.specs.NameSpace.{name_space, caller};
+ghost use Rattle.master_state.specs.NameSpace.{name_space, caller};
 ghost use Rattle.cell_core.specs.Effect.{create_effect, create_over, create_new, create_in, create_permitted, create_numbered, create_made, new_node, kind_of, first_generation, content_of, acls_of};
-ghost use Rattle.cell_state.specs.Lookups.{may};
+ghost use Rattle.master_state.specs.Lookups.{may};
 
 use crate::effects::{Effect, Locking, opened_effect};
-use cell_state::{Change, Master};
+use collections::Bytes;
+use master_state::{Change, Master};
 use names_cell::Name;
 use node_core::{Fault, Kind, Mod, NUMBER_LIMIT, Node, Right};
-use plain::Bytes;
 use std::alloc::{AllocError, Global};
 use tags_cell::{
     AclNames, ClientNumber, Create, Disposition, Handle, MessageNumber, NewNode, Open,

@@ -1,17 +1,17 @@
 //! What a change does when its turn comes.
 ghost use Rattle.std.specs.Prelude.{◌≡◌, Some, None, IfOk};
-ghost use Rattle.cell_state.specs.NameSpace.{name_space, caller};
+ghost use Rattle.master_state.specs.NameSpace.{name_space, caller};
 ghost use Rattle.cell_core.specs.Effect.{answered, refused, changes_to, opened_effect, effect, effect_on, create_tested, create_here, open_effect};
 
 use crate::creates::create_effect;
 use crate::locks::close_at;
 use crate::writes::change_on;
-use cell_parts::{Note, bytes_of, create_fault};
-use cell_state::{Change, LockPut, Master};
+use collections::{Bytes, Items};
 use lock_core::{Claim, Turn};
+use master_parts::{Note, bytes_of, create_fault};
+use master_state::{Change, LockPut, Master};
 use names_cell::Name;
 use node_core::{Fault, Mod};
-use plain::{Bytes, Items};
 use std::alloc::AllocError;
 use tags_cell::{Call, CallResult, ClientNumber, Create, Handle, MessageNumber, Open};
 

@@ -2,15 +2,15 @@
 ghost use Rattle.std.specs.Prelude.{◌≡◌, true, Some, find, IfOk, OnOk, OnErr};
 ghost use Rattle.std.specs.Option.{option_map};
 ghost use Rattle.gate_core.specs.Gate.{push_answer};
-ghost use Rattle.cell_parts.specs.Ephemerals.{idle_of};
+ghost use Rattle.master_parts.specs.Ephemerals.{idle_of};
 ghost use Rattle.cell_core.specs.Step.{queued, names_of};
 ghost use Rattle.cell_core.specs.Ephemerals.{is_to_go, is_ok, may_tidy, next_idle, tidied, is_still_idle};
 
 use crate::asking::{Touched, ask};
 use crate::cells::Cell;
 use crate::takes::queue;
-use cell_parts::{Idle, Task};
-use cell_state::Master;
+use master_parts::{Idle, Task};
+use master_state::Master;
 use std::alloc::AllocError;
 
 /// How long ephemeral nodes stay at least once a recovery has ended, in milliseconds: by then who holds one open has

@@ -18,11 +18,11 @@ mod writes;
 
 pub use answers::{Answers, Thrice};
 pub use asking::Touched;
-pub use cell_parts::Taken;
 pub use cells::Cell;
 pub use effects::{Effect, Leave, Locking, effect_of};
 pub use ephemerals::SPARED_FOR;
 pub use laws::queues_what_it_touches;
 pub use locks::gone_by_itself;
+pub use master_parts::Taken;
 pub use notices::{change_notices, contest_notices, contested_by, locks_notices};
 pub use outcomes::{effect_lines, effect_replies, lock_ended, locking_puts, locking_replies};

@@ -1,16 +1,16 @@
 //! What a call does to a lock when its turn comes.
 ghost use Rattle.std.specs.Prelude.{◌≡◌, Some, None, IfOk};
 ghost use Rattle.lock_core.specs.Locks.{lock_at};
-ghost use Rattle.cell_state.specs.NameSpace.{name_space};
-ghost use Rattle.cell_state.specs.Lookups.{node_of_handle};
+ghost use Rattle.master_state.specs.NameSpace.{name_space};
+ghost use Rattle.master_state.specs.Lookups.{node_of_handle};
 ghost use Rattle.cell_core.specs.Effect.{lock_put, lock_taken, lock_awaited, leaving_by, acquire_at, try_at, release_at, close_under, close_at, deleted, gone_by_itself};
 
 use crate::effects::{Effect, Leave, Locking};
-use cell_parts::{HandleKey, HandleState, Idle, Note, claim_of, owner_of};
-use cell_state::{Change, LockPut, Master};
+use collections::Items;
 use lock_core::{Acquired, Claim, Lock, Turn};
+use master_parts::{HandleKey, HandleState, Idle, Note, claim_of, owner_of};
+use master_state::{Change, LockPut, Master};
 use node_core::{Fault, LockMode, Mod};
-use plain::Items;
 use std::alloc::AllocError;
 use tags_cell::{CallResult, Handle};
 

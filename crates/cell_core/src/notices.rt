@@ -6,11 +6,11 @@ ghost use Rattle.node_core.specs.Nodes.{get_node};
 ghost use Rattle.cell_core.specs.ChangeNotices.{above, put_notices, gone_notices, mod_notices, change_notices, lock_notices, locks_notices, is_held, shown_instance, contested_by, contest_notices};
 
 use crate::effects::Effect;
-use cell_parts::Notice;
-use cell_state::{Change, LockPut, Master};
+use collections::Items;
+use master_parts::Notice;
+use master_state::{Change, LockPut, Master};
 use names_cell::Name;
 use node_core::{Fault, Mod, Node};
-use plain::Items;
 use std::alloc::{AllocError, Global};
 use tags_cell::{Call, CallResult, ClientNumber};
 

@@ -3,12 +3,12 @@ ghost use Rattle.std.specs.Prelude.{◌≡◌, ◌++◌, Some, None, IfOk};
 ghost use Rattle.cell_core.specs.Outcomes.{leave_lines, locking_lines, locking_replies, left_put, locking_puts, lock_ended, put_listing, applied_lines, own_replies, effect_replies};
 
 use crate::effects::{Effect, Leave, Locking};
-use cell_state::{
+use collections::Items;
+use lock_core::Turn;
+use master_state::{
     Change, LockPut, Master, line_if, locked_line, locked_lines, replies_to, turn_replies,
 };
-use lock_core::Turn;
 use node_core::{Fault, Line, Listing, Mod};
-use plain::Items;
 use std::alloc::{AllocError, Global};
 use tags_cell::{CallResult, ClientNumber, MessageNumber, Reply};
 

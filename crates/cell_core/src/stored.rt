@@ -1,8 +1,8 @@
 //! The locks and the sessions of a master that comes up, as the rows tell them.
 ghost use Rattle.std.specs.Prelude.{◌≡◌, ◌≤◌, IfOk, OnOk};
 ghost use Rattle.lease_core.specs.Lease.{IsMoment, least_lease, longest_lease};
-ghost use Rattle.cell_parts.specs.StoredSessions.{sessions_of};
-ghost use Rattle.cell_parts.specs.Locks.{locks_of, generations_of, with_row, holder_of};
+ghost use Rattle.master_parts.specs.StoredSessions.{sessions_of};
+ghost use Rattle.master_parts.specs.Locks.{locks_of, generations_of, with_row, holder_of};
 
 use lock_core::{Claim, Hold, Locks, Owner};
 use node_core::{LockMode, NUMBER_LIMIT};

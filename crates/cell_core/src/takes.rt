@@ -1,8 +1,8 @@
 //! What a master does with a message.
 ghost use Rattle.std.specs.Prelude.{◌≡◌, ◌≢◌, true, false, Some, None, Ok, Err, IfOk, IfErr, OnOk, OnErr};
 ghost use Rattle.cell_core.specs.Step.{take_step, take_at, start_step, beat_step, call_step, kept_step, ended_step, new_call, admit_step, telling, granting, is_cachable, with_right, waits, with_call, recorded, queued, replied, task_of};
-ghost use Rattle.cell_state.specs.Updates.{with_note};
-ghost use Rattle.cell_state.specs.Lookups.{kept_of, is_full, is_spent, nothing};
+ghost use Rattle.master_state.specs.Updates.{with_note};
+ghost use Rattle.master_state.specs.Lookups.{kept_of, is_full, is_spent, nothing};
 ghost use Rattle.session_core.specs.Session.{kept_answer};
 ghost use Rattle.gate_core.specs.Gate.{push_answer};
 ghost use Rattle.cell_core.specs.Ephemerals.{is_ok};
@@ -11,13 +11,13 @@ use crate::admissions::{Admission, admission_for};
 use crate::answers::{Answers, Thrice};
 use crate::asking::{Touched, ask};
 use crate::cells::Cell;
-use cell_parts::{Asked, Note, Taken, Task, Work, answered_by, is_leave};
-use cell_state::{Master, settle_note};
+use collections::Items;
 use gate_core::Pending;
 use lease_core::MOMENT_LIMIT;
+use master_parts::{Asked, Note, Taken, Task, Work, answered_by, is_leave};
+use master_state::{Master, settle_note};
 use names_cell::Name;
 use node_core::Fault;
-use plain::Items;
 use rights_core::Ending;
 use session_core::Kept;
 use std::alloc::AllocError;

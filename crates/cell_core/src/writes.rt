@@ -1,13 +1,13 @@
 //! What a write does when its turn comes.
 ghost use Rattle.std.specs.Prelude.{◌≡◌, ◌<◌, ◌-◌, ◌^◌, IfOk};
-ghost use Rattle.cell_state.specs.NameSpace.{name_space};
+ghost use Rattle.master_state.specs.NameSpace.{name_space};
 ghost use Rattle.cell_core.specs.Effect.{changes_to, put_at, delete_at, change_at, change_on, generation_fits, with_content, with_acls};
 
 use crate::effects::Effect;
 use crate::locks::{acquire_at, deleted, release_at, try_at};
-use cell_state::Master;
+use collections::Bytes;
+use master_state::Master;
 use node_core::{Fault, Mod, NUMBER_LIMIT, Node};
-use plain::Bytes;
 use std::alloc::AllocError;
 use tags_cell::{AclNames, Call, CallResult, Handle};
 

@@ -15,7 +15,7 @@ use Rattle.sqlite.specs.Start.{FindsIn}
 use Rattle.sqlite.specs.Files.{image_of, file_state, IsCleanLeft, FailsToOpenFiles, LeavesFiles}
 use Rattle.sqlite.specs.declared.error.Error.{Error}
 use Rattle.sqlite.specs.declared.file.Leftover.{Leftover}
-use Rattle.settings_core.specs.Settings.{Settled}
+use Rattle.rows_cell.specs.Settings.{Settled}
 use Rattle.rows_cell.specs.Stores.{Store}
 use Rattle.rows_sql.specs.Keeping.{IsLeft}
 use Rattle.cellctl.specs.Closed.{DoneOver, DoneAt}

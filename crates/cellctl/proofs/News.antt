@@ -7,12 +7,12 @@ use Rattle.sqlite_trees.specs.View.{IsClean}
 use Rattle.sqlite_trees.proofs.Doubt.{no_doubt}
 use Rattle.sqlite.specs.Effect.{Database}
 use Rattle.sqlite.specs.Steps.{IsEmpty}
-use Rattle.settings_core.specs.Settings.{Settled}
+use Rattle.rows_cell.specs.Settings.{Settled}
 use Rattle.rows_cell.specs.declared.tables.Rows.{Rows}
 use Rattle.rows_cell.specs.Opening.{opening}
 use Rattle.rows_cell.specs.Stores.{Store}
-use Rattle.world_core.specs.World.{WorldView, IsUndoubted, opened, store_in}
-use Rattle.script_cell.specs.Ran.{EndsWith, EndsSurely}
+use Rattle.world_steps.specs.World.{WorldView, IsUndoubted, opened, store_in}
+use Rattle.scripts.specs.Ran.{EndsWith, EndsSurely}
 use Rattle.rows_sql.specs.declared.schema.ours.Version.TheVariants.{First, Unindexed, Second}
 use Rattle.rows_sql.specs.Creation.{no_schema}
 use Rattle.rows_sql.specs.Adopting.{Takes}

@@ -8,19 +8,19 @@ use Rattle.sqlite_wal.specs.Recovery.{Image}
 use Rattle.sqlite_trees.specs.View.{doubt}
 use Rattle.sqlite.specs.State.{State, HasCleanDisk}
 use Rattle.sqlite.specs.Start.{FindsIn}
-use Rattle.settings_core.specs.Settings.{Settled}
+use Rattle.rows_cell.specs.Settings.{Settled}
 use Rattle.rows_cell.specs.Stores.{Store}
-use Rattle.world_core.specs.World.{WorldView, IsUndoubted, opened, store_in}
-use Rattle.script_cell.specs.Ran.{EndsWith, EndsWell, EndsSurely}
-use Rattle.serve_cell.specs.declared.seats.Seat.{Seat}
-use Rattle.serve_cell.specs.declared.seats.Seat.TheVariants.{Down}
-use Rattle.serve_cell.specs.Seats.{Hosted, hosted, without_master}
-use Rattle.serve_cell.specs.declared.stops.Stop.TheVariants.{NoMemory}
-use Rattle.serve_cell.specs.declared.stops.GroupStop.{GroupStop}
-use Rattle.serve_cell.specs.declared.stops.GroupStop.TheVariants.{Stopped}
-use Rattle.serve_cell.specs.Groups.{EndsGroups}
-use Rattle.serve_cell.proofs.Doubts.{ends_groups_grow}
-use Rattle.serve_cell.proofs.Grouped.{ends_roomless as roomless}
+use Rattle.world_steps.specs.World.{WorldView, IsUndoubted, opened, store_in}
+use Rattle.scripts.specs.Ran.{EndsWith, EndsWell, EndsSurely}
+use Rattle.hosting.specs.declared.seats.Seat.{Seat}
+use Rattle.hosting.specs.declared.seats.Seat.TheVariants.{Down}
+use Rattle.hosting.specs.Seats.{Hosted, hosted, without_master}
+use Rattle.hosting.specs.declared.stops.Stop.TheVariants.{NoMemory}
+use Rattle.hosting.specs.declared.stops.GroupStop.{GroupStop}
+use Rattle.hosting.specs.declared.stops.GroupStop.TheVariants.{Stopped}
+use Rattle.hosting.specs.Groups.{EndsGroups}
+use Rattle.hosting.proofs.Doubts.{ends_groups_grow}
+use Rattle.hosting.proofs.Grouped.{ends_roomless as roomless}
 use Rattle.rows_sql.specs.Adopting.{Adopts}
 use Rattle.rows_sql.specs.Closed.{StandsAlone}
 use Rattle.cellctl.specs.Led.{Known, ScriptLeads, ScriptLeadsSurely, served_status, EndsServing, FramesLead, EndsFrames, EndsAnyFrames}

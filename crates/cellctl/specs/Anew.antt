@@ -1,9 +1,9 @@
 -- What a script did over a new store in memory, and what a run of a script comes to.
 use Rattle.std.specs.Prelude.{◌≡◌, ◌⊎◌, ℕ, Option, None, Some}
-use Rattle.settings_core.specs.Settings.{Settled}
+use Rattle.rows_cell.specs.Settings.{Settled}
 use Rattle.rows_cell.specs.Opening.{opening}
-use Rattle.world_core.specs.World.{opened}
-use Rattle.script_cell.specs.Ran.{RunsSurely}
+use Rattle.world_steps.specs.World.{opened}
+use Rattle.scripts.specs.Ran.{RunsSurely}
 use Rattle.cellctl.specs.Closed.{taken}
 use Rattle.cellctl.specs.Exits.{IsShut}
 use Rattle.cellctl.specs.Led.{Known, EndsScript}

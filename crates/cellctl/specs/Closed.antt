@@ -7,7 +7,7 @@ use Rattle.sqlite.specs.State.{State, HasCleanDisk}
 use Rattle.sqlite.specs.Tree.{Trees}
 use Rattle.sqlite.specs.Effect.{Database, IsDatabase}
 use Rattle.sqlite.specs.Files.{HoldsDatabase, AreFoundIn}
-use Rattle.settings_core.specs.Settings.{Settled}
+use Rattle.rows_cell.specs.Settings.{Settled}
 use Rattle.rows_cell.specs.declared.tables.Rows.{Rows}
 use Rattle.rows_cell.specs.Stores.{Store}
 use Rattle.rows_sql.specs.Adopting.{Adopts, Takes}

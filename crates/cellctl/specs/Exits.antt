@@ -1,6 +1,6 @@
 -- How the program ends.
 use Rattle.std.specs.Prelude.{◌≡◌, ◌⊎◌, ⊤, ℕ}
-use Rattle.script_cell.specs.Stops.{IsStatus}
+use Rattle.scripts.specs.Stops.{IsStatus}
 use Rattle.cellctl.specs.declared.troubles.Subject.{Subject}
 use Rattle.cellctl.specs.declared.troubles.Subject.TheVariants.{Store, Pipe, Rows, Script, Settings}
 

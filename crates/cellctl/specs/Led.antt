@@ -1,13 +1,13 @@
 -- What leads from one store to another.
 use Rattle.std.specs.Prelude.{◌≡◌, ◌⊎◌, ℕ, List, Option, Result, Ok, Err}
 use Rattle.rows_cell.specs.Stores.{Store}
-use Rattle.world_core.specs.World.{WorldView, opened, store_in}
-use Rattle.script_cell.specs.Ran.{EndsWith, EndsWell, EndsSurely}
-use Rattle.serve_cell.specs.declared.stops.Stop.TheVariants as stops
-use Rattle.serve_cell.specs.declared.stops.GroupStop.{GroupStop}
-use Rattle.serve_cell.specs.declared.stops.GroupStop.TheVariants.{Stopped, Refused}
-use Rattle.serve_cell.specs.Seats.{Hosted, without_master}
-use Rattle.serve_cell.specs.Groups.{EndsGroups}
+use Rattle.world_steps.specs.World.{WorldView, opened, store_in}
+use Rattle.scripts.specs.Ran.{EndsWith, EndsWell, EndsSurely}
+use Rattle.hosting.specs.declared.stops.Stop.TheVariants as stops
+use Rattle.hosting.specs.declared.stops.GroupStop.{GroupStop}
+use Rattle.hosting.specs.declared.stops.GroupStop.TheVariants.{Stopped, Refused}
+use Rattle.hosting.specs.Seats.{Hosted, without_master}
+use Rattle.hosting.specs.Groups.{EndsGroups}
 use Rattle.cellctl.specs.Exits.{IsUnset, IsShut}
 
 -- bytes that are left in a stream, or that one holds, where they are known

@@ -13,7 +13,7 @@ use Rattle.sqlite.specs.Start.{FindsIn}
 use Rattle.sqlite.specs.Files.{image_of, over_files, file_state, IsCleanLeft, FailsToOpenFiles, LeavesFiles}
 use Rattle.sqlite.specs.declared.error.Error.{Error}
 use Rattle.sqlite.specs.declared.file.Leftover.{Leftover}
-use Rattle.settings_core.specs.Settings.{Settled}
+use Rattle.rows_cell.specs.Settings.{Settled}
 use Rattle.rows_cell.specs.declared.records.StoreFault.{StoreFault}
 use Rattle.rows_cell.specs.declared.records.StoreFault.TheVariants.{Damaged, Exhausted}
 use Rattle.rows_cell.specs.Stores.{Store}

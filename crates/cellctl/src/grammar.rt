@@ -1,7 +1,7 @@
 //! The grammar of a script's lines as tables, and where a line leaves it.
 //!
-//! `script_cell` decides which lines are steps; these tables say of one that is none which word is wrong.
-use script_cell::{content, events, mode, number};
+//! `scripts` decides which lines are steps; these tables say of one that is none which word is wrong.
+use scripts::{content, events, mode, number};
 use std::alloc::Global;
 use strsim::levenshtein;
 

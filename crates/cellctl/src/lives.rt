@@ -2,10 +2,10 @@
 ghost use Rattle.cellctl.specs.Exits.{IsExit};
 
 use clap::{Arg, ArgAction, ArgMatches, Command};
-use live_cell::{Idle, live_with};
 use std::alloc::{AllocError, Global};
 use std::sync::Wait;
 use std::thread::Threads;
+use threads::{Idle, live_with};
 
 /// What such a run does and prints, and how it ends.
 const RUNS: &str = "\

@@ -8,10 +8,9 @@ use crate::settings::settings;
 use crate::texts::Trouble;
 use crate::troubles::{Subject, tell, trouble_of};
 use anyhow::{Context, Result};
-use frame_rows::FrameRecords;
-use rows_cell::StoreFault;
-use serve_cell::Seat;
-use settings_core::Settings;
+use hosting::Seat;
+use rows_cell::{Settings, StoreFault};
+use rows_remote::FrameRecords;
 use std::fs::File;
 use std::io::{Read, Write};
 

@@ -4,8 +4,8 @@ ghost use Rattle.cellctl.specs.Exits.{IsExit, IsUnset};
 
 use crate::texts::Trouble;
 use crate::troubles::{Subject, tell, trouble_of};
-use settings_core::Settings;
-use settings_file::{TextFault, read_settings};
+use rows_cell::Settings;
+use scripts::{TextFault, read_settings};
 use std::fs;
 
 /// What cures settings that are none.

@@ -2,7 +2,7 @@
 use crate::bad_lines::tell_astray;
 use crate::help::SCRIPTS;
 use crate::texts::GREETING;
-use script_cell::{Parsed, read_line};
+use scripts::{Parsed, read_line};
 use std::alloc::Global;
 use std::fs::File;
 use std::io::{self, BufRead, BufReader, IsTerminal, Read, Stderr, Stdin, Write};

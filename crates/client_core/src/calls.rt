@@ -13,8 +13,8 @@ use crate::parts::{
     Ask, Asked, ClientHandle, Outcome, Outstanding, Target, moment_by, one_line, opened_lines,
 };
 use crate::plans::Plan;
+use collections::{Bytes, Items};
 use node_core::{Answer, Fault, Line, NUMBER_LIMIT};
-use plain::{Bytes, Items};
 use std::alloc::AllocError;
 use std::mem;
 use tags_cell::{Call, CallMessage, MessageNumber, Request};

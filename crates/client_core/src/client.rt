@@ -8,9 +8,9 @@ ghost use Rattle.client_core.specs.Gives.{give_step, taken_own, told};
 
 use crate::parts::{Beaten, ClientHandle, Given, Outstanding, Session, moment_by};
 use cache_core::{Cache, KeptHandles, Standing};
+use collections::Table;
 use names_cell::Principal;
 use node_core::Fault;
-use plain::Table;
 use std::alloc::{AllocError, Global};
 use std::marker::Model;
 use tags_cell::{Beat, ClientNumber, MessageNumber, NewHandle, Out, Request, Start};

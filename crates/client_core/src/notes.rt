@@ -7,8 +7,8 @@ ghost use Rattle.client_core.specs.Asks.{fault_then, fault_for, has_given_up};
 use crate::client::Client;
 use crate::parts::{Ask, Session, standing_by, turn_lines};
 use cache_core::Standing;
+use collections::Items;
 use node_core::{Fault, Line};
-use plain::Items;
 use std::alloc::AllocError;
 
 impl Client {

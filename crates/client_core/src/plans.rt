@@ -1,14 +1,14 @@
 //! What is done for what a client is asked for.
 ghost use Rattle.std.specs.Prelude.{◌≡◌, Some, IfOk};
 ghost use Rattle.std.specs.Option.{option_copied};
-ghost use Rattle.plain.specs.Results.{Gives};
+ghost use Rattle.collections.specs.Results.{Gives};
 ghost use Rattle.client_core.specs.Handles.{handle_of, usable_handle};
 ghost use Rattle.client_core.specs.Asks.{plan_of, send_plan, open_plan, close_plan, node_plan, sequencer_plan};
 
 use crate::client::Client;
 use crate::parts::{Ask, ClientHandle, NodeCall, Target, usable_handle};
+use collections::Bytes;
 use node_core::{Answer, Fault, Line};
-use plain::Bytes;
 use tags_cell::{Call, Open};
 
 /// What a client does next.

@@ -9,8 +9,8 @@ ghost use Rattle.client_core.specs.Poisons.{poison_lines, poisoned};
 
 use crate::client::Client;
 use crate::parts::{Ask, Asked, ClientHandle, Outcome, drop_reply};
+use collections::Items;
 use node_core::{Answer, Fault, Line};
-use plain::Items;
 use std::alloc::AllocError;
 
 impl Client {
@@ -57,7 +57,7 @@ impl Client {
         Ok(lines)
     }
 
-    #[tactic(auto, using(plain::proofs::Formers::set_absent))]
+    #[tactic(auto, using(collections::proofs::Formers::set_absent))]
     fn mark_poisoned(&mut self, number: u64, handle: ClientHandle)
         ensures { self.new ≡ record self.old { handles = poisoned self.old.handles number handle } }
     {

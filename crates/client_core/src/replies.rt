@@ -12,8 +12,8 @@ use crate::client::Client;
 use crate::parts::{
     Given, Session, Target, has_number, keep_handle, pushed, put_sequencer, sent_sequencer,
 };
+use collections::Items;
 use node_core::{Answer, Fault, Line};
-use plain::Items;
 use std::alloc::AllocError;
 use tags_cell::{CallResult, Reply};
 

@@ -5,7 +5,7 @@ ghost use Rattle.std.specs.Option.{option_copied};
 use crate::client::Client;
 use crate::parts::{ClientHandle, Outstanding, Session};
 use cache_core::{Cache, KeptHandles, Standing};
-use plain::Table;
+use collections::Table;
 use tags_cell::NewHandle;
 
 /// All that a client is, but for its number and its principal, to be looked at.

@@ -3,8 +3,8 @@ ghost use Rattle.std.specs.Prelude.{◌≡◌, ◌≤◌, ◌<◌, ◌-◌, None
 ghost use Rattle.node_core.specs.Limits.{number_end};
 ghost use Rattle.event_core.specs.Queue.{empty_queue, waiting_limit, count_of, is_full, is_exhausted, has_waiting, unacked, pushed, with_lost, without_first, acknowledge_fault, acknowledged_to};
 
+use collections::Items;
 use node_core::{Event, Fault, NUMBER_LIMIT};
-use plain::Items;
 use std::alloc::{AllocError, Global};
 use std::collections::VecDeque;
 use std::marker::Model;

@@ -1,10 +1,10 @@
 //! A master, a client, and what it opens.
 use anyhow::{Result, bail};
 use client_core::{Ask, Client};
+use collections::Bytes;
 use names_cell::{Name, Principal};
 use node_core::{Fault, Life};
 use over_core::Cell;
-use plain::Bytes;
 use rows_cell::{ListRecords, Settings};
 use std::alloc::{AllocError, Global};
 use tags_cell::{ClientNumber, Create, Disposition, Events, Mode, NewNode, Open};

@@ -10,7 +10,7 @@ use Rattle.std.specs.Map.{lookup, set_value, remove_entry, values_of}
 use Rattle.std.specs.BTreeMap.{is_at, insert_entry}
 use Rattle.std.proofs.lemmas.Bool.Decides.{nat_tests}
 use Rattle.std.proofs.lemmas.List.Sums.{sum_by-cons}
-use Rattle.plain.proofs.Keys.{bytes_same, bytes_swap}
+use Rattle.collections.proofs.Keys.{bytes_same, bytes_swap}
 use Rattle.rights_core.proofs.Places.{looked_text}
 use Rattle.node_core.specs.Limits.{number_limit}
 use Rattle.gate_core.specs.declared.pending.Pending.{Pending}

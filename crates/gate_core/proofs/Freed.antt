@@ -5,7 +5,7 @@ use Rattle.std.specs.List.{list_any, list_all}
 use Rattle.std.specs.Str.{bytes_eq}
 use Rattle.std.proofs.lemmas.Bool.Decides.{nat_tests}
 use Rattle.std.proofs.lemmas.List.Sums.{sum_by-cons, sum_by-append}
-use Rattle.plain.proofs.Keys.{bytes_same, bytes_self}
+use Rattle.collections.proofs.Keys.{bytes_same, bytes_self}
 use Rattle.node_core.specs.declared.refusals.Fault.{Fault}
 use Rattle.rights_core.specs.declared.cache_rights.CacheRight.{CacheRight}
 use Rattle.rights_core.specs.declared.endings.Ending.{Ending}

@@ -9,8 +9,8 @@ use Rattle.std.specs.Map.{lookup, set_value, remove_entry, keys_of}
 use Rattle.std.specs.BTreeMap.{is_at, insert_entry}
 use Rattle.std.proofs.lemmas.Bool.Decides.{nat_tests}
 use Rattle.std.proofs.lemmas.Map.Lookups.{exact_unsigned}
-use Rattle.plain.proofs.Entries.{lookup_put}
-use Rattle.plain.proofs.Keys.{bytes_same, bytes_self, bytes_swap, equal_itself}
+use Rattle.collections.proofs.Entries.{lookup_put}
+use Rattle.collections.proofs.Keys.{bytes_same, bytes_self, bytes_swap, equal_itself}
 use Rattle.rights_core.proofs.Places.{looked_removed, looked_text}
 use Rattle.gate_core.specs.Waking.{is_listed, or_none, numbers_at, leads}
 

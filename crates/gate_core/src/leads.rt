@@ -8,9 +8,9 @@ ghost use Rattle.std.specs.Ordering.{nat_cmp};
 ghost use Rattle.std.specs.BTreeMap.{insert_entry};
 ghost use Rattle.gate_core.specs.Waking.{leads};
 
+use collections::Table;
 use indexmap::IndexMap;
 use names_cell::Name;
-use plain::Table;
 use std::alloc::{AllocError, Global};
 use std::marker::Model;
 

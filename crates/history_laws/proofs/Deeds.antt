@@ -5,7 +5,7 @@ use Rattle.std.specs.Option.{option_map, option_map_or}
 use Rattle.std.specs.BTreeMap.{insert_entry}
 use Rattle.std.specs.Ordering.{nat_cmp}
 use Rattle.std.proofs.lemmas.List.{append-nil}
-use Rattle.plain.proofs.Keys.{same_number}
+use Rattle.collections.proofs.Keys.{same_number}
 use Rattle.lease_core.specs.Lease.{IsMoment}
 use Rattle.node_core.specs.declared.lines.Line.{Line}
 use Rattle.node_core.specs.declared.lines.Line.TheVariants as lines
@@ -16,8 +16,8 @@ use Rattle.rows_cell.specs.Rows.{changed_rows}
 use Rattle.tags_cell.specs.declared.messages.requests.Request.{Request}
 use Rattle.tags_cell.specs.declared.messages.outs.Out.{Out}
 use Rattle.tags_cell.specs.Messages.{out_client}
-use Rattle.cell_parts.specs.declared.pending.Taken.{Taken}
-use Rattle.cell_state.specs.State.{MasterState}
+use Rattle.master_parts.specs.declared.pending.Taken.{Taken}
+use Rattle.master_state.specs.State.{MasterState}
 use Rattle.cell_core.specs.Step.{take_step}
 use Rattle.over_core.specs.declared.swept.Swept.{Swept}
 use Rattle.over_core.specs.Sweep.{sweep_step, sweep_edits, beats_step}
@@ -32,18 +32,18 @@ use Rattle.client_core.specs.State.{ClientState, new_client}
 use Rattle.client_core.specs.Asks.{ask_step}
 use Rattle.client_core.specs.Beats.{beat_step}
 use Rattle.client_core.specs.Gives.{give_step}
-use Rattle.world_core.specs.declared.mail.Message.{Message}
-use Rattle.world_core.specs.declared.mail.Message.TheVariants.{ToMaster, ToClient}
-use Rattle.world_core.specs.declared.members.WorldClient.{WorldClient}
-use Rattle.world_core.specs.declared.steps.Step.{Step}
-use Rattle.world_core.specs.declared.steps.Step.TheVariants as steps
-use Rattle.world_core.specs.declared.steps.Commit.TheVariants.{Kept}
-use Rattle.world_core.specs.Members.{Clients, each_member, at_up, new_member, stepped}
-use Rattle.world_core.specs.Messages.{request_at, out_at}
-use Rattle.world_core.specs.World.{WorldState, world_step, world_up, came_up, member_of, asked, asked_by, ends_ask, beaten, beaten_by, ends_beat, gave, gave_by, given_to, took, world_take, swept, world_sweep, without_quiet, answered, world_beats, world_down, without_master, cut_sweep, world_cut_sweep, cut_up, world_cut_up, is_of_commit, IsAt, IsAtUp, store_in}
-use Rattle.world_core.specs.Made.{IsTyped}
-use Rattle.world_laws.proofs.MembersFound.{member_at}
-use Rattle.world_laws.proofs.WorldCases.{step_takes, step_gives, step_sweeps, step_beats}
+use Rattle.world_steps.specs.declared.mail.Message.{Message}
+use Rattle.world_steps.specs.declared.mail.Message.TheVariants.{ToMaster, ToClient}
+use Rattle.world_steps.specs.declared.members.WorldClient.{WorldClient}
+use Rattle.world_steps.specs.declared.steps.Step.{Step}
+use Rattle.world_steps.specs.declared.steps.Step.TheVariants as steps
+use Rattle.world_steps.specs.declared.steps.Commit.TheVariants.{Kept}
+use Rattle.world_steps.specs.Members.{Clients, each_member, at_up, new_member, stepped}
+use Rattle.world_steps.specs.Messages.{request_at, out_at}
+use Rattle.world_steps.specs.World.{WorldState, world_step, world_up, came_up, member_of, asked, asked_by, ends_ask, beaten, beaten_by, ends_beat, gave, gave_by, given_to, took, world_take, swept, world_sweep, without_quiet, answered, world_beats, world_down, without_master, cut_sweep, world_cut_sweep, cut_up, world_cut_up, is_of_commit, IsAt, IsAtUp, store_in}
+use Rattle.world_steps.specs.Made.{IsTyped}
+use Rattle.world_cell.proofs.MembersFound.{member_at}
+use Rattle.world_cell.proofs.WorldCases.{step_takes, step_gives, step_sweeps, step_beats}
 use Rattle.history_laws.specs.Parts.{Parts, ComesUpBy, FallsComingUpBy, TakesBy, SweepsBy, FallsSweepingBy, AnswersBeatBy, GoesBy, BeginsBy, AsksBy, BeatsBy, HearsBy, sent_by, ended_by, sent_as, with_client}
 use Rattle.history_laws.specs.Histories.{Clocks, Entry, KeepFair, AreMoments}
 use Rattle.history_laws.proofs.Entries.{EachIs, each_so, each_both, each_moved, each_set, each_put, each_found_in, each_apart}

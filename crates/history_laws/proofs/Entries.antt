@@ -5,10 +5,10 @@ use Rattle.std.specs.List.{list_all, list_any, AllByRecursion}
 use Rattle.std.specs.Map.{lookup, set_value}
 use Rattle.std.specs.BTreeMap.{is_at, insert_entry}
 use Rattle.std.specs.Ordering.{nat_cmp, match_ordering, is_eq}
-use Rattle.plain.proofs.Keys.{same_key, at_itself, number_same}
-use Rattle.world_core.specs.declared.members.WorldClient.{WorldClient}
-use Rattle.world_core.specs.Members.{Clients, each_member, stepped}
-use Rattle.world_laws.proofs.MembersFound.{member_at}
+use Rattle.collections.proofs.Keys.{same_key, at_itself, number_same}
+use Rattle.world_steps.specs.declared.members.WorldClient.{WorldClient}
+use Rattle.world_steps.specs.Members.{Clients, each_member, stepped}
+use Rattle.world_cell.proofs.MembersFound.{member_at}
 
 abbrev pub EachIs : (ℕ → WorldClient → Type 0) → Clients → Type 0
 EachIs P clients = AllByRecursion (λ e. P e.0 e.1) clients

@@ -7,29 +7,29 @@ use Rattle.lease_core.specs.Lease.{IsMoment, longest_lease, LeaseTerms, IsUnexpi
 use Rattle.cache_core.specs.Caches.{answer, entry_of, is_leased}
 use Rattle.client_core.specs.State.{ClientState, lease_of}
 use Rattle.node_core.specs.declared.views.View.{View}
-use Rattle.world_core.specs.declared.members.WorldClient.{WorldClient}
-use Rattle.world_laws.specs.Slices.{lease_shown, client_of as seen_as}
-use Rattle.world_laws.proofs.SliceLeases.{joint_everywhere}
-use Rattle.world_laws.proofs.MembersFound.{member_at}
+use Rattle.world_steps.specs.declared.members.WorldClient.{WorldClient}
+use Rattle.world_cell.specs.Slices.{lease_shown, client_of as seen_as}
+use Rattle.world_cell.proofs.SliceLeases.{joint_everywhere}
+use Rattle.world_cell.proofs.MembersFound.{member_at}
 use Rattle.node_core.specs.declared.lines.Line.{Line}
 use Rattle.rows_cell.specs.declared.tables.Rows.{Rows}
 use Rattle.rows_cell.specs.Rows.{map_of}
 use Rattle.node_core.specs.Nodes.{Nodes, view_at}
 use Rattle.rows_cell.specs.Stores.{left_by}
-use Rattle.cell_state.specs.State.{MasterState}
-use Rattle.world_core.specs.declared.steps.Step.{Step}
-use Rattle.world_core.specs.declared.steps.Step.TheVariants as steps
-use Rattle.world_core.specs.World.{WorldState, WorldView, IsUndoubted, new_world, member_of, world_step, ticked, step_edits, IsAt}
-use Rattle.world_core.specs.Made.{IsTyped, Does as StepDoes, AnyStep}
-use Rattle.world_laws.specs.Runs.{AnyRun, Run}
-use Rattle.world_laws.specs.Served.{ServesPresent}
-use Rattle.world_laws.specs.Consistent.{IsConsistent}
-use Rattle.world_laws.specs.Laws.{HoldsOfRun}
-use Rattle.world_laws.proofs.ConsistentSteps.{new_holds}
-use Rattle.world_laws.proofs.LawsOfRuns.{runs_hold}
-use Rattle.world_laws.proofs.SureRuns.{run_sure}
-use Rattle.world_laws.proofs.ClocksByRuns.{run_consistent}
-use Rattle.world_laws.proofs.ServedLines.{step_serves}
+use Rattle.master_state.specs.State.{MasterState}
+use Rattle.world_steps.specs.declared.steps.Step.{Step}
+use Rattle.world_steps.specs.declared.steps.Step.TheVariants as steps
+use Rattle.world_steps.specs.World.{WorldState, WorldView, IsUndoubted, new_world, member_of, world_step, ticked, step_edits, IsAt}
+use Rattle.world_steps.specs.Made.{IsTyped, Does as StepDoes, AnyStep}
+use Rattle.world_cell.specs.Runs.{AnyRun, Run}
+use Rattle.world_cell.specs.Served.{ServesPresent}
+use Rattle.world_cell.specs.Consistent.{IsConsistent}
+use Rattle.world_cell.specs.RunLaws.{HoldsOfRun}
+use Rattle.world_cell.proofs.ConsistentSteps.{new_holds}
+use Rattle.world_cell.proofs.LawsOfRuns.{runs_hold}
+use Rattle.world_cell.proofs.SureRuns.{run_sure}
+use Rattle.world_cell.proofs.ClocksByRuns.{run_consistent}
+use Rattle.world_cell.proofs.ServedLines.{step_serves}
 use Rattle.history_laws.specs.Parts.{Parts, nothing_yet, Deed, ComesUp, FallsComingUp, Takes, Sweeps, FallsSweeping, AnswersBeat, Goes, Begins, Asks, Beats, Hears, BeginsBy}
 use Rattle.history_laws.specs.Histories.{Clocks, Entry, Does, History, KeepFair, GoOn, AreMoments, AreFair, begins_life}
 use Rattle.history_laws.specs.Laws.{new_view, HoldsParts, IsRunOf, HistoriesAreRuns, HistoriesHold, CachesShowTheRows, CachesAnswerTheRows}

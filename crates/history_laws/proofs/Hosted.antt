@@ -9,8 +9,8 @@ use Rattle.rows_cell.specs.Stores.{Store, IsCommitted, IsRefused, IsRead}
 use Rattle.rows_cell.specs.Rows.{changed_rows}
 use Rattle.tags_cell.specs.declared.messages.requests.Request.{Request}
 use Rattle.tags_cell.specs.declared.messages.outs.Out.{Out}
-use Rattle.cell_parts.specs.declared.pending.Taken.{Taken}
-use Rattle.cell_state.specs.State.{MasterState}
+use Rattle.master_parts.specs.declared.pending.Taken.{Taken}
+use Rattle.master_state.specs.State.{MasterState}
 use Rattle.cell_core.specs.Step.{take_step}
 use Rattle.over_core.specs.declared.swept.Swept.{Swept}
 use Rattle.over_core.specs.Kept.{CellState}
@@ -18,26 +18,26 @@ use Rattle.over_core.specs.Sweep.{sweep_step, sweep_edits, beats_step}
 use Rattle.over_core.specs.Up.{up_step, up_edits, up_commit, StaysDown, IsKeptDown}
 use Rattle.tags_cell.specs.Numbers.{is_client_number}
 use Rattle.tags_cell.specs.Messages.{request_client}
-use Rattle.world_core.specs.Made.{AreInOrder}
-use Rattle.world_core.specs.declared.mail.Message.{Message}
-use Rattle.world_core.specs.declared.mail.Message.TheVariants.{ToMaster, ToClient}
-use Rattle.world_core.specs.Messages.{request_at}
-use Rattle.wire_core.specs.declared.faults.WireFault.{WireFault}
-use Rattle.wire_core.specs.Forms.{read_whole}
-use Rattle.wire_core.specs.Requests.{request}
-use Rattle.wire_core.specs.Outs.{out_message}
-use Rattle.serve_cell.specs.declared.frames.Frame.{Frame}
-use Rattle.serve_cell.specs.declared.frames.Frame.TheVariants as frames
-use Rattle.serve_cell.specs.declared.settling.End.{End}
-use Rattle.serve_cell.specs.declared.settling.End.TheVariants as ends
-use Rattle.serve_cell.specs.declared.settling.Round.{Round}
-use Rattle.serve_cell.specs.declared.settling.Settled.{Settled}
-use Rattle.serve_cell.specs.declared.answers.Answered.{Answered}
-use Rattle.serve_cell.specs.declared.answers.Answered.TheVariants as answers
-use Rattle.serve_cell.specs.declared.seats.Reply.{Reply}
-use Rattle.serve_cell.specs.declared.seats.Reply.TheVariants as replies
-use Rattle.serve_cell.specs.Serving.{SweepsOnce, BeatsOnce, StepsTo, StopsAt, BeatStops, EndsBy, EndsIn, EndsBeats, BeatsBehind, Settles, Answers, is_shut}
-use Rattle.serve_cell.specs.Seats.{Hosted, with_master, without_master, cell_of, CameUp, Arrives, Listens, Ticks as TicksFrame, Leaves, Stands as StandsFrame, Does as DoesFrame}
+use Rattle.world_steps.specs.Made.{AreInOrder}
+use Rattle.world_steps.specs.declared.mail.Message.{Message}
+use Rattle.world_steps.specs.declared.mail.Message.TheVariants.{ToMaster, ToClient}
+use Rattle.world_steps.specs.Messages.{request_at}
+use Rattle.codec.specs.declared.faults.WireFault.{WireFault}
+use Rattle.codec.specs.Forms.{read_whole}
+use Rattle.codec.specs.Requests.{request}
+use Rattle.codec.specs.Outs.{out_message}
+use Rattle.hosting.specs.declared.frames.Frame.{Frame}
+use Rattle.hosting.specs.declared.frames.Frame.TheVariants as frames
+use Rattle.hosting.specs.declared.settling.End.{End}
+use Rattle.hosting.specs.declared.settling.End.TheVariants as ends
+use Rattle.hosting.specs.declared.settling.Round.{Round}
+use Rattle.hosting.specs.declared.settling.Settled.{Settled}
+use Rattle.hosting.specs.declared.answers.Answered.{Answered}
+use Rattle.hosting.specs.declared.answers.Answered.TheVariants as answers
+use Rattle.hosting.specs.declared.seats.Reply.{Reply}
+use Rattle.hosting.specs.declared.seats.Reply.TheVariants as replies
+use Rattle.hosting.specs.Serving.{SweepsOnce, BeatsOnce, StepsTo, StopsAt, BeatStops, EndsBy, EndsIn, EndsBeats, BeatsBehind, Settles, Answers, is_shut}
+use Rattle.hosting.specs.Seats.{Hosted, with_master, without_master, cell_of, CameUp, Arrives, Listens, Ticks as TicksFrame, Leaves, Stands as StandsFrame, Does as DoesFrame}
 use Rattle.over_core.specs.Sweep.{swept_as}
 use Rattle.watch_cell.specs.declared.events.Event.{Event}
 use Rattle.watch_cell.specs.declared.events.Event.TheVariants as events

@@ -6,20 +6,20 @@ use Rattle.std.specs.Map.{set_value}
 use Rattle.std.specs.BTreeMap.{is_at, insert_entry}
 use Rattle.std.specs.Ordering.{nat_cmp}
 use Rattle.std.proofs.lemmas.Bool.Decides.{nat_tests}
-use Rattle.plain.proofs.Keys.{number_same, same_number}
-use Rattle.plain.proofs.OneKey.{lookup_put, lookup_put_apart}
+use Rattle.collections.proofs.Keys.{number_same, same_number}
+use Rattle.collections.proofs.OneKey.{lookup_put, lookup_put_apart}
 use Rattle.node_core.specs.declared.lines.Line.{Line}
 use Rattle.rows_cell.specs.declared.tables.Rows.{Rows}
 use Rattle.rows_cell.specs.Stores.{left_by}
-use Rattle.cell_state.specs.State.{MasterState}
+use Rattle.master_state.specs.State.{MasterState}
 use Rattle.client_core.specs.State.{ClientState}
-use Rattle.world_core.specs.declared.members.WorldClient.{WorldClient}
-use Rattle.world_core.specs.declared.steps.Step.{Step}
-use Rattle.world_core.specs.declared.steps.Ticks.{Ticks as ClockSteps}
-use Rattle.world_core.specs.Members.{Clients, each_member, stepped, is_least, moved_beside, moved_alone, clock_then}
-use Rattle.world_core.specs.World.{WorldState, WorldView, world_step, moved, ticked, step_edits, IsAt, IsStored}
-use Rattle.world_core.specs.Made.{IsTyped, AnyStep}
-use Rattle.world_laws.proofs.MembersFound.{member_at, each_found, own_member, other_member}
+use Rattle.world_steps.specs.declared.members.WorldClient.{WorldClient}
+use Rattle.world_steps.specs.declared.steps.Step.{Step}
+use Rattle.world_steps.specs.declared.steps.Ticks.{Ticks as ClockSteps}
+use Rattle.world_steps.specs.Members.{Clients, each_member, stepped, is_least, moved_beside, moved_alone, clock_then}
+use Rattle.world_steps.specs.World.{WorldState, WorldView, world_step, moved, ticked, step_edits, IsAt, IsStored}
+use Rattle.world_steps.specs.Made.{IsTyped, AnyStep}
+use Rattle.world_cell.proofs.MembersFound.{member_at, each_found, own_member, other_member}
 use Rattle.history_laws.specs.Parts.{Parts, with_client}
 
 -- the clients of a world, without their clocks

@@ -6,14 +6,14 @@ use Rattle.std.specs.List.{list_all, list_any, AllByRecursion}
 use Rattle.std.proofs.lemmas.Bool.Decides.{nat_tests}
 use Rattle.lease_core.specs.Lease.{IsMoment, moment_limit}
 use Rattle.node_core.specs.declared.lines.Line.{Line}
-use Rattle.cell_state.specs.State.{MasterState}
+use Rattle.master_state.specs.State.{MasterState}
 use Rattle.client_core.specs.State.{ClientState}
-use Rattle.world_core.specs.declared.members.WorldClient.{WorldClient}
-use Rattle.world_core.specs.declared.steps.Ticks.{Ticks as ClockSteps}
-use Rattle.world_core.specs.declared.steps.Step.TheVariants as steps
-use Rattle.world_core.specs.Members.{Clients, each_member, is_least, is_fair, moved_beside, moved_alone, clock_then, own_step}
-use Rattle.world_core.specs.World.{WorldState, world_step, world_tick, moves_nobody, moved, are_joined, are_fair, stays_fair, goes_past_end, ticked}
-use Rattle.world_laws.proofs.MembersFound.{member_at, each_found}
+use Rattle.world_steps.specs.declared.members.WorldClient.{WorldClient}
+use Rattle.world_steps.specs.declared.steps.Ticks.{Ticks as ClockSteps}
+use Rattle.world_steps.specs.declared.steps.Step.TheVariants as steps
+use Rattle.world_steps.specs.Members.{Clients, each_member, is_least, is_fair, moved_beside, moved_alone, clock_then, own_step}
+use Rattle.world_steps.specs.World.{WorldState, world_step, world_tick, moves_nobody, moved, are_joined, are_fair, stays_fair, goes_past_end, ticked}
+use Rattle.world_cell.proofs.MembersFound.{member_at, each_found}
 use Rattle.history_laws.specs.Histories.{Clocks, Entry, MoveFairly, KeepFair, AreMoments, UnlessBegun, GoOn, begins_life}
 use Rattle.history_laws.proofs.Entries.{EachIs, each_so, each_both, each_moved, all_pass, none_passes, all_present, steps_of, step_found, steps_joined}
 

@@ -18,8 +18,8 @@ use Rattle.tags_cell.specs.Numbers.{is_client_number}
 use Rattle.tags_cell.specs.declared.messages.requests.Request.{Request}
 use Rattle.tags_cell.specs.declared.messages.outs.Out.{Out}
 use Rattle.tags_cell.specs.Messages.{request_client, out_client}
-use Rattle.cell_parts.specs.declared.pending.Taken.{Taken}
-use Rattle.cell_state.specs.State.{MasterState}
+use Rattle.master_parts.specs.declared.pending.Taken.{Taken}
+use Rattle.master_state.specs.State.{MasterState}
 use Rattle.cell_core.specs.Step.{take_step}
 use Rattle.over_core.specs.declared.swept.Swept.{Swept}
 use Rattle.over_core.specs.Sweep.{sweep_step, sweep_edits}
@@ -29,10 +29,10 @@ use Rattle.client_core.specs.declared.parts.steps.Given.{Given}
 use Rattle.client_core.specs.State.{ClientState, new_client}
 use Rattle.client_core.specs.Beats.{beat_step}
 use Rattle.client_core.specs.Gives.{give_step}
-use Rattle.world_core.specs.declared.mail.Message.TheVariants.{ToClient}
-use Rattle.world_core.specs.Messages.{request_at, out_at}
-use Rattle.world_core.specs.World.{given_lines}
-use Rattle.world_core.specs.Made.{AreInOrder}
+use Rattle.world_steps.specs.declared.mail.Message.TheVariants.{ToClient}
+use Rattle.world_steps.specs.Messages.{request_at, out_at}
+use Rattle.world_steps.specs.World.{given_lines}
+use Rattle.world_steps.specs.Made.{AreInOrder}
 use Rattle.history_laws.specs.Parts.{Parts, Deed, ComesUp, FallsComingUp, Takes, Sweeps, FallsSweeping, AnswersBeat, Goes, Begins, Asks, Beats, Hears, with_client, sent_as}
 use Rattle.history_laws.specs.Histories.{Clocks, Entry, Does, History}
 

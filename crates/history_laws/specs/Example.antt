@@ -1,9 +1,9 @@
 -- A history with two programs, and one that can't be.
 use Rattle.std.specs.Prelude.{◌≡◌, ℕ, List, [], ◌∷◌, ◌++◌, map, codes, Option, None, replicate}
 use Rattle.node_core.specs.declared.lines.Line.{Line}
-use Rattle.settings_core.specs.Settings.{Settled}
+use Rattle.rows_cell.specs.Settings.{Settled}
 use Rattle.rows_cell.specs.Opening.{opening}
-use Rattle.world_core.specs.Messages.{request_at, out_at}
+use Rattle.world_steps.specs.Messages.{request_at, out_at}
 use Rattle.history_laws.specs.Parts.{Parts, nothing_yet, Deed, ComesUp, Takes, Sweeps, Goes, Begins, Beats, Hears}
 use Rattle.history_laws.specs.Histories.{Clocks, Entry, Does, History, AreFair}
 

@@ -6,23 +6,23 @@ use Rattle.tags_cell.specs.Numbers.{is_client_number}
 use Rattle.tags_cell.specs.Messages.{request_client}
 use Rattle.tags_cell.specs.declared.messages.outs.Out.{Out}
 use Rattle.over_core.specs.declared.swept.Swept.{Swept}
-use Rattle.world_core.specs.declared.mail.Message.TheVariants.{ToClient}
-use Rattle.world_core.specs.declared.mail.Message.{Message}
-use Rattle.world_core.specs.Messages.{request_at, out_at}
-use Rattle.world_core.specs.Made.{AreInOrder}
+use Rattle.world_steps.specs.declared.mail.Message.TheVariants.{ToClient}
+use Rattle.world_steps.specs.declared.mail.Message.{Message}
+use Rattle.world_steps.specs.Messages.{request_at, out_at}
+use Rattle.world_steps.specs.Made.{AreInOrder}
 use Rattle.tags_cell.specs.declared.messages.requests.Request.{Request}
-use Rattle.wire_core.specs.declared.faults.WireFault.{WireFault}
-use Rattle.wire_core.specs.Forms.{read_whole}
-use Rattle.wire_core.specs.Requests.{request}
-use Rattle.wire_core.specs.Outs.{out_message}
-use Rattle.serve_cell.specs.declared.frames.Frame.{Frame}
-use Rattle.serve_cell.specs.declared.frames.Frame.TheVariants as frames
-use Rattle.serve_cell.specs.declared.settling.Settled.{Settled}
-use Rattle.serve_cell.specs.declared.answers.Answered.{Answered}
-use Rattle.serve_cell.specs.declared.answers.Answered.TheVariants as answers
-use Rattle.serve_cell.specs.declared.seats.Reply.{Reply}
-use Rattle.serve_cell.specs.declared.seats.Reply.TheVariants as replies
-use Rattle.serve_cell.specs.Seats.{Hosted, Does as DoesFrame}
+use Rattle.codec.specs.declared.faults.WireFault.{WireFault}
+use Rattle.codec.specs.Forms.{read_whole}
+use Rattle.codec.specs.Requests.{request}
+use Rattle.codec.specs.Outs.{out_message}
+use Rattle.hosting.specs.declared.frames.Frame.{Frame}
+use Rattle.hosting.specs.declared.frames.Frame.TheVariants as frames
+use Rattle.hosting.specs.declared.settling.Settled.{Settled}
+use Rattle.hosting.specs.declared.answers.Answered.{Answered}
+use Rattle.hosting.specs.declared.answers.Answered.TheVariants as answers
+use Rattle.hosting.specs.declared.seats.Reply.{Reply}
+use Rattle.hosting.specs.declared.seats.Reply.TheVariants as replies
+use Rattle.hosting.specs.Seats.{Hosted, Does as DoesFrame}
 use Rattle.watch_cell.specs.declared.events.Event.{Event}
 use Rattle.watch_cell.specs.declared.events.Event.TheVariants as events
 use Rattle.watch_cell.specs.Views.{WatchedState}

@@ -9,11 +9,11 @@ use Rattle.rows_cell.specs.declared.tables.Rows.{Rows}
 use Rattle.rows_cell.specs.Rows.{map_of}
 use Rattle.cache_core.specs.Caches.{answer}
 use Rattle.client_core.specs.State.{ClientState}
-use Rattle.world_core.specs.declared.steps.Step.{Step}
-use Rattle.world_core.specs.World.{WorldView, IsUndoubted, opened, member_of}
-use Rattle.world_laws.specs.Runs.{AnyRun}
-use Rattle.world_laws.specs.Served.{ServesPresent}
-use Rattle.world_laws.specs.Laws.{HoldsOfRun}
+use Rattle.world_steps.specs.declared.steps.Step.{Step}
+use Rattle.world_steps.specs.World.{WorldView, IsUndoubted, opened, member_of}
+use Rattle.world_cell.specs.Runs.{AnyRun}
+use Rattle.world_cell.specs.Served.{ServesPresent}
+use Rattle.world_cell.specs.RunLaws.{HoldsOfRun}
 use Rattle.history_laws.specs.Parts.{Parts, nothing_yet}
 use Rattle.history_laws.specs.Histories.{Clocks, Entry, Does, History, AreFair, GoOnTo}
 

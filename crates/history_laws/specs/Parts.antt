@@ -8,8 +8,8 @@ use Rattle.tags_cell.specs.Numbers.{is_client_number}
 use Rattle.tags_cell.specs.declared.messages.requests.Request.{Request}
 use Rattle.tags_cell.specs.declared.messages.outs.Out.{Out}
 use Rattle.tags_cell.specs.Messages.{request_client, out_client}
-use Rattle.cell_parts.specs.declared.pending.Taken.{Taken}
-use Rattle.cell_state.specs.State.{MasterState}
+use Rattle.master_parts.specs.declared.pending.Taken.{Taken}
+use Rattle.master_state.specs.State.{MasterState}
 use Rattle.cell_core.specs.Step.{take_step}
 use Rattle.over_core.specs.declared.swept.Swept.{Swept}
 use Rattle.over_core.specs.Sweep.{sweep_step, sweep_edits, beats_step}
@@ -24,11 +24,11 @@ use Rattle.client_core.specs.State.{ClientState, new_client}
 use Rattle.client_core.specs.Asks.{ask_step}
 use Rattle.client_core.specs.Beats.{beat_step}
 use Rattle.client_core.specs.Gives.{give_step}
-use Rattle.world_core.specs.declared.mail.Message.{Message}
-use Rattle.world_core.specs.declared.mail.Message.TheVariants.{ToMaster, ToClient}
-use Rattle.world_core.specs.Messages.{request_at, out_at}
-use Rattle.world_core.specs.World.{with_refusal, given_lines, is_of_commit}
-use Rattle.world_core.specs.Made.{AreInOrder}
+use Rattle.world_steps.specs.declared.mail.Message.{Message}
+use Rattle.world_steps.specs.declared.mail.Message.TheVariants.{ToMaster, ToClient}
+use Rattle.world_steps.specs.Messages.{request_at, out_at}
+use Rattle.world_steps.specs.World.{with_refusal, given_lines, is_of_commit}
+use Rattle.world_steps.specs.Made.{AreInOrder}
 
 -- cell: its name, by the settings of its store. rows: those that stand. clients: by number. told: all messages that were told, in order; each may come late, more than once, or never. lease: in milliseconds
 pub record Parts : Type 0 where

@@ -7,8 +7,8 @@ use Rattle.std.specs.List.{AllByRecursion, list_any}
 use Rattle.std.specs.List.Sorted.{IsStrictlySortedBy}
 use Rattle.std.specs.Map.{keys_of, lookup}
 use Rattle.std.specs.BTreeMap.{is_at}
-use Rattle.plain.proofs.Keys.{below, at_itself, same_key, apart}
-use Rattle.timer_core.specs.Timers.{has_key}
+use Rattle.collections.proofs.Keys.{below, at_itself, same_key, apart}
+use Rattle.collections.specs.Timers.{has_key}
 use Rattle.lock_core.specs.State.{LockState, lock_of}
 use Rattle.lock_core.specs.Locks.{LockTable, lock_at, is_due, due, first_due}
 use Rattle.lock_core.proofs.Openings.{AreAmong}

@@ -8,8 +8,8 @@ use Rattle.std.specs.Map.{keys_of, lookup}
 use Rattle.std.specs.Ordering.{nat_cmp}
 use Rattle.std.specs.BTreeMap.{is_at}
 use Rattle.std.proofs.lemmas.Bool.Decides.{nat_tests}
-use Rattle.plain.proofs.Keys.{below, at_itself, same_key, apart}
-use Rattle.timer_core.specs.Timers.{has_key}
+use Rattle.collections.proofs.Keys.{below, at_itself, same_key, apart}
+use Rattle.collections.specs.Timers.{has_key}
 use Rattle.lock_core.specs.declared.partings.Parting.{Parting}
 use Rattle.lock_core.specs.declared.turns.Lapse.{Lapse}
 use Rattle.lock_core.specs.State.{LockState, lock_of}

@@ -8,10 +8,10 @@ use Rattle.std.specs.BTreeMap.{is_at, insert_entry}
 use Rattle.std.specs.BTreeMap.Range.{range_contains}
 use Rattle.std.specs.declared.ops.Bound.TheVariants.{Included, Excluded}
 use Rattle.std.proofs.lemmas.Bool.Decides.{nat_tests}
-use Rattle.plain.proofs.Keys.{same_key, number_same, at_itself, equal_itself}
-use Rattle.plain.proofs.OneKey.{lookup_put_apart, lookup_set_apart, lookup_removed_apart}
-use Rattle.timer_core.specs.Timers.{has_key}
-use Rattle.timer_core.proofs.Wakes.{KeyUpdates, MomentUpdates, key_stays, key_left, moment_stays, moment_left}
+use Rattle.collections.proofs.Keys.{same_key, number_same, at_itself, equal_itself}
+use Rattle.collections.proofs.OneKey.{lookup_put_apart, lookup_set_apart, lookup_removed_apart}
+use Rattle.collections.specs.Timers.{has_key}
+use Rattle.collections.proofs.Wakes.{KeyUpdates, MomentUpdates, key_stays, key_left, moment_stays, moment_left}
 use Rattle.lock_core.specs.State.{LockState, lock_of}
 use Rattle.lock_core.specs.Turns.{concerns}
 use Rattle.lock_core.specs.Locks.{LockTable, lock_at}

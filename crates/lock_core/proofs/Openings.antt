@@ -7,9 +7,9 @@ use Rattle.std.specs.BTreeMap.{is_at, insert_entry}
 use Rattle.std.specs.Ordering.{nat_cmp}
 use Rattle.std.specs.List.Sorted.{IsStrictlySortedBy}
 use Rattle.std.proofs.lemmas.Bool.Decides.{nat_tests}
-use Rattle.plain.proofs.Keys.{same_key}
-use Rattle.plain.proofs.OneKey.{lookup_put, lookup_put_apart, lookup_set, lookup_set_apart, lookup_removed, lookup_removed_apart}
-use Rattle.timer_core.specs.Timers.{TimerState, never, has_key, wakes}
+use Rattle.collections.proofs.Keys.{same_key}
+use Rattle.collections.proofs.OneKey.{lookup_put, lookup_put_apart, lookup_set, lookup_set_apart, lookup_removed, lookup_removed_apart}
+use Rattle.collections.specs.Timers.{TimerState, never, has_key, wakes}
 use Rattle.lock_core.specs.declared.claims.Closing.{Closing}
 use Rattle.lock_core.specs.State.{LockState, lock_of}
 use Rattle.lock_core.specs.Turns.{time_left}

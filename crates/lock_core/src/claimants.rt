@@ -1,14 +1,14 @@
 //! Which locks a client may hold or wait for.
 ghost use Rattle.std.specs.Prelude.{◌≡◌, ◌+◌, ℕ, [], true, false, nat_eq, IfOk, IfSome, OnOk};
 ghost use Rattle.std.specs.List.{list_any};
-ghost use Rattle.timer_core.specs.Timers.{has_key};
+ghost use Rattle.collections.specs.Timers.{has_key};
 ghost use Rattle.lock_core.specs.Turns.{concerns, is_of_client};
 ghost use Rattle.lock_core.specs.Locks.{lock_at};
 ghost use Rattle.lock_core.specs.Claimants.{has, is_noted, AreListed};
 
 use crate::claims::{Claim, Hold, Owner};
 use crate::states::Lock;
-use plain::Table;
+use collections::Table;
 use std::alloc::{AllocError, Global};
 use std::collections::BTreeSet;
 use std::marker::Model;

@@ -4,7 +4,7 @@ ghost use Rattle.std.specs.List.{list_any};
 ghost use Rattle.lock_core.specs.Leavers.{is_leaver};
 
 use crate::claims::{Claim, Hold, Owner};
-use plain::{Items, Table};
+use collections::{Items, Table};
 use std::alloc::{AllocError, Global};
 
 // Whose claims end.

@@ -6,9 +6,8 @@ ghost use Rattle.lock_core.specs.Locks.{AreNoted, lock_at, is_due, due, first_du
 use crate::claimants::{Claimants, note_each};
 use crate::states::Lock;
 use crate::tables::Locks;
-use plain::Table;
+use collections::{Table, Timers};
 use std::collections::BTreeSet;
-use timer_core::Timers;
 
 impl Locks {
     /// Finds the locks that are due by `now`, so that from then on `due` looks at these alone. To be called with each moment;

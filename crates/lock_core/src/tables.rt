@@ -5,8 +5,8 @@ ghost use Rattle.std.specs.Map.{lookup, remove_entry, set_value};
 ghost use Rattle.std.specs.BTreeMap.{is_at};
 ghost use Rattle.std.specs.Ordering.{nat_cmp};
 ghost use Rattle.node_core.specs.Limits.{number_end};
-ghost use Rattle.plain.specs.Results.{Gives};
-ghost use Rattle.plain.specs.Tables.{with_former};
+ghost use Rattle.collections.specs.Results.{Gives};
+ghost use Rattle.collections.specs.Tables.{with_former};
 ghost use Rattle.lock_core.specs.State.{lock_of};
 ghost use Rattle.lock_core.specs.Turns.{tried, acquired, released, closed_by, reopened};
 ghost use Rattle.lock_core.specs.Claimants.{lapses_among};
@@ -18,14 +18,13 @@ use crate::moments::opening;
 use crate::partings::Parting;
 use crate::states::Lock;
 use crate::turns::{Acquired, Lapse, Turn};
+use collections::{Items, Table, Timers};
 use names_cell::Name;
 use node_core::Fault;
-use plain::{Items, Table};
 use std::alloc::{AllocError, Global};
 use std::collections::BTreeSet;
 use std::marker::Model;
 use tags_cell::{Ordinal, Sequencer};
-use timer_core::Timers;
 
 /// The locks of a cell's nodes, by instance, in order. A lock that was never held may be absent.
 ///

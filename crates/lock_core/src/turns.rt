@@ -1,6 +1,6 @@
 //! What becomes of one lock.
 ghost use Rattle.std.specs.Prelude.{◌≡◌, true, Err, IfOk};
-ghost use Rattle.plain.specs.Results.{Gives};
+ghost use Rattle.collections.specs.Results.{Gives};
 ghost use Rattle.lock_core.specs.State.{nobody_holds};
 ghost use Rattle.lock_core.specs.Turns.{served, settled, turned_away, tried, acquired, released, closed_by, reopened, lapsed, concerns, claims_of, greatest_delay, delay_of, is_expiry, closed_for};
 
@@ -8,8 +8,8 @@ use crate::claims::{Claim, Closing, Hold, Owner};
 use crate::leavers::{Leaver, any_holds, any_waits};
 use crate::partings::Parting;
 use crate::states::{Lock, is_nobody};
+use collections::{Items, Table};
 use node_core::Fault;
-use plain::{Items, Table};
 use std::alloc::{AllocError, Global};
 
 /// What becomes of a lock that somebody left.

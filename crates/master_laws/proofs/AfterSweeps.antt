@@ -4,18 +4,18 @@ use Rattle.std.specs.BTreeMap.{insert_entry}
 use Rattle.node_core.specs.declared.views.Mod.{Mod}
 use Rattle.node_core.specs.declared.views.Mod.TheVariants.{Put, Gone}
 use Rattle.gate_core.specs.Gate.{GateState, without}
-use Rattle.cell_parts.specs.Keys.{handle_order}
-use Rattle.cell_state.specs.Updates.{with_begun, with_put, with_node, grown, session_rest, map_rest, with_session_rest, with_kept, without_gone, with_map, without_lock, recovered, left, done}
-use Rattle.cell_state.specs.State.{MasterState}
-use Rattle.cell_state.specs.Updates.{with_note}
-use Rattle.cell_state.specs.Lookups.{noted}
-use Rattle.cell_state.specs.declared.updates.Change.{Change}
-use Rattle.cell_state.specs.declared.updates.Update.{Update}
-use Rattle.cell_state.specs.declared.updates.MapRest.{MapRest}
-use Rattle.cell_state.specs.declared.updates.SessionUpdate.{SessionUpdate}
-use Rattle.cell_state.specs.declared.updates.SessionUpdate.TheVariants.{Begins, Prolongs, Ends, Answers}
-use Rattle.cell_parts.specs.declared.handles.Note.{Note}
-use Rattle.cell_parts.specs.declared.pending.Task.{Task}
+use Rattle.master_parts.specs.Keys.{handle_order}
+use Rattle.master_state.specs.Updates.{with_begun, with_put, with_node, grown, session_rest, map_rest, with_session_rest, with_kept, without_gone, with_map, without_lock, recovered, left, done}
+use Rattle.master_state.specs.State.{MasterState}
+use Rattle.master_state.specs.Updates.{with_note}
+use Rattle.master_state.specs.Lookups.{noted}
+use Rattle.master_state.specs.declared.updates.Change.{Change}
+use Rattle.master_state.specs.declared.updates.Update.{Update}
+use Rattle.master_state.specs.declared.updates.MapRest.{MapRest}
+use Rattle.master_state.specs.declared.updates.SessionUpdate.{SessionUpdate}
+use Rattle.master_state.specs.declared.updates.SessionUpdate.TheVariants.{Begins, Prolongs, Ends, Answers}
+use Rattle.master_parts.specs.declared.handles.Note.{Note}
+use Rattle.master_parts.specs.declared.pending.Task.{Task}
 
 -- the same handles are noted, and the same changes wait
 pub record IsSame (a b : MasterState) : Type 0 where

@@ -11,7 +11,7 @@ use Rattle.std.specs.Str.{bytes_eq}
 use Rattle.std.proofs.lemmas.Bool.{and_parts}
 use Rattle.std.proofs.lemmas.Bool.Decides.{nat_tests}
 use Rattle.std.proofs.lemmas.List.Folds.{list_any-append}
-use Rattle.plain.proofs.Keys.{number_same, bytes_same}
+use Rattle.collections.proofs.Keys.{number_same, bytes_same}
 use Rattle.node_core.specs.declared.refusals.Fault.{Fault}
 use Rattle.node_core.specs.declared.refusals.Fault.TheVariants as faults
 use Rattle.rows_cell.specs.declared.tables.Rows.{Rows}
@@ -36,9 +36,9 @@ use Rattle.session_core.specs.Laws.{issued_at}
 use Rattle.session_core.proofs.OneClient.{own_session, other_session, lookup_put, lookup_put_apart}
 use Rattle.session_core.proofs.IssuedBy.{issued_to_each}
 use Rattle.session_core.proofs.Keys.{same_key}
-use Rattle.cell_parts.specs.declared.pending.Task.{Task}
-use Rattle.cell_state.specs.State.{MasterState}
-use Rattle.cell_state.specs.Lookups.{acknowledgement}
+use Rattle.master_parts.specs.declared.pending.Task.{Task}
+use Rattle.master_state.specs.State.{MasterState}
+use Rattle.master_state.specs.Lookups.{acknowledgement}
 use Rattle.cell_core.specs.Step.{queued, parked, with_right, asking, asking_for}
 use Rattle.over_core.specs.Kept.{IsKept}
 use Rattle.over_core.proofs.EachSession.{other_key}

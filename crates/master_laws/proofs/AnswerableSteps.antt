@@ -24,25 +24,25 @@ use Rattle.session_core.specs.Session.{prolonged, answered, unparked, keeping}
 use Rattle.session_core.specs.Sessions.{session_of, kept_of, is_live, with_session}
 use Rattle.lock_core.specs.declared.partings.Parting.{Parting}
 use Rattle.lock_core.specs.declared.partings.Parting.TheVariants as partings
-use Rattle.cell_parts.specs.declared.handles.Note.{Note}
-use Rattle.cell_parts.specs.declared.notices.Telling.{Telling}
-use Rattle.cell_parts.specs.declared.pending.Asked.{Asked}
-use Rattle.cell_parts.specs.declared.pending.Idle.{Idle}
-use Rattle.cell_parts.specs.declared.pending.Task.{Task}
-use Rattle.cell_parts.specs.declared.pending.Task.TheVariants as tasks
-use Rattle.cell_parts.specs.declared.pending.Work.TheVariants as works
-use Rattle.cell_state.specs.State.{MasterState}
-use Rattle.cell_state.specs.Notices.{with_tellings}
-use Rattle.cell_state.specs.Partings.{ending_by}
+use Rattle.master_parts.specs.declared.handles.Note.{Note}
+use Rattle.master_parts.specs.declared.notices.Telling.{Telling}
+use Rattle.master_parts.specs.declared.pending.Asked.{Asked}
+use Rattle.master_parts.specs.declared.pending.Idle.{Idle}
+use Rattle.master_parts.specs.declared.pending.Task.{Task}
+use Rattle.master_parts.specs.declared.pending.Task.TheVariants as tasks
+use Rattle.master_parts.specs.declared.pending.Work.TheVariants as works
+use Rattle.master_state.specs.State.{MasterState}
+use Rattle.master_state.specs.Notices.{with_tellings}
+use Rattle.master_state.specs.Partings.{ending_by}
 use Rattle.tags_cell.specs.declared.messages.outs.CallResult.TheVariants as results
 use Rattle.lock_core.specs.Locks.{lock_at}
 use Rattle.lock_core.specs.Turns.{reopened}
-use Rattle.cell_state.specs.Lapses.{lapses_of, lapses_puts, lapses_replies}
-use Rattle.cell_state.specs.Replies.{kept_puts, puts_of, replies_to, turn_replies}
+use Rattle.master_state.specs.Lapses.{lapses_of, lapses_puts, lapses_replies}
+use Rattle.master_state.specs.Replies.{kept_puts, puts_of, replies_to, turn_replies}
 use Rattle.cell_core.specs.Outcomes.{left_put}
-use Rattle.cell_state.specs.Updates.{with_note, with_kept, with_locks, without_lock}
-use Rattle.cell_state.specs.declared.updates.KeptPut.{KeptPut}
-use Rattle.cell_state.specs.declared.updates.LockPut.{LockPut}
+use Rattle.master_state.specs.Updates.{with_note, with_kept, with_locks, without_lock}
+use Rattle.master_state.specs.declared.updates.KeptPut.{KeptPut}
+use Rattle.master_state.specs.declared.updates.LockPut.{LockPut}
 use Rattle.cell_core.specs.declared.asking.Touched.{Touched}
 use Rattle.cell_core.specs.Cases.{IsBehind, IsNew, IsAdmitted, TakeCase, taken_by}
 use Rattle.cell_core.specs.Cases.TakeCase.{StartRefused, StartRecovering, StartFull, StartQueued, OldBeat, BeatRefused, BeatParked, OldEpoch, NoSession, LeftBefore, Repeated, OlderCall, Outstanding, Recovering, Answered, Granted, Waits}

@@ -6,10 +6,10 @@ use Rattle.tags_cell.specs.declared.messages.outs.CallResult.{CallResult}
 use Rattle.tags_cell.specs.declared.messages.outs.Out.TheVariants as outs
 use Rattle.tags_cell.specs.declared.messages.outs.Reply.{Reply}
 use Rattle.tags_cell.specs.declared.messages.requests.CallMessage.{CallMessage}
-use Rattle.cell_parts.specs.declared.pending.Taken.{Taken}
-use Rattle.cell_state.specs.State.{MasterState}
-use Rattle.cell_state.specs.Lookups.{reply_of, stamped_reply}
-use Rattle.cell_state.specs.Updates.{with_note}
+use Rattle.master_parts.specs.declared.pending.Taken.{Taken}
+use Rattle.master_state.specs.State.{MasterState}
+use Rattle.master_state.specs.Lookups.{reply_of, stamped_reply}
+use Rattle.master_state.specs.Updates.{with_note}
 use Rattle.cell_core.specs.Step.{admission_for}
 use Rattle.master_laws.specs.Steps.{IsAnsweredBy}
 use Rattle.master_laws.proofs.NewCalls.{NewCase, new_by, IsNewCase}

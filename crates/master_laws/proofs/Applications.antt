@@ -2,10 +2,10 @@
 use Rattle.std.proofs.Common.{◌≡◌, ℕ, List, false, cond, Option, sym, ap, ◌∙◌}
 use Rattle.std.specs.Option.{option_map_or}
 use Rattle.tags_cell.specs.declared.messages.calls.Call.{Call}
-use Rattle.cell_parts.specs.declared.pending.Asked.{Asked}
-use Rattle.cell_parts.specs.declared.pending.Task.{Task}
-use Rattle.cell_state.specs.NameSpace.{name_space, caller}
-use Rattle.cell_state.specs.State.{MasterState}
+use Rattle.master_parts.specs.declared.pending.Asked.{Asked}
+use Rattle.master_parts.specs.declared.pending.Task.{Task}
+use Rattle.master_state.specs.NameSpace.{name_space, caller}
+use Rattle.master_state.specs.State.{MasterState}
 use Rattle.cell_core.specs.declared.effects.Effect.{Effect}
 use Rattle.over_core.specs.declared.plans.Plan.{Plan}
 use Rattle.over_core.specs.declared.swept.Swept.{Swept}

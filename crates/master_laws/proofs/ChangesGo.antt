@@ -10,8 +10,8 @@ use Rattle.gate_core.specs.declared.pending.Waiting.{Waiting}
 use Rattle.gate_core.specs.Gate.{touches, AreRising}
 use Rattle.session_core.specs.declared.records.Session.{Session}
 use Rattle.session_core.specs.Sessions.{session_of}
-use Rattle.cell_parts.specs.declared.pending.Task.{Task}
-use Rattle.cell_state.specs.State.{MasterState}
+use Rattle.master_parts.specs.declared.pending.Task.{Task}
+use Rattle.master_state.specs.State.{MasterState}
 use Rattle.over_core.specs.Deadlines.{quiet_at}
 use Rattle.over_core.proofs.OwnedRights.{none_asked}
 use Rattle.master_laws.specs.Closed.{MasterStep}

@@ -7,14 +7,14 @@ use Rattle.gate_core.specs.declared.pending.Waiting.{Waiting}
 use Rattle.tags_cell.specs.declared.messages.requests.CallMessage.{CallMessage}
 use Rattle.tags_cell.specs.declared.messages.requests.Request.{Request}
 use Rattle.tags_cell.specs.declared.messages.requests.Request.TheVariants as requests
-use Rattle.cell_parts.specs.declared.handles.HandleKey.{HandleKey}
-use Rattle.cell_parts.specs.declared.handles.Note.{Note}
-use Rattle.cell_parts.specs.declared.pending.Task.{Task}
-use Rattle.cell_parts.specs.declared.pending.Task.TheVariants as tasks
-use Rattle.cell_parts.specs.declared.pending.Work.TheVariants as works
-use Rattle.cell_state.specs.State.{MasterState}
-use Rattle.cell_state.specs.Lookups.{noted}
-use Rattle.cell_state.specs.Updates.{with_note}
+use Rattle.master_parts.specs.declared.handles.HandleKey.{HandleKey}
+use Rattle.master_parts.specs.declared.handles.Note.{Note}
+use Rattle.master_parts.specs.declared.pending.Task.{Task}
+use Rattle.master_parts.specs.declared.pending.Task.TheVariants as tasks
+use Rattle.master_parts.specs.declared.pending.Work.TheVariants as works
+use Rattle.master_state.specs.State.{MasterState}
+use Rattle.master_state.specs.Lookups.{noted}
+use Rattle.master_state.specs.Updates.{with_note}
 use Rattle.cell_core.specs.declared.asking.Touched.{Touched}
 use Rattle.cell_core.specs.Step.{admission_for, asking, asking_for, with_call, names_of, task_of}
 use Rattle.cell_core.specs.Cases.{IsNew, TakeCase, taken_by}

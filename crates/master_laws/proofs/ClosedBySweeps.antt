@@ -17,23 +17,23 @@ use Rattle.node_core.specs.declared.refusals.Fault.TheVariants as faults
 use Rattle.std.specs.Map.{lookup}
 use Rattle.std.specs.BTreeMap.{is_at}
 use Rattle.tags_cell.specs.declared.messages.calls.Call.{Call}
-use Rattle.cell_parts.specs.declared.handles.HandleKey.{HandleKey}
-use Rattle.cell_parts.specs.declared.pending.Task.{Task}
-use Rattle.cell_parts.specs.declared.pending.Task.TheVariants as tasks
-use Rattle.cell_parts.specs.declared.pending.Work.TheVariants as works
-use Rattle.cell_state.specs.Updates.{left, done}
-use Rattle.cell_parts.specs.Keys.{handle_order}
-use Rattle.cell_state.specs.declared.updates.SessionUpdate.TheVariants.{Begins, Prolongs, Answers}
+use Rattle.master_parts.specs.declared.handles.HandleKey.{HandleKey}
+use Rattle.master_parts.specs.declared.pending.Task.{Task}
+use Rattle.master_parts.specs.declared.pending.Task.TheVariants as tasks
+use Rattle.master_parts.specs.declared.pending.Work.TheVariants as works
+use Rattle.master_state.specs.Updates.{left, done}
+use Rattle.master_parts.specs.Keys.{handle_order}
+use Rattle.master_state.specs.declared.updates.SessionUpdate.TheVariants.{Begins, Prolongs, Answers}
 use Rattle.cell_core.specs.Ephemerals.{is_still_idle}
 use Rattle.cell_core.specs.Step.{queued}
 use Rattle.cell_core.proofs.AskedFor.{asks_only}
-use Rattle.cell_state.specs.NameSpace.{name_space, caller}
-use Rattle.cell_state.specs.State.{MasterState, task_at}
-use Rattle.cell_state.specs.Lookups.{session_of, is_live, may_start, turned_away, noted, reply_of}
-use Rattle.cell_state.specs.Updates.{with_note}
+use Rattle.master_state.specs.NameSpace.{name_space, caller}
+use Rattle.master_state.specs.State.{MasterState, task_at}
+use Rattle.master_state.specs.Lookups.{session_of, is_live, may_start, turned_away, noted, reply_of}
+use Rattle.master_state.specs.Updates.{with_note}
 use Rattle.cell_core.specs.Effect.{effect, gone_by_itself}
 use Rattle.over_core.specs.Plans.{first_action, no_plan, session_plan, started_out, alive_out, plan_session, plan_start, plan_of, plan_task, plan_work, plan_call, plan_asked, plan_effect, leaving, parting_plan, plan_parting, plan_live, plan_leave}
-use Rattle.cell_state.specs.Lapses.{lapses_of}
+use Rattle.master_state.specs.Lapses.{lapses_of}
 use Rattle.over_core.specs.declared.swept.Swept.{Swept}
 use Rattle.over_core.specs.Sweep.{acted, swept, is_over, beats_action, beats_answered, beats_step}
 use Rattle.over_core.specs.declared.plans.Plan.{Plan}

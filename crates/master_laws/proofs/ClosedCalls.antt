@@ -10,12 +10,12 @@ use Rattle.tags_cell.specs.declared.handles.Handle.{Handle}
 use Rattle.tags_cell.specs.declared.messages.outs.CallResult.{CallResult}
 use Rattle.tags_cell.specs.declared.messages.outs.CallResult.TheVariants as results
 use Rattle.tags_cell.specs.declared.messages.requests.CallMessage.{CallMessage}
-use Rattle.cell_parts.specs.declared.pending.Taken.{Taken}
-use Rattle.cell_state.specs.State.{MasterState}
-use Rattle.cell_state.specs.Lookups.{handle_state_of, is_usable, own_handle, shown_handle, noted}
-use Rattle.cell_parts.specs.Keys.{key_of}
+use Rattle.master_parts.specs.declared.pending.Taken.{Taken}
+use Rattle.master_state.specs.State.{MasterState}
+use Rattle.master_state.specs.Lookups.{handle_state_of, is_usable, own_handle, shown_handle, noted}
+use Rattle.master_parts.specs.Keys.{key_of}
 use Rattle.cell_core.specs.Step.{answering, handle_admission, admission_of, admission_for, replied}
-use Rattle.cell_state.specs.Updates.{with_note}
+use Rattle.master_state.specs.Updates.{with_note}
 use Rattle.master_laws.specs.Closed.{IsClosed, shown_bytes, ClosedHandleIsRefused}
 use Rattle.master_laws.proofs.NewCalls.{NewCase, new_by, IsNewCase, new_case}
 use Rattle.master_laws.proofs.NewCalls.NewCase.{Recovers, Answers, Grants, Queues}

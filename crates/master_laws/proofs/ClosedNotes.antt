@@ -2,17 +2,17 @@
 use Rattle.std.proofs.Common.{◌≡◌, ℕ, true, false, cond, Option, Some, None, refl, ap, subst, ◌∙◌, inl, inr, ⊎_elim}
 use Rattle.std.specs.Prelude.{◌⊎◌}
 use Rattle.std.specs.BTreeMap.{is_at}
-use Rattle.plain.proofs.Entries.{lookup_put}
+use Rattle.collections.proofs.Entries.{lookup_put}
 use Rattle.tags_cell.specs.declared.messages.calls.Call.{Call}
-use Rattle.cell_parts.specs.Keys.{handle_order}
-use Rattle.cell_parts.specs.declared.handles.HandleKey.{HandleKey}
-use Rattle.cell_parts.specs.declared.handles.HandleState.TheVariants as states
-use Rattle.cell_parts.specs.declared.handles.Note.{Note}
-use Rattle.cell_state.specs.State.{MasterState}
-use Rattle.cell_state.specs.Lookups.{handle_state_of}
-use Rattle.cell_state.specs.Updates.{with_note}
-use Rattle.cell_parts.proofs.Found.{same_key}
-use Rattle.cell_parts.proofs.PlacedHandles.{exact_handle, same_handle}
+use Rattle.master_parts.specs.Keys.{handle_order}
+use Rattle.master_parts.specs.declared.handles.HandleKey.{HandleKey}
+use Rattle.master_parts.specs.declared.handles.HandleState.TheVariants as states
+use Rattle.master_parts.specs.declared.handles.Note.{Note}
+use Rattle.master_state.specs.State.{MasterState}
+use Rattle.master_state.specs.Lookups.{handle_state_of}
+use Rattle.master_state.specs.Updates.{with_note}
+use Rattle.master_parts.proofs.Found.{same_key}
+use Rattle.master_parts.proofs.PlacedHandles.{exact_handle, same_handle}
 use Rattle.master_laws.specs.Closed.{IsClosed, opens_as}
 
 -- what is noted of a handle either closes it, is the first that is noted of it, or is by the Open that gives it

@@ -4,7 +4,7 @@ use Rattle.std.specs.Prelude.{Contains}
 use Rattle.std.specs.Map.{lookup}
 use Rattle.std.specs.BTreeMap.{is_at, insert_entry}
 use Rattle.std.proofs.lemmas.List.Elements.{Contains-push, Contains-append_left}
-use Rattle.plain.proofs.Entries.{lookup_put}
+use Rattle.collections.proofs.Entries.{lookup_put}
 use Rattle.tags_cell.specs.Handles.{read_handle}
 use Rattle.tags_cell.specs.declared.messages.calls.Call.TheVariants as calls
 use Rattle.tags_cell.specs.declared.handles.Handle.{Handle}
@@ -12,20 +12,20 @@ use Rattle.tags_cell.specs.declared.messages.outs.CallResult.TheVariants as resu
 use Rattle.tags_cell.specs.declared.messages.outs.Out.{Out}
 use Rattle.tags_cell.specs.declared.messages.outs.Out.TheVariants as outs
 use Rattle.tags_cell.specs.declared.messages.outs.Reply.{Reply}
-use Rattle.cell_parts.specs.Keys.{handle_order}
-use Rattle.cell_parts.specs.declared.handles.HandleKey.{HandleKey}
-use Rattle.cell_parts.specs.declared.handles.HandleState.{HandleState}
-use Rattle.cell_parts.specs.declared.handles.HandleState.TheVariants as states
-use Rattle.cell_parts.specs.declared.pending.Asked.{Asked}
-use Rattle.cell_state.specs.NameSpace.{name_space, caller}
-use Rattle.cell_state.specs.State.{MasterState}
-use Rattle.cell_parts.specs.Keys.{key_of}
-use Rattle.cell_state.specs.Lookups.{noted, reply_of}
-use Rattle.cell_parts.proofs.PlacedHandles.{exact_handle, same_handle}
+use Rattle.master_parts.specs.Keys.{handle_order}
+use Rattle.master_parts.specs.declared.handles.HandleKey.{HandleKey}
+use Rattle.master_parts.specs.declared.handles.HandleState.{HandleState}
+use Rattle.master_parts.specs.declared.handles.HandleState.TheVariants as states
+use Rattle.master_parts.specs.declared.pending.Asked.{Asked}
+use Rattle.master_state.specs.NameSpace.{name_space, caller}
+use Rattle.master_state.specs.State.{MasterState}
+use Rattle.master_parts.specs.Keys.{key_of}
+use Rattle.master_state.specs.Lookups.{noted, reply_of}
+use Rattle.master_parts.proofs.PlacedHandles.{exact_handle, same_handle}
 use Rattle.over_core.specs.declared.plans.Plan.{Plan}
 use Rattle.over_core.specs.declared.swept.Swept.{Swept}
 use Rattle.cell_core.specs.Effect.{close_at, handle_effect, effect}
-use Rattle.cell_state.specs.Replies.{sent}
+use Rattle.master_state.specs.Replies.{sent}
 use Rattle.cell_core.specs.Outcomes.{locking_replies}
 use Rattle.over_core.specs.Sweep.{sweep_step}
 use Rattle.master_laws.specs.Steps.{IsBeingApplied}

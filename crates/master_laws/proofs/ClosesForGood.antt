@@ -13,14 +13,14 @@ use Rattle.gate_core.specs.declared.pending.Waiting.{Waiting}
 use Rattle.gate_core.specs.Gate.{is_numbered, without}
 use Rattle.tags_cell.specs.declared.messages.calls.Call.{Call}
 use Rattle.tags_cell.specs.declared.messages.calls.Call.TheVariants as calls
-use Rattle.cell_parts.specs.declared.handles.HandleKey.{HandleKey}
-use Rattle.cell_parts.specs.declared.pending.Task.{Task}
-use Rattle.cell_parts.specs.declared.pending.Task.TheVariants as tasks
-use Rattle.cell_parts.specs.declared.pending.Work.{Work}
-use Rattle.cell_parts.specs.declared.pending.Work.TheVariants as works
-use Rattle.cell_state.specs.State.{MasterState, task_at}
-use Rattle.cell_parts.specs.Keys.{key_of}
-use Rattle.cell_state.specs.Lookups.{kept_of, noted}
+use Rattle.master_parts.specs.declared.handles.HandleKey.{HandleKey}
+use Rattle.master_parts.specs.declared.pending.Task.{Task}
+use Rattle.master_parts.specs.declared.pending.Task.TheVariants as tasks
+use Rattle.master_parts.specs.declared.pending.Work.{Work}
+use Rattle.master_parts.specs.declared.pending.Work.TheVariants as works
+use Rattle.master_state.specs.State.{MasterState, task_at}
+use Rattle.master_parts.specs.Keys.{key_of}
+use Rattle.master_state.specs.Lookups.{kept_of, noted}
 use Rattle.over_core.specs.Kept.{IsOwnTask, IsOwnCall, is_call, is_call_by, call_count, waits_count, is_unanswered, unanswered}
 use Rattle.master_laws.specs.Closed.{opens_as, work_opens, task_opens, waits_to_open, CloseClosesForGood}
 use Rattle.master_laws.proofs.AfterSweeps.{done_gate}

@@ -28,20 +28,20 @@ use Rattle.lock_core.specs.declared.partings.Parting.TheVariants as partings
 use Rattle.lock_core.specs.Locks.{lock_at}
 use Rattle.lock_core.specs.Turns.{reopened}
 use Rattle.rights_core.specs.Rights.{clients_to_ask}
-use Rattle.cell_parts.specs.declared.handles.Note.{Note}
-use Rattle.cell_parts.specs.declared.notices.Telling.{Telling}
-use Rattle.cell_parts.specs.declared.pending.Asked.{Asked}
-use Rattle.cell_parts.specs.declared.pending.Idle.{Idle}
-use Rattle.cell_parts.specs.declared.pending.Task.{Task}
-use Rattle.cell_parts.specs.declared.pending.Task.TheVariants as tasks
-use Rattle.cell_state.specs.State.{MasterState}
-use Rattle.cell_state.specs.Lookups.{noted, reply_of}
-use Rattle.cell_parts.specs.Answered.{answered_by}
-use Rattle.cell_state.specs.Lapses.{lapses_of, lapses_puts, lapses_replies}
-use Rattle.cell_state.specs.Notices.{with_tellings}
-use Rattle.cell_state.specs.Replies.{kept_puts, puts_of, replies_to, turn_replies}
-use Rattle.cell_state.specs.Updates.{with_note, with_kept, with_locks}
-use Rattle.cell_state.specs.declared.updates.KeptPut.{KeptPut}
+use Rattle.master_parts.specs.declared.handles.Note.{Note}
+use Rattle.master_parts.specs.declared.notices.Telling.{Telling}
+use Rattle.master_parts.specs.declared.pending.Asked.{Asked}
+use Rattle.master_parts.specs.declared.pending.Idle.{Idle}
+use Rattle.master_parts.specs.declared.pending.Task.{Task}
+use Rattle.master_parts.specs.declared.pending.Task.TheVariants as tasks
+use Rattle.master_state.specs.State.{MasterState}
+use Rattle.master_state.specs.Lookups.{noted, reply_of}
+use Rattle.master_parts.specs.Answered.{answered_by}
+use Rattle.master_state.specs.Lapses.{lapses_of, lapses_puts, lapses_replies}
+use Rattle.master_state.specs.Notices.{with_tellings}
+use Rattle.master_state.specs.Replies.{kept_puts, puts_of, replies_to, turn_replies}
+use Rattle.master_state.specs.Updates.{with_note, with_kept, with_locks}
+use Rattle.master_state.specs.declared.updates.KeptPut.{KeptPut}
 use Rattle.cell_core.specs.Outcomes.{left_put}
 use Rattle.cell_core.specs.Step.{queued, recorded, asking, asking_for}
 use Rattle.cell_core.proofs.AskedFor.{asks_only}

@@ -23,10 +23,10 @@ use Rattle.tags_cell.specs.declared.handles.Handle.{Handle}
 use Rattle.tags_cell.specs.declared.messages.outs.CallResult.{CallResult}
 use Rattle.tags_cell.specs.declared.messages.outs.CallResult.TheVariants as results
 use Rattle.tags_cell.specs.declared.messages.outs.NewHandle.{NewHandle}
-use Rattle.cell_state.specs.NameSpace.{name_space, caller}
-use Rattle.cell_state.specs.State.{MasterState}
-use Rattle.cell_state.specs.Lookups.{may, missing_right, is_of_cell, sequencer_fault, new_handle, open_present, plain_open}
-use Rattle.cell_parts.specs.Calls.{is_too_long, create_fault}
+use Rattle.master_state.specs.NameSpace.{name_space, caller}
+use Rattle.master_state.specs.State.{MasterState}
+use Rattle.master_state.specs.Lookups.{may, missing_right, is_of_cell, sequencer_fault, new_handle, open_present, plain_open}
+use Rattle.master_parts.specs.Calls.{is_too_long, create_fault}
 use Rattle.cell_core.specs.declared.effects.Effect.{Effect}
 use Rattle.cell_core.specs.Effect.{answered, refused, content_of, is_last, opened_effect, new_node, acls_of, create_made, create_numbered, create_permitted, create_in, create_under, create_new, create_over, create_effect, create_tested, create_under_sequencer, create_here, open_effect, effect}
 use Rattle.master_laws.specs.Opens.{AreCarried}

@@ -21,15 +21,15 @@ use Rattle.session_core.specs.declared.records.Kept.{Kept}
 use Rattle.session_core.specs.Session.{answered}
 use Rattle.session_core.specs.Sessions.{with_session}
 use Rattle.lock_core.specs.declared.partings.Parting.TheVariants as partings
-use Rattle.cell_parts.specs.declared.handles.Note.{Note}
-use Rattle.cell_parts.specs.declared.pending.Task.{Task}
-use Rattle.cell_parts.specs.declared.pending.Task.TheVariants as tasks
-use Rattle.cell_parts.specs.declared.pending.Work.TheVariants as works
-use Rattle.cell_state.specs.State.{MasterState}
-use Rattle.cell_state.specs.Lookups.{acknowledgement}
-use Rattle.cell_state.specs.Partings.{ending_by}
-use Rattle.cell_state.specs.Replies.{turn_replies}
-use Rattle.cell_state.specs.Updates.{with_note, with_locks}
+use Rattle.master_parts.specs.declared.handles.Note.{Note}
+use Rattle.master_parts.specs.declared.pending.Task.{Task}
+use Rattle.master_parts.specs.declared.pending.Task.TheVariants as tasks
+use Rattle.master_parts.specs.declared.pending.Work.TheVariants as works
+use Rattle.master_state.specs.State.{MasterState}
+use Rattle.master_state.specs.Lookups.{acknowledgement}
+use Rattle.master_state.specs.Partings.{ending_by}
+use Rattle.master_state.specs.Replies.{turn_replies}
+use Rattle.master_state.specs.Updates.{with_note, with_locks}
 use Rattle.cell_core.specs.Cases.{TakeCase, taken_by}
 use Rattle.cell_core.specs.Cases.TakeCase.{StartRefused, StartRecovering, StartFull, StartQueued, OldBeat, BeatRefused, BeatParked, OldEpoch, NoSession, LeftBefore, Repeated, OlderCall, Outstanding, Recovering, Answered, Granted, Waits}
 use Rattle.cell_core.specs.Outcomes.{left_put}

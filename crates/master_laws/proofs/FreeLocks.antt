@@ -18,8 +18,8 @@ use Rattle.lock_core.specs.declared.claims.Closing.{Closing}
 use Rattle.lock_core.specs.State.{LockState, Holders, lock_of, mode_of, nobody_holds}
 use Rattle.lock_core.specs.Turns.{is_nobody, time_left}
 use Rattle.lock_core.specs.Locks.{LockTable, lock_at, is_due}
-use Rattle.cell_state.specs.State.{MasterState, master_of}
-use Rattle.cell_state.specs.Lookups.{noted}
+use Rattle.master_state.specs.State.{MasterState, master_of}
+use Rattle.master_state.specs.Lookups.{noted}
 use Rattle.rows_cell.specs.Sound.{is_number}
 use Rattle.over_core.specs.Kept.{claim_fits, closing_fits}
 use Rattle.cell_core.specs.Cases.{taken_by}

@@ -15,16 +15,16 @@ use Rattle.tags_cell.specs.declared.messages.outs.CallResult.{CallResult}
 use Rattle.tags_cell.specs.declared.messages.outs.CallResult.TheVariants as results
 use Rattle.tags_cell.specs.declared.messages.outs.NewHandle.{NewHandle}
 use Rattle.tags_cell.specs.declared.messages.requests.CallMessage.{CallMessage}
-use Rattle.cell_parts.specs.Keys.{handle_order}
-use Rattle.cell_parts.specs.declared.handles.HandleState.TheVariants as states
-use Rattle.cell_parts.specs.declared.pending.Taken.{Taken}
-use Rattle.cell_state.specs.NameSpace.{name_space, caller}
-use Rattle.cell_state.specs.State.{MasterState}
-use Rattle.cell_state.specs.Lookups.{noted, missing_right, numbered_handle, open_present, plain_open, opened_answer, opened_note}
-use Rattle.cell_parts.specs.Keys.{key_of}
-use Rattle.cell_parts.specs.Notes.{open_note}
-use Rattle.cell_state.specs.Updates.{with_note}
-use Rattle.cell_parts.specs.Calls.{is_too_long}
+use Rattle.master_parts.specs.Keys.{handle_order}
+use Rattle.master_parts.specs.declared.handles.HandleState.TheVariants as states
+use Rattle.master_parts.specs.declared.pending.Taken.{Taken}
+use Rattle.master_state.specs.NameSpace.{name_space, caller}
+use Rattle.master_state.specs.State.{MasterState}
+use Rattle.master_state.specs.Lookups.{noted, missing_right, numbered_handle, open_present, plain_open, opened_answer, opened_note}
+use Rattle.master_parts.specs.Keys.{key_of}
+use Rattle.master_parts.specs.Notes.{open_note}
+use Rattle.master_state.specs.Updates.{with_note}
+use Rattle.master_parts.specs.Calls.{is_too_long}
 use Rattle.cell_core.specs.Step.{admission_for}
 use Rattle.master_laws.specs.Opens.{handle_for, GivenHandleIsOpen}
 use Rattle.master_laws.proofs.Answered.{IsSent, same_answer, sent_at_once}

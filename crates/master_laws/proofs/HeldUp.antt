@@ -6,7 +6,7 @@ use Rattle.std.specs.Str.{bytes_eq}
 use Rattle.std.proofs.lemmas.Bool.Decides.{nat_tests}
 use Rattle.std.proofs.lemmas.List.Elements.{All-from_recursion}
 use Rattle.std.proofs.lemmas.List.Sums.{sum_by-cons}
-use Rattle.plain.proofs.Keys.{bytes_self}
+use Rattle.collections.proofs.Keys.{bytes_self}
 use Rattle.tags_cell.specs.declared.messages.outs.Reply.{Reply}
 use Rattle.rights_core.specs.declared.cache_rights.CacheRight.{CacheRight}
 use Rattle.rights_core.specs.Rights.{is_held_on, is_held_at, held_on, holds}
@@ -15,9 +15,9 @@ use Rattle.gate_core.specs.declared.pending.Waiting.{Waiting}
 use Rattle.gate_core.specs.Gate.{touches, uncachable, is_free}
 use Rattle.session_core.specs.declared.records.Session.{Session}
 use Rattle.session_core.specs.Sessions.{session_of}
-use Rattle.cell_parts.specs.declared.pending.Task.{Task}
-use Rattle.cell_state.specs.State.{MasterState}
-use Rattle.cell_state.specs.Lookups.{noted}
+use Rattle.master_parts.specs.declared.pending.Task.{Task}
+use Rattle.master_state.specs.State.{MasterState}
+use Rattle.master_state.specs.Lookups.{noted}
 use Rattle.over_core.specs.Deadlines.{quiet_at}
 use Rattle.over_core.proofs.KeptBySweeps.{sessions_ordered}
 use Rattle.over_core.proofs.SessionReads.{lives_in}

@@ -8,11 +8,11 @@ use Rattle.tags_cell.specs.Numbers.{is_client_number}
 use Rattle.tags_cell.specs.declared.messages.outs.Reply.{Reply}
 use Rattle.tags_cell.specs.declared.messages.requests.Request.{Request}
 use Rattle.session_core.specs.declared.records.Session.{Session}
-use Rattle.cell_parts.specs.declared.notices.Telling.{Telling}
-use Rattle.cell_parts.specs.declared.pending.Taken.{Taken}
-use Rattle.cell_state.specs.State.{MasterState}
-use Rattle.cell_state.specs.Lookups.{noted}
-use Rattle.cell_state.specs.Notices.{with_tellings}
+use Rattle.master_parts.specs.declared.notices.Telling.{Telling}
+use Rattle.master_parts.specs.declared.pending.Taken.{Taken}
+use Rattle.master_state.specs.State.{MasterState}
+use Rattle.master_state.specs.Lookups.{noted}
+use Rattle.master_state.specs.Notices.{with_tellings}
 use Rattle.cell_core.specs.Cases.{TakeCase, taken_by}
 use Rattle.cell_core.specs.Step.{take_step}
 use Rattle.cell_core.proofs.TakeCases.{taken_case}

@@ -10,12 +10,12 @@ use Rattle.node_core.specs.declared.nodes.Node.{Node}
 use Rattle.tags_cell.specs.Handles.{is_ordinal}
 use Rattle.tags_cell.specs.declared.messages.calls.Open.{Open}
 use Rattle.tags_cell.specs.declared.handles.Handle.{Handle}
-use Rattle.cell_parts.specs.Keys.{is_key}
-use Rattle.cell_state.specs.NameSpace.{name_space, caller}
-use Rattle.cell_state.specs.State.{MasterState}
-use Rattle.cell_parts.specs.Keys.{key_of}
-use Rattle.cell_state.specs.Lookups.{missing_right, numbered_handle, new_handle, open_present, plain_open}
-use Rattle.cell_parts.specs.Calls.{is_too_long}
+use Rattle.master_parts.specs.Keys.{is_key}
+use Rattle.master_state.specs.NameSpace.{name_space, caller}
+use Rattle.master_state.specs.State.{MasterState}
+use Rattle.master_parts.specs.Keys.{key_of}
+use Rattle.master_state.specs.Lookups.{missing_right, numbered_handle, new_handle, open_present, plain_open}
+use Rattle.master_parts.specs.Calls.{is_too_long}
 use Rattle.master_laws.proofs.PlainOpens.{unless_missing}
 
 itself : (n : ℕ) → (n == n) ≡ true

@@ -13,7 +13,7 @@ use Rattle.session_core.specs.declared.records.Session.{Session}
 use Rattle.session_core.specs.Session.{patience, is_given_up, owes_fail_over, holds_up, mark_at, meets, acknowledging, beaten, prolonged, unparked}
 use Rattle.session_core.specs.Sessions.{session_of}
 use Rattle.session_core.specs.Laws.{issued_at}
-use Rattle.cell_state.specs.State.{MasterState}
+use Rattle.master_state.specs.State.{MasterState}
 use Rattle.master_laws.specs.Waits.{asks_to_start, longest_hold, RightsComeBack}
 use Rattle.master_laws.proofs.Answerable.{tally_in}
 use Rattle.master_laws.proofs.SessionSteps.{IsCarried}

@@ -17,10 +17,10 @@ use Rattle.tags_cell.specs.declared.handles.Handle.{Handle}
 use Rattle.tags_cell.specs.declared.messages.outs.CallResult.TheVariants as results
 use Rattle.tags_cell.specs.declared.messages.outs.NewHandle.{NewHandle}
 use Rattle.tags_cell.specs.declared.messages.requests.CallMessage.{CallMessage}
-use Rattle.cell_state.specs.NameSpace.{name_space, caller}
-use Rattle.cell_state.specs.State.{MasterState}
-use Rattle.cell_state.specs.Lookups.{noted, may, missing_right, numbered_handle, open_present, plain_open, opened_answer}
-use Rattle.cell_parts.specs.Calls.{is_too_long}
+use Rattle.master_state.specs.NameSpace.{name_space, caller}
+use Rattle.master_state.specs.State.{MasterState}
+use Rattle.master_state.specs.Lookups.{noted, may, missing_right, numbered_handle, open_present, plain_open, opened_answer}
+use Rattle.master_parts.specs.Calls.{is_too_long}
 use Rattle.cell_core.specs.Step.{admission_for, admission_of_open}
 use Rattle.master_laws.specs.Opens.{ArePermitted, MayOpen, IsPlainOpen, AreCarried, OpensWherePermitted}
 use Rattle.master_laws.proofs.Answered.{IsSent, is_answered, same_answer, sent_at_once}

@@ -11,9 +11,9 @@ use Rattle.session_core.specs.Session.{is_client_expired, is_client_due}
 use Rattle.session_core.specs.Sessions.{session_of, all_heard, lowest, IsLowest}
 use Rattle.session_core.proofs.Lowest.{lowest_is}
 use Rattle.lock_core.specs.Locks.{due}
-use Rattle.cell_parts.specs.declared.pending.Idle.{Idle}
-use Rattle.cell_parts.specs.declared.pending.Task.{Task}
-use Rattle.cell_state.specs.State.{MasterState, next_change}
+use Rattle.master_parts.specs.declared.pending.Idle.{Idle}
+use Rattle.master_parts.specs.declared.pending.Task.{Task}
+use Rattle.master_state.specs.State.{MasterState, next_change}
 use Rattle.cell_core.specs.Ephemerals.{next_idle}
 use Rattle.over_core.specs.declared.actions.Action.{Action}
 use Rattle.over_core.specs.declared.actions.Action.TheVariants.{Recover, Expire, Apply, Reopen, Tidy, Answer, Quiet}

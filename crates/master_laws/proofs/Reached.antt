@@ -13,11 +13,11 @@ use Rattle.tags_cell.specs.declared.messages.requests.Request.{Request}
 use Rattle.rights_core.proofs.Recorded.{none_of}
 use Rattle.session_core.specs.declared.records.Tally.{Tally}
 use Rattle.session_core.specs.Sessions.{session_of, has_spent_events}
-use Rattle.cell_parts.specs.declared.notices.Telling.{Telling}
-use Rattle.cell_parts.specs.declared.pending.Taken.{Taken}
-use Rattle.cell_state.specs.State.{MasterState, master_of}
-use Rattle.cell_state.specs.Lookups.{noted}
-use Rattle.cell_state.specs.Notices.{with_tellings}
+use Rattle.master_parts.specs.declared.notices.Telling.{Telling}
+use Rattle.master_parts.specs.declared.pending.Taken.{Taken}
+use Rattle.master_state.specs.State.{MasterState, master_of}
+use Rattle.master_state.specs.Lookups.{noted}
+use Rattle.master_state.specs.Notices.{with_tellings}
 use Rattle.cell_core.specs.Cases.{taken_by}
 use Rattle.cell_core.specs.Step.{take_step}
 use Rattle.cell_core.proofs.TakeCases.{taken_case, taken_unspent}

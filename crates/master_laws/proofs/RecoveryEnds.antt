@@ -19,9 +19,9 @@ use Rattle.session_core.specs.Sessions.{session_of, all_heard, lowest, passes}
 use Rattle.session_core.specs.Quiet.{is_client_unheard}
 use Rattle.session_core.specs.Laws.{issued_at}
 use Rattle.session_core.proofs.Lowest.{lowest_is}
-use Rattle.cell_parts.specs.StoredSessions.{taken_over}
-use Rattle.cell_state.specs.State.{MasterState, master_of}
-use Rattle.cell_state.specs.Lookups.{noted}
+use Rattle.master_parts.specs.StoredSessions.{taken_over}
+use Rattle.master_state.specs.State.{MasterState, master_of}
+use Rattle.master_state.specs.Lookups.{noted}
 use Rattle.over_core.specs.Deadlines.{quiet_at}
 use Rattle.over_core.proofs.KeptBySweeps.{sessions_ordered}
 use Rattle.over_core.proofs.SweepCases.{HasSessionsInOrder}

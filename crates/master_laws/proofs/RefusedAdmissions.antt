@@ -12,11 +12,11 @@ use Rattle.tags_cell.specs.declared.messages.outs.CallResult.{CallResult}
 use Rattle.tags_cell.specs.declared.messages.outs.CallResult.TheVariants as results
 use Rattle.tags_cell.specs.declared.messages.outs.NewHandle.{NewHandle}
 use Rattle.tags_cell.specs.declared.messages.requests.CallMessage.{CallMessage}
-use Rattle.cell_parts.specs.declared.handles.Note.{Note}
-use Rattle.cell_state.specs.NameSpace.{name_space, caller}
-use Rattle.cell_state.specs.State.{MasterState}
-use Rattle.cell_state.specs.Lookups.{plain_open, opened_note, opened_answer, shown_handle, answer_on, is_of_cell, sequencer_fault}
-use Rattle.cell_parts.specs.Calls.{bytes_of}
+use Rattle.master_parts.specs.declared.handles.Note.{Note}
+use Rattle.master_state.specs.NameSpace.{name_space, caller}
+use Rattle.master_state.specs.State.{MasterState}
+use Rattle.master_state.specs.Lookups.{plain_open, opened_note, opened_answer, shown_handle, answer_on, is_of_cell, sequencer_fault}
+use Rattle.master_parts.specs.Calls.{bytes_of}
 use Rattle.cell_core.specs.Step.{shown_note, viewed_name, absent_name, told_by_open, answering, admission_of_open, admission_under, open_admission, check_admission, handle_admission, admission_of, admission_for}
 use Rattle.master_laws.specs.Closed.{shown_bytes}
 use Rattle.master_laws.specs.Refused.{first_shown}

@@ -18,14 +18,14 @@ use Rattle.session_core.specs.Session.{keeping}
 use Rattle.session_core.specs.Sessions.{SessionTable, with_session}
 use Rattle.session_core.specs.Sessions as of_sessions
 use Rattle.session_core.proofs.OneClient.{own_session, other_session, kept_session}
-use Rattle.cell_parts.specs.declared.notices.Telling.{Telling}
-use Rattle.cell_parts.specs.declared.pending.Asked.{Asked}
-use Rattle.cell_state.specs.Updates.{edits_of}
-use Rattle.cell_state.specs.NameSpace.{name_space, caller}
-use Rattle.cell_state.specs.Notices.{with_telling}
-use Rattle.cell_state.specs.State.{MasterState}
-use Rattle.cell_state.specs.Lookups.{reply_of, noted}
-use Rattle.cell_parts.specs.Answered.{answered_by}
+use Rattle.master_parts.specs.declared.notices.Telling.{Telling}
+use Rattle.master_parts.specs.declared.pending.Asked.{Asked}
+use Rattle.master_state.specs.Updates.{edits_of}
+use Rattle.master_state.specs.NameSpace.{name_space, caller}
+use Rattle.master_state.specs.Notices.{with_telling}
+use Rattle.master_state.specs.State.{MasterState}
+use Rattle.master_state.specs.Lookups.{reply_of, noted}
+use Rattle.master_parts.specs.Answered.{answered_by}
 use Rattle.over_core.specs.declared.plans.Plan.{Plan}
 use Rattle.cell_core.specs.Effect.{refused, effect}
 use Rattle.over_core.specs.Plans.{tellings_of}

@@ -14,14 +14,14 @@ use Rattle.tags_cell.specs.declared.messages.outs.CallResult.TheVariants as resu
 use Rattle.tags_cell.specs.declared.messages.outs.Out.TheVariants as outs
 use Rattle.tags_cell.specs.declared.messages.outs.Reply.{Reply}
 use Rattle.tags_cell.specs.declared.messages.requests.CallMessage.{CallMessage}
-use Rattle.cell_parts.specs.declared.handles.Note.{Note}
-use Rattle.cell_parts.specs.declared.pending.Taken.{Taken}
+use Rattle.master_parts.specs.declared.handles.Note.{Note}
+use Rattle.master_parts.specs.declared.pending.Taken.{Taken}
 use Rattle.cell_core.specs.Cases.{IsAnswered, IsGranted}
-use Rattle.cell_state.specs.State.{MasterState}
-use Rattle.cell_parts.specs.Answered.{answered_by}
+use Rattle.master_state.specs.State.{MasterState}
+use Rattle.master_parts.specs.Answered.{answered_by}
 use Rattle.cell_core.specs.Step.{recorded, replied, granting, with_right, admission_for}
-use Rattle.cell_state.specs.Lookups.{granted_lines, stamped_reply, reply_of, sends, noted}
-use Rattle.cell_state.specs.Updates.{with_note}
+use Rattle.master_state.specs.Lookups.{granted_lines, stamped_reply, reply_of, sends, noted}
+use Rattle.master_state.specs.Updates.{with_note}
 use Rattle.master_laws.specs.Refused.{first_shown, with_refusal, RefusesCall, RefusedCallChangesNothing, RefusalGrantsAbsenceAlone}
 use Rattle.master_laws.proofs.Answered.{only_one, none_in}
 use Rattle.master_laws.proofs.NewCalls.{NewCase, new_by, new_case}

@@ -13,7 +13,7 @@ use Rattle.std.proofs.lemmas.Bool.{and_parts, not-true}
 use Rattle.std.proofs.lemmas.Bool.Decides.{nat_tests}
 use Rattle.std.proofs.lemmas.Cmp.{tied_itself}
 use Rattle.std.proofs.lemmas.List.Folds.{list_any-append}
-use Rattle.plain.proofs.Keys.{bytes_self, bytes_same}
+use Rattle.collections.proofs.Keys.{bytes_self, bytes_same}
 use Rattle.names_cell.specs.Text.{is_child, parent_of}
 use Rattle.node_core.specs.declared.nodes.Node.{Node}
 use Rattle.node_core.specs.declared.refusals.Fault.TheVariants as faults
@@ -42,21 +42,21 @@ use Rattle.lock_core.specs.declared.partings.Parting.TheVariants as partings
 use Rattle.lock_core.specs.State.{LockState, nobody_holds, fits, is_exhausted}
 use Rattle.lock_core.specs.Turns.{is_nobody, served_from, served, turned_away, settled, held_by, reopened, time_left}
 use Rattle.lock_core.specs.Locks.{LockTable, lock_at, is_due, due}
-use Rattle.cell_parts.specs.Ephemerals.{tidies, has_its_turn, is_held_open, is_left, idle_of}
-use Rattle.cell_parts.specs.EphemeralNames.{is_ephemeral}
-use Rattle.cell_parts.specs.declared.handles.Note.{Note}
-use Rattle.cell_parts.specs.declared.notices.Telling.{Telling}
-use Rattle.cell_parts.specs.declared.pending.Asked.{Asked}
-use Rattle.cell_parts.specs.declared.pending.Idle.{Idle}
-use Rattle.cell_parts.specs.declared.pending.Task.{Task}
-use Rattle.cell_parts.specs.declared.pending.Task.TheVariants as tasks
-use Rattle.cell_state.specs.State.{MasterState, tables_of}
-use Rattle.cell_state.specs.Lookups.{noted}
-use Rattle.cell_state.specs.Lapses.{lapses_of, lapses_puts, lapses_replies}
-use Rattle.cell_state.specs.Notices.{with_tellings}
-use Rattle.cell_state.specs.Replies.{kept_puts, puts_of, replies_to, turn_replies}
-use Rattle.cell_state.specs.Updates.{with_note, with_locks, without_lock}
-use Rattle.cell_state.specs.declared.updates.LockPut.{LockPut}
+use Rattle.master_parts.specs.Ephemerals.{tidies, has_its_turn, is_held_open, is_left, idle_of}
+use Rattle.master_parts.specs.EphemeralNames.{is_ephemeral}
+use Rattle.master_parts.specs.declared.handles.Note.{Note}
+use Rattle.master_parts.specs.declared.notices.Telling.{Telling}
+use Rattle.master_parts.specs.declared.pending.Asked.{Asked}
+use Rattle.master_parts.specs.declared.pending.Idle.{Idle}
+use Rattle.master_parts.specs.declared.pending.Task.{Task}
+use Rattle.master_parts.specs.declared.pending.Task.TheVariants as tasks
+use Rattle.master_state.specs.State.{MasterState, tables_of}
+use Rattle.master_state.specs.Lookups.{noted}
+use Rattle.master_state.specs.Lapses.{lapses_of, lapses_puts, lapses_replies}
+use Rattle.master_state.specs.Notices.{with_tellings}
+use Rattle.master_state.specs.Replies.{kept_puts, puts_of, replies_to, turn_replies}
+use Rattle.master_state.specs.Updates.{with_note, with_locks, without_lock}
+use Rattle.master_state.specs.declared.updates.LockPut.{LockPut}
 use Rattle.cell_core.specs.Ephemerals.{may_tidy, next_idle, tidied, is_to_go, is_still_idle}
 use Rattle.cell_core.specs.Outcomes.{left_put}
 use Rattle.cell_core.specs.Step.{queued, recorded, asking, asking_for}
@@ -68,7 +68,7 @@ use Rattle.over_core.specs.SweepCase.{IsNextApplied, SweepCase, rest, ended, map
 use Rattle.over_core.specs.SweepCase.SweepCase.{Quiet, Recovers, Expires, Departed, AnswersBeat, TurnedAway, StartedAgain, Started, Reopens, Tidies, Spared, Tidied, OfEnded, Ended, Applied, Deleted, Locked, Awaited, Left}
 use Rattle.over_core.proofs.KeptBySweeps.{sessions_ordered, tellings_kept, case_kept}
 use Rattle.over_core.proofs.KeptByTakes.{unnoted, asked_kept, clock_kept}
-use Rattle.cell_parts.proofs.FirstEntries.{own_entries, all_of_found}
+use Rattle.master_parts.proofs.FirstEntries.{own_entries, all_of_found}
 use Rattle.over_core.proofs.NamedLocks.{own_locks, not_idle, puts_are}
 use Rattle.over_core.proofs.SessionReads.{lives_in, reads_step, reads_issued}
 use Rattle.over_core.proofs.SweepCases.{first_tellings, swept_case}

@@ -12,7 +12,7 @@ use Rattle.session_core.specs.declared.records.Session.{Session}
 use Rattle.session_core.specs.Session.{prolonged, unparked}
 use Rattle.session_core.specs.Sessions.{session_of}
 use Rattle.session_core.specs.Laws.{issued_at}
-use Rattle.cell_state.specs.State.{MasterState}
+use Rattle.master_state.specs.State.{MasterState}
 use Rattle.over_core.specs.Deadlines.{quiet_at}
 use Rattle.master_laws.specs.Waits.{is_by, asks_to_start, lives_until, GoesOnWithout, SilentSessionsEnd, SilentClientsHoldNothing}
 use Rattle.master_laws.proofs.Reached.{IsReached, by_steps, reached}

@@ -11,13 +11,13 @@ use Rattle.tags_cell.specs.declared.messages.calls.Open.{Open}
 use Rattle.tags_cell.specs.declared.handles.Handle.{Handle}
 use Rattle.tags_cell.specs.declared.messages.outs.CallResult.TheVariants as results
 use Rattle.tags_cell.specs.declared.messages.requests.CallMessage.{CallMessage}
-use Rattle.cell_parts.specs.declared.handles.HandleState.{HandleState}
-use Rattle.cell_state.specs.NameSpace.{name_space, caller}
-use Rattle.cell_state.specs.State.{MasterState}
-use Rattle.cell_state.specs.Lookups.{handle_state_of, plain_open, opened_note, shown_handle, is_of_cell, sequencer_fault}
-use Rattle.cell_parts.specs.Keys.{key_of}
-use Rattle.cell_parts.specs.Notes.{open_note}
-use Rattle.cell_parts.specs.Calls.{bytes_of}
+use Rattle.master_parts.specs.declared.handles.HandleState.{HandleState}
+use Rattle.master_state.specs.NameSpace.{name_space, caller}
+use Rattle.master_state.specs.State.{MasterState}
+use Rattle.master_state.specs.Lookups.{handle_state_of, plain_open, opened_note, shown_handle, is_of_cell, sequencer_fault}
+use Rattle.master_parts.specs.Keys.{key_of}
+use Rattle.master_parts.specs.Notes.{open_note}
+use Rattle.master_parts.specs.Calls.{bytes_of}
 use Rattle.cell_core.specs.Step.{shown_note, answering, admission_of_open, admission_under, open_admission, check_admission, handle_admission, admission_of, admission_for}
 use Rattle.master_laws.proofs.OpenedKeys.{plain_key}
 use Rattle.master_laws.proofs.ClosedNotes.{AreFair, is_first, is_by_open, none_fair, one_fair}

@@ -28,14 +28,14 @@ use Rattle.lock_core.specs.declared.turns.Acquired.{Acquired}
 use Rattle.lock_core.specs.declared.turns.Acquired.TheVariants as asked
 use Rattle.lock_core.specs.State.{LockState}
 use Rattle.lock_core.specs.Turns.{tried, acquired, released}
-use Rattle.cell_parts.specs.declared.handles.HandleState.TheVariants as states
-use Rattle.cell_parts.specs.Claims.{owner_of, claim_of}
-use Rattle.cell_state.specs.NameSpace.{name_space, caller}
-use Rattle.cell_state.specs.State.{MasterState}
-use Rattle.cell_state.specs.Lookups.{may, missing_right, is_of_cell, sequencer_fault, lock_under, node_of_handle, new_handle, open_present, plain_open, answer_on}
-use Rattle.cell_parts.specs.Calls.{create_fault, bytes_of}
-use Rattle.cell_parts.specs.Keys.{key_of}
-use Rattle.cell_parts.specs.Notes.{open_note}
+use Rattle.master_parts.specs.declared.handles.HandleState.TheVariants as states
+use Rattle.master_parts.specs.Claims.{owner_of, claim_of}
+use Rattle.master_state.specs.NameSpace.{name_space, caller}
+use Rattle.master_state.specs.State.{MasterState}
+use Rattle.master_state.specs.Lookups.{may, missing_right, is_of_cell, sequencer_fault, lock_under, node_of_handle, new_handle, open_present, plain_open, answer_on}
+use Rattle.master_parts.specs.Calls.{create_fault, bytes_of}
+use Rattle.master_parts.specs.Keys.{key_of}
+use Rattle.master_parts.specs.Notes.{open_note}
 use Rattle.cell_core.specs.declared.effects.Effect.{Effect}
 use Rattle.cell_core.specs.declared.effects.Locking.{Locking}
 use Rattle.cell_core.specs.Effect.{answered, refused, changes_to, is_last, opened_effect, new_node, acls_of, create_made, create_numbered, create_permitted, create_in, create_under, create_new, create_over, create_effect, create_tested, create_under_sequencer, open_effect, acquire_by, try_by, release_by, close_under, generation_fits, with_content, with_acls, put_at, deleted, delete_at, change_at, change_on, effect_on, handle_effect, effect}

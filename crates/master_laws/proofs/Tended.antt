@@ -14,8 +14,8 @@ use Rattle.lock_core.specs.declared.partings.Parting.{Parting}
 use Rattle.lock_core.specs.State.{LockState, Holders, lock_of, owner_order, mode_of, nobody_holds, fits_mode, fits, is_exhausted}
 use Rattle.lock_core.specs.Turns.{is_nobody, held_by, served_from, served, turned_away, settled, may_hold, waited_by, without, is_of_client, claims_of, delay_of, closed_for, is_abandoned, lapsed, reopened}
 use Rattle.lock_core.specs.Locks.{LockTable, lock_at, with_lock}
-use Rattle.cell_state.specs.declared.updates.LockPut.{LockPut}
-use Rattle.cell_state.specs.Updates.{with_lock_put}
+use Rattle.master_state.specs.declared.updates.LockPut.{LockPut}
+use Rattle.master_state.specs.Updates.{with_lock_put}
 use Rattle.over_core.proofs.LockPuts.{lock_at_put}
 
 abbrev pub is_free : LockState → Bool

@@ -44,19 +44,19 @@ use Rattle.lock_core.specs.State.{LockState, IsLegal, lock_of, owner_order, mode
 use Rattle.lock_core.specs.Turns.{is_nobody, is_owner, without, held_by, waited_by, may_hold, acquired_by, tried, settled, any_waits, concerns, lapsed, reopened}
 use Rattle.lock_core.specs.Locks.{LockTable, lock_at, with_lock, may_stand, with_holder, with_closing}
 use Rattle.lock_core.proofs.Generations.{try_succeeds}
-use Rattle.cell_parts.specs.Claims.{owner_of, claim_of}
-use Rattle.cell_parts.specs.Calls.{create_fault, bytes_of}
-use Rattle.cell_parts.specs.Locks.{with_generation, holder_of, locked_as, with_row, generations_of, locks_of}
-use Rattle.cell_parts.specs.declared.handles.Note.{Note}
-use Rattle.cell_parts.specs.declared.pending.Task.TheVariants as tasks
-use Rattle.cell_state.specs.NameSpace.{name_space, caller}
-use Rattle.cell_state.specs.State.{MasterState}
-use Rattle.cell_state.specs.Lookups.{missing_right, may, is_of_cell, sequencer_fault, lock_under, node_of_handle, new_handle, answer_on}
-use Rattle.cell_state.specs.Lapses.{lapses_of, lapses_puts}
-use Rattle.cell_parts.specs.NameIndex.{name_of}
-use Rattle.cell_state.specs.Replies.{puts_of}
-use Rattle.cell_state.specs.Updates.{with_note, with_locks}
-use Rattle.cell_state.specs.declared.updates.LockPut.{LockPut}
+use Rattle.master_parts.specs.Claims.{owner_of, claim_of}
+use Rattle.master_parts.specs.Calls.{create_fault, bytes_of}
+use Rattle.master_parts.specs.Locks.{with_generation, holder_of, locked_as, with_row, generations_of, locks_of}
+use Rattle.master_parts.specs.declared.handles.Note.{Note}
+use Rattle.master_parts.specs.declared.pending.Task.TheVariants as tasks
+use Rattle.master_state.specs.NameSpace.{name_space, caller}
+use Rattle.master_state.specs.State.{MasterState}
+use Rattle.master_state.specs.Lookups.{missing_right, may, is_of_cell, sequencer_fault, lock_under, node_of_handle, new_handle, answer_on}
+use Rattle.master_state.specs.Lapses.{lapses_of, lapses_puts}
+use Rattle.master_parts.specs.NameIndex.{name_of}
+use Rattle.master_state.specs.Replies.{puts_of}
+use Rattle.master_state.specs.Updates.{with_note, with_locks}
+use Rattle.master_state.specs.declared.updates.LockPut.{LockPut}
 use Rattle.cell_core.specs.Cases.{TakeCase, taken_by}
 use Rattle.cell_core.specs.Cases.TakeCase.{StartRefused, StartRecovering, StartFull, StartQueued, OldBeat, BeatRefused, BeatParked, OldEpoch, NoSession, LeftBefore, Repeated, OlderCall, Outstanding, Recovering, Answered, Granted, Waits}
 use Rattle.cell_core.specs.Effect.{answered, refused, changes_to, is_last, new_node, acls_of, create_made, create_numbered, create_permitted, create_in, create_under, create_new, create_over, create_effect, create_under_sequencer, open_effect, acquire_by, try_by, release_by, close_by, close_under, generation_fits, with_content, with_acls, put_at, deleted, delete_at, change_at, change_on, effect_on, handle_effect, effect}

@@ -15,10 +15,10 @@ use Rattle.session_core.specs.declared.records.Session.{Session}
 use Rattle.session_core.specs.Session.{is_client_expired, is_client_due, is_client_answerable, is_answerable, is_expired, is_due, is_given_up, owes, nears_end, offer_to}
 use Rattle.session_core.specs.Sessions.{session_of, all_heard, lowest, passes, offer_of}
 use Rattle.session_core.proofs.Lowest.{lowest_is}
-use Rattle.cell_parts.specs.declared.notices.Telling.{Telling}
-use Rattle.cell_state.specs.State.{MasterState}
-use Rattle.cell_state.specs.Lookups.{noted}
-use Rattle.cell_state.specs.Notices.{with_tellings}
+use Rattle.master_parts.specs.declared.notices.Telling.{Telling}
+use Rattle.master_state.specs.State.{MasterState}
+use Rattle.master_state.specs.Lookups.{noted}
+use Rattle.master_state.specs.Notices.{with_tellings}
 use Rattle.over_core.specs.declared.actions.Action.{Action}
 use Rattle.over_core.specs.declared.actions.Action.TheVariants as actions
 use Rattle.over_core.specs.declared.swept.Swept.{Swept}

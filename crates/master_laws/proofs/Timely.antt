@@ -19,17 +19,17 @@ use Rattle.session_core.specs.Session as of_session
 use Rattle.session_core.specs.Sessions.{with_session}
 use Rattle.session_core.specs.Laws.{issued_at}
 use Rattle.session_core.proofs.IssuedBy.{lease_of_one, lease_stays_issued}
-use Rattle.cell_parts.specs.StoredSessions.{taken_over}
-use Rattle.cell_parts.specs.declared.handles.Note.{Note}
-use Rattle.cell_parts.specs.declared.pending.Task.TheVariants as tasks
-use Rattle.cell_state.specs.State.{MasterState}
-use Rattle.cell_state.specs.Updates.{with_note, with_kept, with_locks}
-use Rattle.cell_state.specs.declared.updates.KeptPut.{KeptPut}
+use Rattle.master_parts.specs.StoredSessions.{taken_over}
+use Rattle.master_parts.specs.declared.handles.Note.{Note}
+use Rattle.master_parts.specs.declared.pending.Task.TheVariants as tasks
+use Rattle.master_state.specs.State.{MasterState}
+use Rattle.master_state.specs.Updates.{with_note, with_kept, with_locks}
+use Rattle.master_state.specs.declared.updates.KeptPut.{KeptPut}
 use Rattle.tags_cell.specs.declared.messages.outs.CallResult.TheVariants as results
 use Rattle.lock_core.specs.Locks.{lock_at}
 use Rattle.lock_core.specs.Turns.{reopened}
-use Rattle.cell_state.specs.Lapses.{lapses_of, lapses_replies}
-use Rattle.cell_state.specs.Replies.{kept_puts, replies_to, turn_replies}
+use Rattle.master_state.specs.Lapses.{lapses_of, lapses_replies}
+use Rattle.master_state.specs.Replies.{kept_puts, replies_to, turn_replies}
 use Rattle.cell_core.specs.Cases.{TakeCase, taken_by}
 use Rattle.cell_core.specs.Cases.TakeCase.{StartRefused, StartRecovering, StartFull, StartQueued, OldBeat, BeatRefused, BeatParked, OldEpoch, NoSession, LeftBefore, Repeated, OlderCall, Outstanding, Recovering, Answered, Granted, Waits}
 use Rattle.cell_core.specs.Step.{queued, recorded, names_of, with_call, asking, asking_for}

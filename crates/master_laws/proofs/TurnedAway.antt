@@ -5,10 +5,10 @@ use Rattle.tags_cell.specs.declared.messages.outs.Out.TheVariants as outs
 use Rattle.tags_cell.specs.declared.messages.outs.Refused.{Refused}
 use Rattle.tags_cell.specs.declared.messages.outs.Reply.{Reply}
 use Rattle.tags_cell.specs.declared.messages.requests.Request.{Request}
-use Rattle.cell_state.specs.State.{MasterState}
+use Rattle.master_state.specs.State.{MasterState}
 use Rattle.cell_core.specs.Cases.{TakeCase, taken_by}
 use Rattle.cell_core.specs.Cases.TakeCase.{StartRefused, StartRecovering, StartFull, StartQueued, OldBeat, BeatRefused, BeatParked, OldEpoch, NoSession, LeftBefore, Repeated, OlderCall, Outstanding, Recovering, Answered, Granted, Waits}
-use Rattle.cell_state.specs.Lookups.{noted}
+use Rattle.master_state.specs.Lookups.{noted}
 use Rattle.cell_core.proofs.TakeCases.{taken_case}
 use Rattle.master_laws.specs.Refused.{TurnedAwayChangesNothing}
 use Rattle.master_laws.proofs.Answered.{only_one, none_in}

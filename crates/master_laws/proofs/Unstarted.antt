@@ -1,8 +1,8 @@
 -- No Start of a client waits: so it is where there is nothing to do, and so it stays where it sends none.
 use Rattle.std.proofs.Common.{◌≡◌, ℕ, Bool, true, false}
 use Rattle.tags_cell.specs.declared.messages.requests.Request.{Request}
-use Rattle.cell_state.specs.State.{MasterState}
-use Rattle.cell_state.specs.Lookups.{noted}
+use Rattle.master_state.specs.State.{MasterState}
+use Rattle.master_state.specs.Lookups.{noted}
 use Rattle.over_core.specs.Deadlines.{quiet_at}
 use Rattle.master_laws.specs.Waits.{asks_to_start}
 use Rattle.master_laws.proofs.QuietParts.{quiet_has_nothing, none_free}

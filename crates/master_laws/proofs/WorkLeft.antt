@@ -20,22 +20,22 @@ use Rattle.session_core.specs.Session.{answered, prolonged, unparked, keeping, s
 use Rattle.session_core.specs.Session as of_session
 use Rattle.session_core.specs.Sessions.{SessionTable, session_of, is_live, with_session, with_new}
 use Rattle.session_core.proofs.RowsOfSessions.{rows_of, rows_stay}
-use Rattle.cell_parts.specs.Ephemerals.{is_held_open, must_stay, is_left}
-use Rattle.cell_parts.specs.EphemeralNames.{is_ephemeral}
-use Rattle.cell_parts.specs.OpenHandles.{is_open_in}
-use Rattle.cell_parts.specs.declared.handles.HandleKey.{HandleKey}
-use Rattle.cell_parts.specs.declared.handles.HandleState.{HandleState}
-use Rattle.cell_parts.specs.declared.handles.HandleState.TheVariants as states
-use Rattle.cell_parts.specs.declared.notices.Telling.{Telling}
-use Rattle.cell_parts.specs.declared.pending.Asked.{Asked}
-use Rattle.cell_parts.specs.declared.pending.Task.{Task}
-use Rattle.cell_parts.specs.declared.pending.Task.TheVariants as tasks
+use Rattle.master_parts.specs.Ephemerals.{is_held_open, must_stay, is_left}
+use Rattle.master_parts.specs.EphemeralNames.{is_ephemeral}
+use Rattle.master_parts.specs.OpenHandles.{is_open_in}
+use Rattle.master_parts.specs.declared.handles.HandleKey.{HandleKey}
+use Rattle.master_parts.specs.declared.handles.HandleState.{HandleState}
+use Rattle.master_parts.specs.declared.handles.HandleState.TheVariants as states
+use Rattle.master_parts.specs.declared.notices.Telling.{Telling}
+use Rattle.master_parts.specs.declared.pending.Asked.{Asked}
+use Rattle.master_parts.specs.declared.pending.Task.{Task}
+use Rattle.master_parts.specs.declared.pending.Task.TheVariants as tasks
 use Rattle.lock_core.specs.State.{LockState, lock_of}
 use Rattle.lock_core.specs.Locks.{LockTable, lock_at, with_lock, is_due}
-use Rattle.cell_state.specs.State.{MasterState, tables_of}
-use Rattle.cell_state.specs.Notices.{with_tellings}
-use Rattle.cell_state.specs.Updates.{with_kept}
-use Rattle.cell_state.specs.declared.updates.KeptPut.{KeptPut}
+use Rattle.master_state.specs.State.{MasterState, tables_of}
+use Rattle.master_state.specs.Notices.{with_tellings}
+use Rattle.master_state.specs.Updates.{with_kept}
+use Rattle.master_state.specs.declared.updates.KeptPut.{KeptPut}
 use Rattle.cell_core.specs.Step.{recorded}
 use Rattle.over_core.specs.SweepCase.{IsNextApplied}
 use Rattle.over_core.proofs.LockPuts.{lock_at_put}

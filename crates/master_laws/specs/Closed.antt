@@ -13,19 +13,19 @@ use Rattle.tags_cell.specs.declared.messages.outs.Out.TheVariants as outs
 use Rattle.tags_cell.specs.declared.messages.requests.CallMessage.{CallMessage}
 use Rattle.tags_cell.specs.declared.messages.requests.Request.{Request}
 use Rattle.tags_cell.specs.declared.messages.requests.Request.TheVariants as requests
-use Rattle.cell_parts.specs.declared.handles.HandleKey.{HandleKey}
-use Rattle.cell_parts.specs.declared.handles.HandleState.TheVariants as states
-use Rattle.cell_parts.specs.declared.pending.Asked.{Asked}
-use Rattle.cell_parts.specs.declared.pending.Taken.{Taken}
-use Rattle.cell_parts.specs.declared.pending.Task.{Task}
-use Rattle.cell_parts.specs.declared.pending.Task.TheVariants as tasks
-use Rattle.cell_parts.specs.declared.pending.Work.{Work}
-use Rattle.cell_parts.specs.declared.pending.Work.TheVariants as works
-use Rattle.cell_parts.specs.Keys.{is_key}
-use Rattle.cell_state.specs.State.{MasterState}
-use Rattle.cell_state.specs.Lookups.{handle_state_of, noted, reply_of}
-use Rattle.cell_parts.specs.Keys.{key_of}
-use Rattle.cell_parts.specs.Calls.{bytes_of}
+use Rattle.master_parts.specs.declared.handles.HandleKey.{HandleKey}
+use Rattle.master_parts.specs.declared.handles.HandleState.TheVariants as states
+use Rattle.master_parts.specs.declared.pending.Asked.{Asked}
+use Rattle.master_parts.specs.declared.pending.Taken.{Taken}
+use Rattle.master_parts.specs.declared.pending.Task.{Task}
+use Rattle.master_parts.specs.declared.pending.Task.TheVariants as tasks
+use Rattle.master_parts.specs.declared.pending.Work.{Work}
+use Rattle.master_parts.specs.declared.pending.Work.TheVariants as works
+use Rattle.master_parts.specs.Keys.{is_key}
+use Rattle.master_state.specs.State.{MasterState}
+use Rattle.master_state.specs.Lookups.{handle_state_of, noted, reply_of}
+use Rattle.master_parts.specs.Keys.{key_of}
+use Rattle.master_parts.specs.Calls.{bytes_of}
 use Rattle.cell_core.specs.Step.{replied, take_step}
 use Rattle.over_core.specs.declared.swept.Swept.{Swept}
 use Rattle.over_core.specs.Kept.{IsKept}

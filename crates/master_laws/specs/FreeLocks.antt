@@ -9,8 +9,8 @@ use Rattle.lock_core.specs.declared.claims.Closing.{Closing}
 use Rattle.lock_core.specs.State.{LockState}
 use Rattle.lock_core.specs.Turns.{is_nobody}
 use Rattle.lock_core.specs.Locks.{lock_at}
-use Rattle.cell_state.specs.State.{MasterState}
-use Rattle.cell_state.specs.Lookups.{session_of}
+use Rattle.master_state.specs.State.{MasterState}
+use Rattle.master_state.specs.Lookups.{session_of}
 use Rattle.over_core.specs.Deadlines.{quiet_at}
 use Rattle.master_laws.specs.Closed.{MasterStep}
 use Rattle.master_laws.specs.Waits.{HasComeUp}

@@ -14,9 +14,9 @@ use Rattle.tags_cell.specs.declared.messages.calls.Disposition.TheVariants as di
 use Rattle.tags_cell.specs.declared.messages.calls.Open.{Open}
 use Rattle.tags_cell.specs.declared.messages.outs.CallResult.TheVariants as results
 use Rattle.tags_cell.specs.declared.messages.outs.NewHandle.{NewHandle}
-use Rattle.cell_state.specs.NameSpace.{name_space, caller}
-use Rattle.cell_state.specs.State.{MasterState}
-use Rattle.cell_state.specs.Lookups.{may, is_of_cell}
+use Rattle.master_state.specs.NameSpace.{name_space, caller}
+use Rattle.master_state.specs.State.{MasterState}
+use Rattle.master_state.specs.Lookups.{may, is_of_cell}
 use Rattle.cell_core.specs.Effect.{new_node, acls_of, content_of, effect}
 use Rattle.over_core.specs.Kept.{IsKept}
 use Rattle.master_laws.specs.Opens.{ArePermitted, MayOpen, AreCarried}

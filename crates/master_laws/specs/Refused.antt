@@ -15,16 +15,16 @@ use Rattle.tags_cell.specs.declared.messages.requests.CallMessage.{CallMessage}
 use Rattle.tags_cell.specs.declared.messages.requests.Request.{Request}
 use Rattle.tags_cell.specs.declared.messages.requests.Request.TheVariants as requests
 use Rattle.session_core.specs.declared.records.Session.{Session}
-use Rattle.cell_parts.specs.declared.handles.Note.{Note}
-use Rattle.cell_parts.specs.declared.pending.Asked.{Asked}
-use Rattle.cell_parts.specs.declared.pending.Taken.{Taken}
+use Rattle.master_parts.specs.declared.handles.Note.{Note}
+use Rattle.master_parts.specs.declared.pending.Asked.{Asked}
+use Rattle.master_parts.specs.declared.pending.Taken.{Taken}
 use Rattle.cell_core.specs.Cases.{IsNew}
-use Rattle.cell_state.specs.NameSpace.{name_space, caller}
-use Rattle.cell_state.specs.State.{MasterState}
-use Rattle.cell_state.specs.Lookups.{session_of, kept_of, sends, reply_of, shown_handle, noted}
-use Rattle.cell_parts.specs.Answered.{answered_by}
+use Rattle.master_state.specs.NameSpace.{name_space, caller}
+use Rattle.master_state.specs.State.{MasterState}
+use Rattle.master_state.specs.Lookups.{session_of, kept_of, sends, reply_of, shown_handle, noted}
+use Rattle.master_parts.specs.Answered.{answered_by}
 use Rattle.cell_core.specs.Step.{recorded, with_right, shown_note, take_step}
-use Rattle.cell_state.specs.Updates.{with_note}
+use Rattle.master_state.specs.Updates.{with_note}
 use Rattle.over_core.specs.declared.swept.Swept.{Swept}
 use Rattle.cell_core.specs.Effect.{effect}
 use Rattle.over_core.specs.Sweep.{sweep_edits, sweep_step}

@@ -7,10 +7,10 @@ use Rattle.node_core.specs.declared.nodes.Node.{Node}
 use Rattle.node_core.specs.declared.refusals.Fault.{Fault}
 use Rattle.rows_cell.specs.declared.tables.Rows.{Rows}
 use Rattle.lock_core.specs.Locks.{lock_at, is_due}
-use Rattle.cell_parts.specs.Ephemerals.{is_left}
-use Rattle.cell_parts.specs.declared.pending.Task.{Task}
-use Rattle.cell_parts.specs.declared.pending.Task.TheVariants as tasks
-use Rattle.cell_state.specs.State.{MasterState, tables_of}
+use Rattle.master_parts.specs.Ephemerals.{is_left}
+use Rattle.master_parts.specs.declared.pending.Task.{Task}
+use Rattle.master_parts.specs.declared.pending.Task.TheVariants as tasks
+use Rattle.master_state.specs.State.{MasterState, tables_of}
 use Rattle.over_core.specs.Kept.{IsKept}
 use Rattle.over_core.specs.Sweep.{sweep_step}
 use Rattle.over_core.specs.declared.swept.Swept.{Swept}

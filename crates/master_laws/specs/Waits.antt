@@ -16,10 +16,10 @@ use Rattle.gate_core.specs.declared.pending.Waiting.{Waiting}
 use Rattle.gate_core.specs.Gate.{touches}
 use Rattle.session_core.specs.declared.records.Session.{Session}
 use Rattle.session_core.specs.Session.{has_heard, patience, session_until}
-use Rattle.cell_parts.specs.declared.pending.Task.{Task}
-use Rattle.cell_parts.specs.declared.pending.Task.TheVariants as tasks
-use Rattle.cell_state.specs.State.{MasterState, master_of, next_change}
-use Rattle.cell_state.specs.Lookups.{session_of, noted}
+use Rattle.master_parts.specs.declared.pending.Task.{Task}
+use Rattle.master_parts.specs.declared.pending.Task.TheVariants as tasks
+use Rattle.master_state.specs.State.{MasterState, master_of, next_change}
+use Rattle.master_state.specs.Lookups.{session_of, noted}
 use Rattle.over_core.specs.Kept.{IsKept}
 use Rattle.over_core.specs.declared.actions.Action.TheVariants as actions
 use Rattle.over_core.specs.Deadlines.{quiet_at}

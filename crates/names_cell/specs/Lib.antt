@@ -1,2 +1,2 @@
 pub mod Text
-pub use Rattle.plain.specs.Results
+pub use Rattle.collections.specs.Results

@@ -2,12 +2,12 @@
 ghost use Rattle.std.specs.Prelude.{◌≡◌, Some, Ok, Err, true, nat_eq, if◌then◌else◌, IfOk};
 ghost use Rattle.std.specs.Cmp.{partial_equiv_from_equiv};
 ghost use Rattle.std.specs.Cmp.Lexicographic.{pointwise, nat_list_eq_equiv};
-ghost use Rattle.plain.specs.Results.{Gives};
+ghost use Rattle.collections.specs.Results.{Gives};
 ghost use Rattle.names_cell.specs.Text.{is_component};
 
 use crate::faults::NameFault;
 use crate::grammar;
-use plain::Same;
+use collections::Same;
 use std::alloc::{AllocError, Global};
 use std::fmt;
 use std::marker::Model;

@@ -8,13 +8,13 @@ ghost use Rattle.std.specs.Ordering.{nat_cmp};
 ghost use Rattle.std.specs.Cmp.Rules.{hashing};
 ghost use Rattle.std.specs.Hash as fed;
 ghost use Rattle.std.proofs.Common.{rules};
-ghost use Rattle.plain.specs.Results.{Gives};
+ghost use Rattle.collections.specs.Results.{Gives};
 ghost use Rattle.names_cell.specs.Text.{is_component, is_name, is_slash, parent_of, is_child, is_under, first_child_of, last_child_of, cell_of, last_of, root_of, acl_file_of};
 
 use crate::components::Component;
 use crate::faults::NameFault;
 use crate::grammar;
-use plain::Same;
+use collections::Same;
 use std::alloc::{AllocError, Global};
 use std::cmp::Ordering;
 use std::fmt;

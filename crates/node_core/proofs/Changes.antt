@@ -9,7 +9,7 @@ use Rattle.std.specs.BTreeMap.{is_at}
 use Rattle.std.proofs.lemmas.Map.{lookup-remove_entry}
 use Rattle.std.proofs.lemmas.Map.Keys.{IsDistinct-from_sorted}
 use Rattle.std.proofs.lemmas.Map.Lookups.{exact_bytes}
-use Rattle.plain.proofs.Entries.{lookup_put, eq_at}
+use Rattle.collections.proofs.Entries.{lookup_put, eq_at}
 use Rattle.node_core.specs.Nodes.{Nodes, HasNamesInOrder, get_node, after, changed, misfit}
 use Rattle.node_core.specs.Laws.{PutNodeIsThere, GoneNodeIsAbsent, OtherNamesStay, NoPutWithoutParent, NamesStayInOrder}
 use Rattle.node_core.proofs.Orders.{put_in_order, gone_in_order}

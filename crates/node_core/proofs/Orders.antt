@@ -8,7 +8,7 @@ use Rattle.std.specs.List.{AllByRecursion}
 use Rattle.std.specs.List.Sorted.{IsStrictlySortedBy}
 use Rattle.std.specs.Map.{keys_of, remove_entry}
 use Rattle.std.proofs.lemmas.Map.{keys-set_value}
-use Rattle.plain.specs.Tables.{with_former}
+use Rattle.collections.specs.Tables.{with_former}
 use Rattle.std.specs.BTreeMap.{is_at, insert_entry}
 use Rattle.names_cell.specs.Text.{is_name}
 use Rattle.node_core.specs.Nodes.{Nodes, HasNamesInOrder}

@@ -10,8 +10,8 @@ use Rattle.std.specs.Map.{keys_of, lookup, remove_entry}
 use Rattle.std.specs.BTreeMap.{is_at, insert_entry}
 use Rattle.std.specs.Str.{bytes_eq}
 use Rattle.std.proofs.lemmas.Map.Lookups.{exact_bytes}
-use Rattle.plain.proofs.Entries.{eq_at}
-use Rattle.plain.proofs.Keys.{bytes_self, bytes_same}
+use Rattle.collections.proofs.Entries.{eq_at}
+use Rattle.collections.proofs.Keys.{bytes_self, bytes_same}
 use Rattle.names_cell.specs.Text.{is_name, parent_of, is_child, last_of}
 use Rattle.node_core.specs.Nodes.{Nodes, HasNamesInOrder, get_node, children, listing, view_of, view_at, changed, touched, with_parent}
 use Rattle.node_core.specs.Laws.{PutShowsItsView, UntouchedViewsStay}

@@ -1,4 +1,4 @@
-pub use Rattle.plain.specs.Results
+pub use Rattle.collections.specs.Results
 pub use Rattle.names_cell.specs.Text
 pub mod Limits
 pub mod Words

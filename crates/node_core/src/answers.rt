@@ -7,7 +7,7 @@ use crate::refusals::Fault;
 use crate::stats::Stat;
 use crate::texts::{HexBytes, Listed, write_number};
 use crate::views::View;
-use plain::{Bytes, Same};
+use collections::{Bytes, Same};
 use std::alloc::AllocError;
 use std::fmt;
 

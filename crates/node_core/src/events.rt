@@ -3,8 +3,8 @@ ghost use Rattle.std.specs.Prelude.{◌≡◌, Some};
 ghost use Rattle.node_core.specs.Texts.{event_text};
 
 use crate::texts::write_number;
+use collections::Same;
 use names_cell::Name;
-use plain::Same;
 use std::alloc::AllocError;
 use std::fmt;
 

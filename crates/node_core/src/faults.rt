@@ -1,6 +1,6 @@
 //! Why the map refuses a change.
 use crate::kinds::Kind;
-use plain::Same;
+use collections::Same;
 use std::alloc::{AllocError, AllocFailed};
 use thiserror::Error;
 

@@ -2,7 +2,7 @@
 ghost use Rattle.std.specs.Prelude.{Some};
 ghost use Rattle.node_core.specs.Words.{kind_text, life_text, right_text, lock_mode_text};
 
-use plain::Same;
+use collections::Same;
 use std::fmt;
 
 /// What a node is (Burrows 2006, section 2.3).

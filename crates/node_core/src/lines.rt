@@ -11,8 +11,8 @@ use crate::listings::Listing;
 use crate::refusals::Fault;
 use crate::texts::{write_number, write_numbers};
 use crate::views::{Mod, Shown, View};
+use collections::Same;
 use names_cell::Name;
-use plain::Same;
 use std::alloc::AllocError;
 use std::fmt;
 

@@ -1,8 +1,8 @@
 //! The children of a directory, as a client sees them.
 ghost use Rattle.std.specs.Prelude.{◌≡◌, [], IfOk};
 
+use collections::{Items, Same};
 use names_cell::Component;
-use plain::{Items, Same};
 use std::alloc::AllocError;
 use std::marker::Model;
 use std::sync::ArcSlice;

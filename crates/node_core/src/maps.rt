@@ -7,15 +7,15 @@ ghost use Rattle.std.specs.Cmp.Lexicographic.{slice_cmp};
 ghost use Rattle.std.specs.Ordering.{nat_cmp};
 ghost use Rattle.node_core.specs.Nodes.{HasNamesInOrder, get_node, children, listing, view_of, has_children, misfit, put_misfit, parent_misfit, limit_misfit, present_misfit, gone_misfit, after, name_of, last_sibling_of};
 ghost use Rattle.node_core.specs.Access.{first_name};
-ghost use Rattle.plain.specs.Tables.{with_former};
+ghost use Rattle.collections.specs.Tables.{with_former};
 
 use crate::faults::NodeFault;
 use crate::kinds::Kind;
 use crate::listings::Listing;
 use crate::nodes::Node;
 use crate::views::{Mod, View};
+use collections::{Items, Same, Table};
 use names_cell::{Component, Name};
-use plain::{Items, Same, Table};
 use std::alloc::{AllocError, Global};
 use std::collections::BTreeMap;
 use std::marker::Model;

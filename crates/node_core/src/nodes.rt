@@ -3,8 +3,8 @@ ghost use Rattle.std.specs.Prelude.{◌≡◌};
 ghost use Rattle.node_core.specs.Access.{acl_for};
 
 use crate::kinds::{Kind, Life, Right};
+use collections::{Bytes, Same};
 use names_cell::Component;
-use plain::{Bytes, Same};
 use std::alloc::AllocError;
 
 /// What stands at a name (Burrows 2006, section 2.3). The lock's generation isn't among it.

@@ -6,8 +6,8 @@ ghost use Rattle.node_core.specs.Refusals.{fault_number, fault_name, fault_text,
 use crate::faults::NodeFault;
 use crate::kinds::{Kind, LockMode, Right};
 use crate::texts::write_number;
+use collections::Same;
 use names_cell::NameFault;
-use plain::Same;
 use std::alloc::{AllocError, AllocFailed};
 use std::error::Error;
 use std::fmt;

@@ -4,8 +4,8 @@ ghost use Rattle.node_core.specs.Texts.{stat_text};
 
 use crate::kinds::{Kind, Life};
 use crate::texts::{AclNames, Header};
+use collections::Same;
 use names_cell::Component;
-use plain::Same;
 use std::alloc::AllocError;
 use std::fmt;
 

@@ -7,8 +7,8 @@ use crate::kinds::Kind;
 use crate::listings::Listing;
 use crate::nodes::Node;
 use crate::texts::{AclNames, Header, Hex, Listed};
+use collections::Same;
 use names_cell::Name;
-use plain::Same;
 use std::alloc::AllocError;
 use std::fmt;
 

@@ -1,9 +1,9 @@
 -- A session that a plan begins is not there yet.
 use Rattle.std.proofs.Common.{◌≡◌, Result, Ok, Err, sym, subst, rules}
 use Rattle.std.specs.Prelude.{IfOk}
-use Rattle.cell_state.specs.declared.updates.Update.{Update}
-use Rattle.cell_state.specs.Updates.{BeginsNew}
-use Rattle.cell_state.specs.State.{MasterState}
+use Rattle.master_state.specs.declared.updates.Update.{Update}
+use Rattle.master_state.specs.Updates.{BeginsNew}
+use Rattle.master_state.specs.State.{MasterState}
 use Rattle.over_core.specs.declared.actions.Action.{Action}
 use Rattle.over_core.specs.declared.plans.Plan.{Plan}
 use Rattle.over_core.specs.Plans.{plan_of}

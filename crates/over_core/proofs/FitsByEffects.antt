@@ -40,14 +40,14 @@ use Rattle.tags_cell.specs.declared.messages.outs.CallResult.{CallResult}
 use Rattle.tags_cell.specs.declared.messages.outs.CallResult.TheVariants as results
 use Rattle.tags_cell.specs.Numbers.{is_client_number}
 use Rattle.lock_core.specs.Locks.{lock_at}
-use Rattle.cell_parts.specs.declared.pending.Idle.{Idle}
-use Rattle.cell_parts.specs.declared.pending.Work.TheVariants as works
+use Rattle.master_parts.specs.declared.pending.Idle.{Idle}
+use Rattle.master_parts.specs.declared.pending.Work.TheVariants as works
 use Rattle.cell_core.specs.declared.effects.Effect.{Effect}
-use Rattle.cell_state.specs.NameSpace.{name_space, caller}
-use Rattle.cell_state.specs.State.{MasterState}
-use Rattle.cell_state.specs.Lookups.{is_live, may, missing_right, is_of_cell, node_of_handle, new_handle, sequencer_fault, answer_on_node, answer_under, has_open, has_to_stay}
-use Rattle.cell_parts.specs.Calls.{content_fault, node_fault, delay_fault, create_fault, write_fault, needing}
-use Rattle.cell_parts.specs.EphemeralNames.{is_ephemeral}
+use Rattle.master_state.specs.NameSpace.{name_space, caller}
+use Rattle.master_state.specs.State.{MasterState}
+use Rattle.master_state.specs.Lookups.{is_live, may, missing_right, is_of_cell, node_of_handle, new_handle, sequencer_fault, answer_on_node, answer_under, has_open, has_to_stay}
+use Rattle.master_parts.specs.Calls.{content_fault, node_fault, delay_fault, create_fault, write_fault, needing}
+use Rattle.master_parts.specs.EphemeralNames.{is_ephemeral}
 use Rattle.cell_core.specs.Ephemerals.{is_idle_node, is_still_idle}
 use Rattle.cell_core.specs.Effect.{answered, refused, changes_to, is_last, new_node, acls_of, create_made, create_numbered, create_permitted, create_in, create_under, create_new, create_over, create_effect, create_under_sequencer, open_effect, generation_fits, with_content, with_acls, put_at, deleted, delete_at, change_at, close_under, effect_on, handle_effect, effect}
 use Rattle.over_core.specs.Kept.{IsKept, IsOwnCall}

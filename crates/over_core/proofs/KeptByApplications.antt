@@ -36,23 +36,23 @@ use Rattle.session_core.specs.declared.records.Kept.{Kept}
 use Rattle.session_core.specs.Sessions.{kept_of}
 use Rattle.lock_core.specs.declared.claims.Claim.{Claim}
 use Rattle.lock_core.specs.Locks.{LockTable, lock_at}
-use Rattle.cell_state.specs.declared.updates.Change.{Change}
-use Rattle.cell_state.specs.declared.updates.LockPut.{LockPut}
-use Rattle.cell_parts.specs.declared.handles.Note.{Note}
-use Rattle.cell_parts.specs.declared.pending.Asked.{Asked}
-use Rattle.cell_parts.specs.declared.pending.Idle.{Idle}
-use Rattle.cell_parts.specs.declared.pending.Task.{Task}
-use Rattle.cell_parts.specs.declared.pending.Task.TheVariants as tasks
-use Rattle.cell_state.specs.State.{MasterState}
-use Rattle.cell_state.specs.Lookups.{reply_of}
-use Rattle.cell_parts.specs.Answered.{answered_by}
+use Rattle.master_state.specs.declared.updates.Change.{Change}
+use Rattle.master_state.specs.declared.updates.LockPut.{LockPut}
+use Rattle.master_parts.specs.declared.handles.Note.{Note}
+use Rattle.master_parts.specs.declared.pending.Asked.{Asked}
+use Rattle.master_parts.specs.declared.pending.Idle.{Idle}
+use Rattle.master_parts.specs.declared.pending.Task.{Task}
+use Rattle.master_parts.specs.declared.pending.Task.TheVariants as tasks
+use Rattle.master_state.specs.State.{MasterState}
+use Rattle.master_state.specs.Lookups.{reply_of}
+use Rattle.master_parts.specs.Answered.{answered_by}
 use Rattle.cell_core.specs.Step.{recorded}
-use Rattle.cell_state.specs.Updates.{with_note, edit_of, with_locks, without_lock}
+use Rattle.master_state.specs.Updates.{with_note, edit_of, with_locks, without_lock}
 use Rattle.cell_core.specs.Ephemerals.{is_still_idle}
 use Rattle.cell_core.specs.declared.effects.Leave.{Leave}
 use Rattle.cell_core.specs.Names.{names_touched}
 use Rattle.over_core.specs.Kept.{IsKept, AreTouching, AreOwnCalls, IsOwnCall, IsOwnTask, HaveOneCall, task_fits, waiting_fits, is_call, call_count, claim_count, waits_count, outstanding, unanswered, is_unanswered}
-use Rattle.cell_state.specs.Replies.{replies_to, turn_replies}
+use Rattle.master_state.specs.Replies.{replies_to, turn_replies}
 use Rattle.cell_core.specs.Outcomes.{left_put}
 use Rattle.over_core.specs.SweepCase.{IsNextApplied, rest, ended, mapped, told, relocking, gone_change, gone_replies}
 use Rattle.over_core.proofs.FitsByEffects.{tidied_fits}

@@ -35,21 +35,21 @@ use Rattle.session_core.specs.Session as of_session
 use Rattle.session_core.specs.Session.{session_until, prolonged, answered, unparked}
 use Rattle.session_core.specs.Sessions.{with_new, is_live}
 use Rattle.session_core.proofs.RowsOfSessions.{rows_of-insert_entry}
-use Rattle.cell_parts.specs.declared.notices.Telling.{Telling}
-use Rattle.cell_state.specs.NameSpace.{name_space, caller}
-use Rattle.cell_state.specs.Notices.{with_tellings}
-use Rattle.cell_parts.specs.declared.pending.Asked.{Asked}
-use Rattle.cell_parts.specs.declared.pending.Idle.{Idle}
-use Rattle.cell_parts.specs.declared.pending.Task.{Task}
-use Rattle.cell_parts.specs.declared.pending.Task.TheVariants as tasks
-use Rattle.cell_parts.specs.declared.pending.Work.{Work}
-use Rattle.cell_parts.specs.declared.pending.Work.TheVariants as works
-use Rattle.cell_state.specs.State.{MasterState}
-use Rattle.cell_parts.specs.StoredSessions.{row_of}
-use Rattle.cell_state.specs.Lookups.{session_of, noted}
-use Rattle.cell_state.specs.declared.updates.LockPut.{LockPut}
-use Rattle.cell_state.specs.Updates.{with_locks}
-use Rattle.cell_state.specs.Lapses.{lapses_of, lapses_puts, lapses_replies}
+use Rattle.master_parts.specs.declared.notices.Telling.{Telling}
+use Rattle.master_state.specs.NameSpace.{name_space, caller}
+use Rattle.master_state.specs.Notices.{with_tellings}
+use Rattle.master_parts.specs.declared.pending.Asked.{Asked}
+use Rattle.master_parts.specs.declared.pending.Idle.{Idle}
+use Rattle.master_parts.specs.declared.pending.Task.{Task}
+use Rattle.master_parts.specs.declared.pending.Task.TheVariants as tasks
+use Rattle.master_parts.specs.declared.pending.Work.{Work}
+use Rattle.master_parts.specs.declared.pending.Work.TheVariants as works
+use Rattle.master_state.specs.State.{MasterState}
+use Rattle.master_parts.specs.StoredSessions.{row_of}
+use Rattle.master_state.specs.Lookups.{session_of, noted}
+use Rattle.master_state.specs.declared.updates.LockPut.{LockPut}
+use Rattle.master_state.specs.Updates.{with_locks}
+use Rattle.master_state.specs.Lapses.{lapses_of, lapses_puts, lapses_replies}
 use Rattle.cell_core.specs.Step.{queued}
 use Rattle.cell_core.specs.Ephemerals.{spared_for, is_ok, may_tidy, next_idle, tidied}
 use Rattle.cell_core.specs.declared.effects.Effect.{Effect}

@@ -8,7 +8,7 @@ use Rattle.std.specs.Ordering.{nat_cmp}
 use Rattle.std.proofs.lemmas.Bool.{and_parts, and_from}
 use Rattle.std.proofs.lemmas.Bool.Decides.{nat_tests}
 use Rattle.std.proofs.lemmas.List.Elements.{All-push}
-use Rattle.plain.proofs.Keys.{number_same}
+use Rattle.collections.proofs.Keys.{number_same}
 use Rattle.node_core.specs.Limits.{number_limit}
 use Rattle.node_core.specs.declared.refusals.Fault.{Fault}
 use Rattle.node_core.specs.declared.refusals.Fault.TheVariants as faults
@@ -38,18 +38,18 @@ use Rattle.session_core.specs.Sessions.{session_of, kept_of, is_live, has_spent_
 use Rattle.session_core.specs.Laws.{issued_at}
 use Rattle.session_core.proofs.IssuedBy.{rows_stay_issued}
 use Rattle.session_core.proofs.RowsOfSessions.{rows_stay}
-use Rattle.cell_parts.specs.declared.handles.Note.{Note}
-use Rattle.cell_parts.specs.declared.pending.Taken.{Taken}
-use Rattle.cell_parts.specs.declared.pending.Asked.{Asked}
-use Rattle.cell_parts.specs.declared.pending.Task.{Task}
-use Rattle.cell_parts.specs.declared.pending.Task.TheVariants as tasks
-use Rattle.cell_parts.specs.declared.pending.Work.TheVariants as works
-use Rattle.cell_state.specs.State.{MasterState}
-use Rattle.cell_parts.specs.StoredSessions.{row_of, session_rows}
-use Rattle.cell_state.specs.Lookups.{is_full, acknowledgement, stamped_reply, noted}
+use Rattle.master_parts.specs.declared.handles.Note.{Note}
+use Rattle.master_parts.specs.declared.pending.Taken.{Taken}
+use Rattle.master_parts.specs.declared.pending.Asked.{Asked}
+use Rattle.master_parts.specs.declared.pending.Task.{Task}
+use Rattle.master_parts.specs.declared.pending.Task.TheVariants as tasks
+use Rattle.master_parts.specs.declared.pending.Work.TheVariants as works
+use Rattle.master_state.specs.State.{MasterState}
+use Rattle.master_parts.specs.StoredSessions.{row_of, session_rows}
+use Rattle.master_state.specs.Lookups.{is_full, acknowledgement, stamped_reply, noted}
 use Rattle.cell_core.specs.Step.{queued, parked, recorded, with_right, granting, asking, asking_for, names_of, task_of, with_call, waits, take_step}
-use Rattle.cell_state.specs.Updates.{with_note}
-use Rattle.cell_parts.specs.Answered.{answered_by}
+use Rattle.master_state.specs.Updates.{with_note}
+use Rattle.master_parts.specs.Answered.{answered_by}
 use Rattle.cell_core.specs.declared.asking.Touched.{Touched}
 use Rattle.cell_core.specs.Names.{call_touched, names_touched}
 use Rattle.cell_core.specs.Cases.{IsBehind, IsNew, IsAdmitted, TakeCase, taken_by}

@@ -23,10 +23,10 @@ use Rattle.event_core.specs.Queue.{empty_queue}
 use Rattle.session_core.specs.Session.{first_events, events_of}
 use Rattle.session_core.specs.Sessions.{kept_of}
 use Rattle.session_core.proofs.RowsOfSessions.{rows_of}
-use Rattle.cell_parts.specs.declared.pending.Task.{Task}
-use Rattle.cell_parts.specs.Locks.{locks_of}
-use Rattle.cell_state.specs.State.{MasterState, master_of}
-use Rattle.cell_parts.specs.StoredSessions.{taken_over, sessions_of, row_of}
+use Rattle.master_parts.specs.declared.pending.Task.{Task}
+use Rattle.master_parts.specs.Locks.{locks_of}
+use Rattle.master_state.specs.State.{MasterState, master_of}
+use Rattle.master_parts.specs.StoredSessions.{taken_over, sessions_of, row_of}
 use Rattle.cell_core.specs.Names.{names_touched}
 use Rattle.over_core.specs.Kept.{IsKept, IsOwnTask, waits_count, unanswered}
 use Rattle.over_core.specs.Up.{up_edits}

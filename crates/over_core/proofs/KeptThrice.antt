@@ -4,7 +4,7 @@ use Rattle.std.specs.Prelude.{◌⊎◌, IfOk, IfErr, OnOk, OnErr}
 use Rattle.node_core.specs.declared.refusals.Fault.{Fault}
 use Rattle.rows_cell.specs.declared.tables.Rows.{Rows}
 use Rattle.rows_cell.specs.Stores.{Store, IsCommitted, IsRefused}
-use Rattle.cell_state.specs.State.{MasterState}
+use Rattle.master_state.specs.State.{MasterState}
 use Rattle.over_core.specs.Kept.{CellState, IsKept}
 use Rattle.over_core.specs.Sweep.{sweep_edits, sweep_step, beats_step, swept_as}
 use Rattle.over_core.proofs.KeptBySweeps.{swept_kept, beats_kept}

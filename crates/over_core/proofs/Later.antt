@@ -15,10 +15,10 @@ use Rattle.lock_core.specs.State.{LockState}
 use Rattle.lock_core.specs.Turns.{time_left}
 use Rattle.lock_core.specs.Locks as locks
 use Rattle.tags_cell.specs.Numbers.{is_client_number}
-use Rattle.cell_parts.specs.declared.pending.Idle.{Idle}
-use Rattle.cell_state.specs.State.{MasterState, next_change}
-use Rattle.cell_state.specs.Lookups.{noted}
-use Rattle.cell_parts.specs.Ephemerals.{idle_of}
+use Rattle.master_parts.specs.declared.pending.Idle.{Idle}
+use Rattle.master_state.specs.State.{MasterState, next_change}
+use Rattle.master_state.specs.Lookups.{noted}
+use Rattle.master_parts.specs.Ephemerals.{idle_of}
 use Rattle.cell_core.specs.Ephemerals.{next_idle, may_tidy, is_to_go, spared_for}
 use Rattle.over_core.specs.declared.actions.Action.{Action}
 use Rattle.over_core.specs.declared.actions.Action.TheVariants.{Recover, Expire, Apply, Reopen, Tidy, Answer, Quiet}

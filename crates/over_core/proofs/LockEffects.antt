@@ -26,10 +26,10 @@ use Rattle.lock_core.specs.declared.turns.Acquired.TheVariants as asked
 use Rattle.lock_core.specs.State.{LockState, hold_of, fits, is_exhausted}
 use Rattle.lock_core.specs.Turns.{is_nobody, held_by, waited_by, may_hold, acquired_by, tried, settled, without, is_owner, any_waits, closed_by}
 use Rattle.lock_core.proofs.Generations.{try_succeeds}
-use Rattle.cell_parts.specs.Claims.{owner_of, claim_of}
-use Rattle.cell_state.specs.NameSpace.{name_space}
-use Rattle.cell_state.specs.State.{MasterState}
-use Rattle.cell_state.specs.Lookups.{is_live, lock_under, holds_lock}
+use Rattle.master_parts.specs.Claims.{owner_of, claim_of}
+use Rattle.master_state.specs.NameSpace.{name_space}
+use Rattle.master_state.specs.State.{MasterState}
+use Rattle.master_state.specs.Lookups.{is_live, lock_under, holds_lock}
 use Rattle.cell_core.specs.Effect.{lock_put, leaving_by, acquire_by, acquire_at, try_by, try_at, release_by, release_at, close_by}
 use Rattle.over_core.specs.Kept.{IsKept, claim_fits, waiter_fits, claim_count, waits_count}
 use Rattle.over_core.proofs.LockClaims.{IsFit, held_fit, waited_fit, without_fit, settled_fit, held_higher, settled_higher, turn_waiters, settled_waiters}

@@ -11,7 +11,7 @@ use Rattle.std.specs.Cmp.{nat_cmp_total, tied_itself, unsigned_tied}
 use Rattle.std.proofs.lemmas.Bool.{and_parts, or_parts, eqb-true, not-true}
 use Rattle.std.proofs.lemmas.Bool.Decides.{nat_tests}
 use Rattle.std.proofs.lemmas.Map.Lookups.{exact_unsigned}
-use Rattle.plain.proofs.Entries.{lookup_put}
+use Rattle.collections.proofs.Entries.{lookup_put}
 use Rattle.node_core.specs.Nodes.{Nodes}
 use Rattle.node_core.specs.Limits.{number_end, lock_delay_limit}
 use Rattle.rows_cell.specs.declared.tables.StoredNode.{StoredNode}
@@ -35,10 +35,10 @@ use Rattle.lock_core.specs.declared.claims.Owner.{Owner}
 use Rattle.lock_core.specs.declared.claims.Hold.{Hold}
 use Rattle.lock_core.specs.State.{LockState, IsLegal, lock_of, nobody_holds}
 use Rattle.lock_core.specs.Locks.{LockTable, lock_at, with_lock}
-use Rattle.cell_state.specs.declared.updates.LockPut.{LockPut}
-use Rattle.cell_parts.specs.Locks.{lock_rows}
-use Rattle.cell_parts.specs.StoredSessions.{row_of, session_rows}
-use Rattle.cell_state.specs.Updates.{with_lock_put, new_generation, lock_change}
+use Rattle.master_state.specs.declared.updates.LockPut.{LockPut}
+use Rattle.master_parts.specs.Locks.{lock_rows}
+use Rattle.master_parts.specs.StoredSessions.{row_of, session_rows}
+use Rattle.master_state.specs.Updates.{with_lock_put, new_generation, lock_change}
 use Rattle.over_core.specs.Kept.{AreGenerations, AreLockRows, IsLockKept, is_idle, is_there, claim_fits, waiter_fits}
 use Rattle.over_core.proofs.LockClaims.{IsFit}
 use Rattle.over_core.proofs.LockRowsKept.{HolderFits, rows_in_order, rows_legal, none_holds}

@@ -19,7 +19,7 @@ use Rattle.lock_core.specs.declared.claims.Owner.{Owner}
 use Rattle.lock_core.specs.declared.claims.Hold.{Hold}
 use Rattle.lock_core.specs.declared.claims.Closing.{Closing}
 use Rattle.lock_core.specs.State.{LockState, Holders, IsLegal, owner_order, is_shared, mode_of, stand_together}
-use Rattle.cell_parts.specs.Locks.{stored_mode, holder_key, holder_row, holder_rows, closing_rows, lock_rows}
+use Rattle.master_parts.specs.Locks.{stored_mode, holder_key, holder_row, holder_rows, closing_rows, lock_rows}
 use Rattle.over_core.specs.Kept.{closing_fits}
 
 -- ---- in order

@@ -10,9 +10,9 @@ use Rattle.rows_cell.proofs.SoundChanges.{PutFits}
 use Rattle.rows_cell.proofs.SoundRemovals.{GoneFits}
 use Rattle.lock_core.specs.declared.claims.Claim.{Claim}
 use Rattle.lock_core.specs.Locks.{lock_at}
-use Rattle.cell_state.specs.declared.updates.Change.{Change}
-use Rattle.cell_state.specs.declared.updates.LockPut.{LockPut}
-use Rattle.cell_state.specs.State.{MasterState}
+use Rattle.master_state.specs.declared.updates.Change.{Change}
+use Rattle.master_state.specs.declared.updates.LockPut.{LockPut}
+use Rattle.master_state.specs.State.{MasterState}
 use Rattle.cell_core.specs.declared.effects.Effect.{Effect}
 use Rattle.cell_core.specs.declared.effects.Leave.{Leave}
 use Rattle.cell_core.specs.declared.effects.Locking.{Locking}

@@ -24,10 +24,10 @@ use Rattle.lock_core.specs.declared.claims.Hold.{Hold}
 use Rattle.lock_core.specs.declared.claims.Claim.{Claim}
 use Rattle.lock_core.specs.State.{LockState}
 use Rattle.lock_core.specs.Locks.{LockTable, lock_at}
-use Rattle.cell_state.specs.declared.updates.LockPut.{LockPut}
-use Rattle.cell_state.specs.State.{MasterState}
-use Rattle.cell_parts.specs.StoredSessions.{session_rows}
-use Rattle.cell_state.specs.Updates.{with_locks, lock_change, lock_changes}
+use Rattle.master_state.specs.declared.updates.LockPut.{LockPut}
+use Rattle.master_state.specs.State.{MasterState}
+use Rattle.master_parts.specs.StoredSessions.{session_rows}
+use Rattle.master_state.specs.Updates.{with_locks, lock_change, lock_changes}
 use Rattle.over_core.specs.Kept.{AreGenerations, AreLockRows, AreLocksKept, IsLockKept, is_idle, is_there, claim_fits, waiter_fits}
 use Rattle.over_core.proofs.LockClaims.{IsFit, refit}
 use Rattle.over_core.proofs.LockPuts.{IsPut, instances_of, fit_of, kept_of_fit, puts_fit, rows_put, generations_put, locks_put, locks_put_in_order, each_put}

@@ -37,13 +37,13 @@ use Rattle.lock_core.specs.State.{LockState, Holders, lock_of, mode_of}
 use Rattle.lock_core.specs.declared.partings.Parting.{Parting}
 use Rattle.lock_core.specs.Turns.{is_nobody, without, settled, closed_for, delay_of, is_abandoned, is_of_client, claims_of, lapsed, concerns, any_holds, any_waits}
 use Rattle.lock_core.specs.Locks.{LockTable, lock_at, with_lock}
-use Rattle.cell_state.specs.declared.updates.LockPut.{LockPut}
-use Rattle.cell_parts.specs.Locks.{stored_mode, holder_rows, closing_rows, lock_rows}
-use Rattle.cell_state.specs.State.{MasterState}
-use Rattle.cell_state.specs.Updates.{with_lock_put, lock_change}
+use Rattle.master_state.specs.declared.updates.LockPut.{LockPut}
+use Rattle.master_parts.specs.Locks.{stored_mode, holder_rows, closing_rows, lock_rows}
+use Rattle.master_state.specs.State.{MasterState}
+use Rattle.master_state.specs.Updates.{with_lock_put, lock_change}
 use Rattle.over_core.specs.Kept.{IsKept, AreLockRows, IsLockKept, is_idle, claim_fits, waiter_fits, claim_count, waits_count}
-use Rattle.cell_state.specs.Replies.{puts_of}
-use Rattle.cell_state.specs.Lapses.{lapses_puts}
+use Rattle.master_state.specs.Replies.{puts_of}
+use Rattle.master_state.specs.Lapses.{lapses_puts}
 use Rattle.over_core.proofs.LockClaims.{IsFit, turn_waiters, settled_waiters, without_fit, lapse_fit, delay_fits, lapse_higher}
 use Rattle.over_core.proofs.LockPuts.{IsPut, at_number, lock_at_put, instances_of, fit_of, kept_of_fit}
 use Rattle.over_core.proofs.NamedLocks.{IsNamed, named_put, puts_are, named_is_put, not_idle}

@@ -34,8 +34,8 @@ use Rattle.session_core.specs.Sessions.{SessionTable}
 use Rattle.lock_core.specs.State.{LockState, IsLegal, lock_of, nobody_holds}
 use Rattle.lock_core.specs.Turns.{is_nobody}
 use Rattle.lock_core.specs.Locks.{LockTable, lock_at}
-use Rattle.cell_parts.specs.Locks.{lock_rows}
-use Rattle.cell_state.specs.State.{MasterState}
+use Rattle.master_parts.specs.Locks.{lock_rows}
+use Rattle.master_state.specs.State.{MasterState}
 use Rattle.over_core.specs.Kept.{IsKept, AreGenerations, AreLockRows, IsLockKept, is_idle, is_there}
 use Rattle.over_core.proofs.LockPuts.{at_number}
 use Rattle.over_core.proofs.LocksKept.{there_by_rows}

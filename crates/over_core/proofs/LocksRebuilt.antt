@@ -43,9 +43,9 @@ use Rattle.lock_core.specs.State as lock_state
 use Rattle.lock_core.specs.State.{LockState, Holders, lock_of, owner_order, mode_of, hold_of, nobody_holds, stand_together}
 use Rattle.lock_core.specs.Turns.{is_nobody}
 use Rattle.lock_core.specs.Locks.{LockTable, lock_at, with_lock, with_holder, may_stand}
-use Rattle.cell_parts.specs.Locks.{holder_key, holder_row, holder_rows, lapsed_key, lock_rows, with_generation, holder_of, locked_as, with_row, generations_of, locks_of}
-use Rattle.cell_parts.specs.StoredSessions.{taken_over, sessions_of}
-use Rattle.cell_state.specs.State.{master_of}
+use Rattle.master_parts.specs.Locks.{holder_key, holder_row, holder_rows, lapsed_key, lock_rows, with_generation, holder_of, locked_as, with_row, generations_of, locks_of}
+use Rattle.master_parts.specs.StoredSessions.{taken_over, sessions_of}
+use Rattle.master_state.specs.State.{master_of}
 use Rattle.over_core.specs.Kept.{claim_count, AreLocksKept, is_idle, is_there, claim_fits, waiter_fits, waits_count}
 use Rattle.over_core.proofs.LockClaims.{IsFit, owner_total}
 use Rattle.over_core.proofs.LockPuts.{lock_at_put, kept_of_fit}

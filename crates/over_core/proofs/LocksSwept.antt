@@ -41,15 +41,15 @@ use Rattle.lock_core.specs.declared.turns.Turn.{Turn}
 use Rattle.lock_core.specs.State.{LockState, nobody_holds}
 use Rattle.lock_core.specs.Turns.{is_nobody, is_of_client, reopened, concerns, time_left}
 use Rattle.lock_core.specs.Locks.{LockTable, lock_at, with_lock, is_due, due}
-use Rattle.cell_state.specs.declared.updates.LockPut.{LockPut}
-use Rattle.cell_parts.specs.declared.pending.Task.{Task}
-use Rattle.cell_state.specs.State.{MasterState}
-use Rattle.cell_parts.specs.StoredSessions.{row_of, session_rows}
-use Rattle.cell_state.specs.Lookups.{session_of}
-use Rattle.cell_state.specs.Updates.{with_locks, lock_changes}
+use Rattle.master_state.specs.declared.updates.LockPut.{LockPut}
+use Rattle.master_parts.specs.declared.pending.Task.{Task}
+use Rattle.master_state.specs.State.{MasterState}
+use Rattle.master_parts.specs.StoredSessions.{row_of, session_rows}
+use Rattle.master_state.specs.Lookups.{session_of}
+use Rattle.master_state.specs.Updates.{with_locks, lock_changes}
 use Rattle.over_core.specs.Kept.{IsKept, AreLocksKept, IsLockKept, HaveOneCall, is_idle, is_there, claim_fits, waiter_fits, call_count, waits_count, outstanding, unanswered, is_unanswered}
-use Rattle.cell_state.specs.Replies.{puts_of, turn_replies}
-use Rattle.cell_state.specs.Lapses.{lapses_of, lapses_puts, lapses_replies}
+use Rattle.master_state.specs.Replies.{puts_of, turn_replies}
+use Rattle.master_state.specs.Lapses.{lapses_of, lapses_puts, lapses_replies}
 use Rattle.over_core.specs.SweepCase.{told, relocking, parted, without_session, parting_edits}
 use Rattle.over_core.proofs.EachSession.{step_each, step_without}
 use Rattle.over_core.proofs.KeptByTakes.{IsByBeats, IsIssued, HasNoRight, ended_kept}
@@ -57,13 +57,13 @@ use Rattle.over_core.proofs.LockClaims.{IsFit, reopened_fit, settled_higher, set
 use Rattle.over_core.proofs.LockPuts.{IsPut, instances_of, fit_of, kept_of_fit, puts_fit}
 use Rattle.over_core.proofs.LocksKept.{rows_behind, puts_sound, puts_sorted, puts_map, puts_done, puts_kept, puts_kept_with, put_there}
 use Rattle.over_core.proofs.LocksLapsed.{told_and_waiting, sorted_distinct, unconcerned, locks_among, puts_free, IsLapsing, lapsed_instances, lapsed_fit, lapsed_put, lapsed_waits, waits_in, other_kept}
-use Rattle.cell_parts.proofs.FirstEntries.{all_of_found}
+use Rattle.master_parts.proofs.FirstEntries.{all_of_found}
 use Rattle.over_core.proofs.NamedLocks.{all_kept, own_locks, named_put, puts_are, named_is_put, not_idle}
 use Rattle.over_core.proofs.OneCall.{AreOne, at_most_one, count_in, sum_put, one_put, one_same}
 use Rattle.over_core.proofs.RepliesKept.{told_of, told_of_all, turn_replies_are_to, lapses_replies_are_to, told_kept, AreTo, all_append}
 use Rattle.over_core.proofs.SessionReads.{lives_in, keeps_in, reads_step}
 use Rattle.lock_core.specs.declared.partings.Parting.{Parting}
-use Rattle.cell_state.specs.Partings.{ending_by}
+use Rattle.master_state.specs.Partings.{ending_by}
 
 -- ---- locks that are put
 

@@ -18,12 +18,12 @@ use Rattle.rows_cell.specs.Rows.{stored_node, map_of}
 use Rattle.rows_cell.proofs.RowNodes.{nodes_get, keys_of_nodes}
 use Rattle.lock_core.specs.State.{LockState, lock_of}
 use Rattle.lock_core.specs.Locks.{LockTable, lock_at}
-use Rattle.cell_state.specs.declared.updates.LockPut.{LockPut}
-use Rattle.cell_state.specs.State.{MasterState}
+use Rattle.master_state.specs.declared.updates.LockPut.{LockPut}
+use Rattle.master_state.specs.State.{MasterState}
 use Rattle.over_core.specs.Kept.{IsKept, is_idle, is_there, claim_fits, waiter_fits}
-use Rattle.cell_parts.specs.NameIndex.{name_of}
-use Rattle.cell_parts.proofs.FirstEntries.{own_entries, all_of_found, found_of_any}
-use Rattle.cell_state.specs.Replies.{puts_of}
+use Rattle.master_parts.specs.NameIndex.{name_of}
+use Rattle.master_parts.proofs.FirstEntries.{own_entries, all_of_found, found_of_any}
+use Rattle.master_state.specs.Replies.{puts_of}
 use Rattle.over_core.proofs.LockClaims.{IsFit}
 use Rattle.over_core.proofs.LockPuts.{IsPut}
 

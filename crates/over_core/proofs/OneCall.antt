@@ -21,9 +21,9 @@ use Rattle.session_core.specs.Sessions.{SessionTable, session_of, kept_of, is_li
 use Rattle.session_core.proofs.OneClient.{kept_session, other_session}
 use Rattle.lock_core.specs.State.{LockState, lock_of}
 use Rattle.lock_core.specs.Locks.{LockTable, lock_at, with_lock}
-use Rattle.cell_parts.specs.declared.pending.Asked.{Asked}
-use Rattle.cell_parts.specs.declared.pending.Task.{Task}
-use Rattle.cell_parts.specs.declared.pending.Task.TheVariants as tasks
+use Rattle.master_parts.specs.declared.pending.Asked.{Asked}
+use Rattle.master_parts.specs.declared.pending.Task.{Task}
+use Rattle.master_parts.specs.declared.pending.Task.TheVariants as tasks
 use Rattle.over_core.specs.Kept.{is_call, is_call_by, call_count, waits_count, is_unanswered, unanswered}
 use Rattle.over_core.proofs.SessionReads.{keeps_in}
 

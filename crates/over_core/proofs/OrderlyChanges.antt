@@ -7,7 +7,7 @@ use Rattle.gate_core.specs.declared.pending.Pending.{Pending}
 use Rattle.gate_core.specs.declared.pending.Waiting.{Waiting}
 use Rattle.gate_core.specs.Gate.{GateState, pending_limit, with_change, AreRising, IsOrderly}
 use Rattle.gate_core.proofs.Orderly.{orderly_push, under_limit}
-use Rattle.cell_parts.specs.declared.pending.Task.{Task}
+use Rattle.master_parts.specs.declared.pending.Task.{Task}
 
 -- one that comes
 pub orderly_more : (gate : GateState Task) (change : Pending Task) → nat_le pending_limit (length gate.waiting) ≡ false → nat_le number_limit gate.pushed ≡ false → IsOrderly gate → IsOrderly (with_change change gate)

@@ -8,11 +8,11 @@ use Rattle.tags_cell.specs.declared.messages.calls.Call.{Call}
 use Rattle.tags_cell.specs.declared.messages.calls.Call.TheVariants as calls
 use Rattle.tags_cell.specs.declared.handles.Handle.{Handle}
 use Rattle.tags_cell.specs.Handles.{read_handle, is_handle, fields_of, number_at}
-use Rattle.cell_parts.specs.declared.pending.Work.TheVariants as works
-use Rattle.cell_state.specs.NameSpace.{name_space}
-use Rattle.cell_state.specs.State.{MasterState}
-use Rattle.cell_state.specs.Lookups.{own_handle, shown_handle, is_usable, handle_state_of, sequencer_fault}
-use Rattle.cell_parts.specs.Keys.{key_of}
+use Rattle.master_parts.specs.declared.pending.Work.TheVariants as works
+use Rattle.master_state.specs.NameSpace.{name_space}
+use Rattle.master_state.specs.State.{MasterState}
+use Rattle.master_state.specs.Lookups.{own_handle, shown_handle, is_usable, handle_state_of, sequencer_fault}
+use Rattle.master_parts.specs.Keys.{key_of}
 use Rattle.cell_core.specs.Step.{check_admission, handle_admission, admission_of}
 use Rattle.over_core.specs.Kept.{IsOwnCall}
 

@@ -15,13 +15,13 @@ use Rattle.session_core.specs.declared.records.Kept.{Kept}
 use Rattle.lock_core.specs.declared.claims.Claim.{Claim}
 use Rattle.lock_core.specs.declared.turns.Turn.{Turn}
 use Rattle.lock_core.specs.declared.turns.Lapse.{Lapse}
-use Rattle.cell_state.specs.State.{MasterState}
-use Rattle.cell_state.specs.Lookups.{kept_of, reply_of}
+use Rattle.master_state.specs.State.{MasterState}
+use Rattle.master_state.specs.Lookups.{kept_of, reply_of}
 use Rattle.cell_core.specs.Step.{recorded}
-use Rattle.cell_parts.specs.Answered.{answered_by}
+use Rattle.master_parts.specs.Answered.{answered_by}
 use Rattle.over_core.specs.Kept.{IsKept, claim_count, outstanding}
-use Rattle.cell_state.specs.Replies.{reply_to, replies_to, turn_replies}
-use Rattle.cell_state.specs.Lapses.{lapses_replies}
+use Rattle.master_state.specs.Replies.{reply_to, replies_to, turn_replies}
+use Rattle.master_state.specs.Lapses.{lapses_replies}
 use Rattle.over_core.specs.SweepCase.{told}
 use Rattle.over_core.proofs.KeptByTakes.{recorded_kept}
 use Rattle.over_core.proofs.OneCall.{one_if}

@@ -21,22 +21,22 @@ use Rattle.lock_core.specs.declared.turns.Lapse.{Lapse}
 use Rattle.lock_core.specs.declared.turns.Turn.{Turn}
 use Rattle.lock_core.specs.Turns.{is_nobody, reopened}
 use Rattle.lock_core.specs.Locks.{lock_at}
-use Rattle.cell_parts.specs.declared.handles.Note.{Note}
-use Rattle.cell_parts.specs.declared.pending.Taken.{Taken}
-use Rattle.cell_parts.specs.declared.pending.Task.TheVariants as tasks
-use Rattle.cell_state.specs.State.{MasterState}
-use Rattle.cell_state.specs.Lookups.{granted_lines, repeated_reply, noted}
+use Rattle.master_parts.specs.declared.handles.Note.{Note}
+use Rattle.master_parts.specs.declared.pending.Taken.{Taken}
+use Rattle.master_parts.specs.declared.pending.Task.TheVariants as tasks
+use Rattle.master_state.specs.State.{MasterState}
+use Rattle.master_state.specs.Lookups.{granted_lines, repeated_reply, noted}
 use Rattle.cell_core.specs.Step.{queued, asking, asking_for, names_of, with_call, take_step}
 use Rattle.cell_core.specs.Cases.{TakeCase, taken_by}
 use Rattle.cell_core.specs.Cases.TakeCase.{StartRefused, OldBeat, BeatRefused, BeatParked, OldEpoch, NoSession, LeftBefore, Repeated, OlderCall, Outstanding, Answered, Granted, Waits}
-use Rattle.cell_state.specs.Updates.{with_note}
-use Rattle.cell_state.specs.Replies.{locked_line, locked_lines, line_if}
-use Rattle.cell_state.specs.Lapses.{lapse_lines, lapses_lines, lapses_of, parting_lines}
+use Rattle.master_state.specs.Updates.{with_note}
+use Rattle.master_state.specs.Replies.{locked_line, locked_lines, line_if}
+use Rattle.master_state.specs.Lapses.{lapse_lines, lapses_lines, lapses_of, parting_lines}
 use Rattle.cell_core.specs.declared.effects.Leave.{Leave}
 use Rattle.cell_core.specs.Outcomes.{leave_lines}
 use Rattle.cell_core.proofs.TakeCases.{taken_case}
-use Rattle.cell_parts.specs.declared.notices.Telling.{Telling}
-use Rattle.cell_state.specs.Notices.{with_tellings}
+use Rattle.master_parts.specs.declared.notices.Telling.{Telling}
+use Rattle.master_state.specs.Notices.{with_tellings}
 use Rattle.rows_cell.specs.declared.tables.Rows.{Rows}
 use Rattle.over_core.specs.declared.swept.Swept.{Swept}
 use Rattle.over_core.specs.Kept.{IsKept}
@@ -47,7 +47,7 @@ use Rattle.over_core.specs.SweepCase.{SweepCase, swept_by}
 use Rattle.over_core.specs.SweepCase.SweepCase.{Recovers, Expires, Started, Reopens, Tidies, Tidied, Ended, Applied, Deleted, Locked, Left, Departed}
 use Rattle.lock_core.specs.declared.partings.Parting.TheVariants as partings
 use Rattle.lock_core.specs.declared.partings.Parting.{Parting}
-use Rattle.cell_state.specs.Partings.{ending_by, right_line, lock_line}
+use Rattle.master_state.specs.Partings.{ending_by, right_line, lock_line}
 
 -- ---- lines of locks
 

@@ -29,21 +29,21 @@ use Rattle.session_core.proofs.Lowest.{lowest_is}
 use Rattle.lock_core.specs.declared.claims.Claim.{Claim}
 use Rattle.lock_core.specs.Turns.{reopened}
 use Rattle.lock_core.specs.Locks.{lock_at, due}
-use Rattle.cell_state.specs.declared.updates.LockPut.{LockPut}
-use Rattle.cell_state.specs.declared.updates.SessionUpdate.TheVariants.{Answers}
-use Rattle.cell_parts.specs.declared.handles.Note.{Note}
-use Rattle.cell_parts.specs.declared.pending.Asked.{Asked}
-use Rattle.cell_parts.specs.declared.pending.Idle.{Idle}
-use Rattle.cell_parts.specs.declared.pending.Task.{Task}
-use Rattle.cell_parts.specs.declared.pending.Task.TheVariants as tasks
-use Rattle.cell_parts.specs.declared.pending.Work.{Work}
-use Rattle.cell_parts.specs.declared.pending.Work.TheVariants as works
-use Rattle.cell_state.specs.NameSpace.{name_space, caller}
-use Rattle.cell_state.specs.State.{MasterState, next_change, task_at}
-use Rattle.cell_state.specs.Lookups.{session_of, is_live, may_start, turned_away, noted}
-use Rattle.cell_state.specs.Updates.{edits_of}
+use Rattle.master_state.specs.declared.updates.LockPut.{LockPut}
+use Rattle.master_state.specs.declared.updates.SessionUpdate.TheVariants.{Answers}
+use Rattle.master_parts.specs.declared.handles.Note.{Note}
+use Rattle.master_parts.specs.declared.pending.Asked.{Asked}
+use Rattle.master_parts.specs.declared.pending.Idle.{Idle}
+use Rattle.master_parts.specs.declared.pending.Task.{Task}
+use Rattle.master_parts.specs.declared.pending.Task.TheVariants as tasks
+use Rattle.master_parts.specs.declared.pending.Work.{Work}
+use Rattle.master_parts.specs.declared.pending.Work.TheVariants as works
+use Rattle.master_state.specs.NameSpace.{name_space, caller}
+use Rattle.master_state.specs.State.{MasterState, next_change, task_at}
+use Rattle.master_state.specs.Lookups.{session_of, is_live, may_start, turned_away, noted}
+use Rattle.master_state.specs.Updates.{edits_of}
 use Rattle.cell_core.specs.Ephemerals.{next_idle, is_still_idle}
-use Rattle.cell_parts.specs.declared.notices.Telling.{Telling}
+use Rattle.master_parts.specs.declared.notices.Telling.{Telling}
 use Rattle.cell_core.specs.Effect.{effect, gone_by_itself}
 use Rattle.over_core.specs.Plans.{tellings_of, no_update, no_plan, session_plan, alive_out, leaving, plan_session, plan_start, plan_effect, plan_asked, plan_call, plan_of, plan_work, plan_task, answer_or_quiet, tidy_or_later, reopen_or_later, apply_or_later, first_action, parting_plan, plan_leave, plan_live}
 use Rattle.over_core.specs.Sweep.{is_quiet, beats_action, beats_answered, beats_step, swept_by_plan, acted, telling, swept, action_edits, is_over, sweep_edits, sweep_step}
@@ -54,8 +54,8 @@ use Rattle.over_core.specs.declared.actions.Action.TheVariants as actions
 use Rattle.over_core.specs.declared.plans.Plan.{Plan}
 use Rattle.over_core.specs.declared.swept.Swept.{Swept}
 use Rattle.cell_core.specs.Outcomes.{left_put}
-use Rattle.cell_state.specs.Replies.{puts_of, replies_to, reply_to, turn_replies}
-use Rattle.cell_state.specs.Lapses.{lapses_of, lapses_puts, lapses_replies}
+use Rattle.master_state.specs.Replies.{puts_of, replies_to, reply_to, turn_replies}
+use Rattle.master_state.specs.Lapses.{lapses_of, lapses_puts, lapses_replies}
 use Rattle.over_core.specs.SweepCase.{IsNextApplied, IsDueToEnd, IsDue, SweepCase, swept_by, relocking, swept_edits, rest, parting_edits, left_reply}
 use Rattle.over_core.specs.SweepCase.SweepCase.{Quiet, Recovers, Expires, Departed, AnswersBeat, TurnedAway, StartedAgain, Started, Reopens, Tidies, Spared, Tidied, OfEnded, Ended, Applied, Deleted, Locked, Awaited, Left}
 use Rattle.cell_core.proofs.EffectShapes.{Shape, effect_by, shape_of}

@@ -3,14 +3,14 @@ use Rattle.std.proofs.Common.{◌≡◌, ℕ, List, [], ◌∷◌, Bool, true, f
 use Rattle.std.specs.List.{filter_map}
 use Rattle.node_core.specs.declared.refusals.Fault.{Fault}
 use Rattle.node_core.specs.declared.refusals.Fault.TheVariants as faults
-use Rattle.cell_parts.specs.declared.handles.HandleKey.{HandleKey}
-use Rattle.cell_parts.specs.declared.handles.HandleState.{HandleState}
-use Rattle.cell_parts.specs.declared.handles.HandleState.TheVariants as states
-use Rattle.cell_parts.specs.declared.pending.Idle.{Idle}
+use Rattle.master_parts.specs.declared.handles.HandleKey.{HandleKey}
+use Rattle.master_parts.specs.declared.handles.HandleState.{HandleState}
+use Rattle.master_parts.specs.declared.handles.HandleState.TheVariants as states
+use Rattle.master_parts.specs.declared.pending.Idle.{Idle}
 use Rattle.cell_core.specs.Ephemerals.{tidied}
-use Rattle.cell_state.specs.State.{MasterState}
-use Rattle.cell_state.specs.Lookups.{noted}
-use Rattle.cell_state.specs.Notices.{telling_by}
+use Rattle.master_state.specs.State.{MasterState}
+use Rattle.master_state.specs.Lookups.{noted}
+use Rattle.master_state.specs.Notices.{telling_by}
 use Rattle.over_core.specs.declared.actions.Action.{Action}
 use Rattle.over_core.specs.declared.actions.Action.TheVariants.{Tidy}
 use Rattle.over_core.specs.declared.swept.Swept.{Swept}

@@ -8,7 +8,7 @@ use Rattle.std.specs.BTreeMap.{is_at}
 use Rattle.std.specs.Ordering.{nat_cmp}
 use Rattle.std.proofs.lemmas.Bool.Decides.{nat_tests}
 use Rattle.std.proofs.lemmas.Map.{keys-set_value}
-use Rattle.plain.proofs.Keys.{number_same}
+use Rattle.collections.proofs.Keys.{number_same}
 use Rattle.node_core.specs.declared.events.Event.{Event}
 use Rattle.tags_cell.specs.declared.messages.outs.Reply.{Reply}
 use Rattle.event_core.specs.Queue.{EventQueue, empty_queue, is_full, queued, pushed}
@@ -17,8 +17,8 @@ use Rattle.session_core.specs.Session.{events_of, told, has_heard}
 use Rattle.session_core.specs.Sessions.{SessionTable, session_of, with_session, all_heard}
 use Rattle.session_core.proofs.OneClient.{own_session, other_session}
 use Rattle.session_core.proofs.RowsOfSessions.{rows_of, rows_stay}
-use Rattle.cell_parts.specs.declared.notices.Telling.{Telling}
-use Rattle.cell_state.specs.Notices.{with_telling}
+use Rattle.master_parts.specs.declared.notices.Telling.{Telling}
+use Rattle.master_state.specs.Notices.{with_telling}
 use Rattle.over_core.proofs.EachSession.{Each, EachWithout, step_each, step_without}
 use Rattle.over_core.proofs.SessionReads.{reads_step}
 

@@ -27,12 +27,12 @@ use Rattle.lock_core.specs.declared.turns.Acquired.{Acquired}
 use Rattle.lock_core.specs.declared.turns.Acquired.TheVariants as asked
 use Rattle.lock_core.specs.State.{LockState}
 use Rattle.lock_core.specs.Turns.{tried, acquired, released}
-use Rattle.cell_state.specs.declared.updates.Change.{Change}
-use Rattle.cell_parts.specs.Claims.{owner_of, claim_of}
-use Rattle.cell_state.specs.NameSpace.{name_space, caller}
-use Rattle.cell_state.specs.State.{MasterState}
-use Rattle.cell_state.specs.Lookups.{may, missing_right, is_of_cell, sequencer_fault, lock_under, node_of_handle, new_handle, answer_on}
-use Rattle.cell_parts.specs.Calls.{create_fault, bytes_of}
+use Rattle.master_state.specs.declared.updates.Change.{Change}
+use Rattle.master_parts.specs.Claims.{owner_of, claim_of}
+use Rattle.master_state.specs.NameSpace.{name_space, caller}
+use Rattle.master_state.specs.State.{MasterState}
+use Rattle.master_state.specs.Lookups.{may, missing_right, is_of_cell, sequencer_fault, lock_under, node_of_handle, new_handle, answer_on}
+use Rattle.master_parts.specs.Calls.{create_fault, bytes_of}
 use Rattle.cell_core.specs.declared.asking.Touched.{Touched}
 use Rattle.cell_core.specs.declared.asking.Touched.TheVariants.{Alone, WithParent}
 use Rattle.cell_core.specs.Step.{touched_by, names_of}

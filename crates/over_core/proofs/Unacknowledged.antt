@@ -14,7 +14,7 @@ use Rattle.rights_core.specs.Laws.{asked_for}
 use Rattle.rights_core.proofs.Unacked.{unacked_are_held, asked_is_issued}
 use Rattle.session_core.proofs.Keys.{at_itself, same_key}
 use Rattle.session_core.proofs.Lowest.{none_up_to}
-use Rattle.cell_state.specs.State.{MasterState}
+use Rattle.master_state.specs.State.{MasterState}
 use Rattle.over_core.specs.Plans.{invalidation_of, invalidations_for}
 
 -- it asked for the name that it names, and is one of those that were issued

@@ -18,9 +18,9 @@ use Rattle.rights_core.specs.declared.cache_rights.CacheRight.{CacheRight}
 use Rattle.rights_core.specs.Rights.{invalidations_of, IsRecorded}
 use Rattle.gate_core.specs.declared.pending.Waiting.{Waiting}
 use Rattle.gate_core.specs.Gate.{IsOrderly}
-use Rattle.cell_parts.specs.declared.pending.Task.{Task}
-use Rattle.cell_parts.specs.declared.pending.Work.{Work}
-use Rattle.cell_parts.specs.Calls.{bytes_of}
+use Rattle.master_parts.specs.declared.pending.Task.{Task}
+use Rattle.master_parts.specs.declared.pending.Work.{Work}
+use Rattle.master_parts.specs.Calls.{bytes_of}
 use Rattle.cell_core.specs.Names.{names_touched}
 use Rattle.tags_cell.specs.declared.messages.outs.Reply.{Reply}
 use Rattle.session_core.specs.declared.records.Session.{Session}
@@ -37,11 +37,11 @@ use Rattle.lock_core.specs.declared.claims.Closing.{Closing}
 use Rattle.lock_core.specs.State.{LockState, IsLegal, nobody_holds, owner_order}
 use Rattle.lock_core.specs.Turns.{is_nobody}
 use Rattle.lock_core.specs.Locks.{LockTable, lock_at}
-use Rattle.cell_parts.specs.Locks.{lock_rows}
-use Rattle.cell_state.specs.State.{MasterState}
-use Rattle.cell_parts.specs.StoredSessions.{session_rows}
-use Rattle.cell_parts.specs.declared.pending.Task.TheVariants as tasks
-use Rattle.cell_parts.specs.declared.pending.Work.TheVariants as works
+use Rattle.master_parts.specs.Locks.{lock_rows}
+use Rattle.master_state.specs.State.{MasterState}
+use Rattle.master_parts.specs.StoredSessions.{session_rows}
+use Rattle.master_parts.specs.declared.pending.Task.TheVariants as tasks
+use Rattle.master_parts.specs.declared.pending.Work.TheVariants as works
 
 -- a master, and its store
 pub record CellState : Type 0 where

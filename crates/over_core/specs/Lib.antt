@@ -1,14 +1,14 @@
 pub use Rattle.lock_core.specs.Locks as LockTables
-pub use Rattle.cell_state.specs.State
-pub use Rattle.cell_state.specs.Lookups
+pub use Rattle.master_state.specs.State
+pub use Rattle.master_state.specs.Lookups
 pub use Rattle.cell_core.specs.Ephemerals
-pub use Rattle.cell_state.specs.Updates
-pub use Rattle.cell_state.specs.Replies
-pub use Rattle.cell_state.specs.Lapses
+pub use Rattle.master_state.specs.Updates
+pub use Rattle.master_state.specs.Replies
+pub use Rattle.master_state.specs.Lapses
 pub use Rattle.cell_core.specs.Effect
 pub use Rattle.cell_core.specs.Outcomes
 pub use Rattle.cell_core.specs.ChangeNotices as Notices
-pub use Rattle.plain.specs.Results
+pub use Rattle.collections.specs.Results
 pub use Rattle.names_cell.specs.Text
 pub use Rattle.node_core.specs.Nodes
 pub use Rattle.rows_cell.specs.Rows
@@ -20,7 +20,7 @@ pub use Rattle.rights_core.specs.Rights
 pub use Rattle.rights_core.specs.Grants
 pub use Rattle.lock_core.specs.State as LockStates
 pub use Rattle.lock_core.specs.Turns
-pub use Rattle.cell_parts.specs.Locks
+pub use Rattle.master_parts.specs.Locks
 pub use Rattle.cell_core.specs.Step
 pub use Rattle.cell_core.specs.Cases
 pub mod Plans

@@ -1,10 +1,10 @@
 -- What a master does by itself: the first action that there is, and what is planned for it.
 use Rattle.std.specs.Prelude.{List, ◌++◌, ℕ, true, false, ◌&&◌, [], ◌∷◌, map, Option, Some, None, if◌then◌else◌}
-use Rattle.cell_parts.specs.declared.notices.Notice.{Notice}
-use Rattle.cell_parts.specs.declared.notices.Telling.{Telling}
-use Rattle.cell_state.specs.NameSpace.{name_space, caller}
-use Rattle.cell_state.specs.Notices.{tellings_to}
-use Rattle.cell_state.specs.State.{MasterState, next_change, task_at}
+use Rattle.master_parts.specs.declared.notices.Notice.{Notice}
+use Rattle.master_parts.specs.declared.notices.Telling.{Telling}
+use Rattle.master_state.specs.NameSpace.{name_space, caller}
+use Rattle.master_state.specs.Notices.{tellings_to}
+use Rattle.master_state.specs.State.{MasterState, next_change, task_at}
 use Rattle.over_core.specs.declared.plans.Plan.{Plan}
 use Rattle.cell_core.specs.ChangeNotices.{change_notices, locks_notices, contest_notices, contested_by}
 use Rattle.std.specs.Option.{option_map_or}
@@ -22,28 +22,28 @@ use Rattle.lock_core.specs.declared.turns.Turn.{Turn}
 use Rattle.lock_core.specs.declared.turns.Lapse.{Lapse}
 use Rattle.lock_core.specs.Turns.{reopened}
 use Rattle.lock_core.specs.Locks.{lock_at, due}
-use Rattle.cell_state.specs.declared.updates.Update.{Update}
-use Rattle.cell_state.specs.declared.updates.SessionUpdate.{SessionUpdate}
-use Rattle.cell_state.specs.declared.updates.SessionUpdate.TheVariants.{Begins, Prolongs, Ends, Answers}
+use Rattle.master_state.specs.declared.updates.Update.{Update}
+use Rattle.master_state.specs.declared.updates.SessionUpdate.{SessionUpdate}
+use Rattle.master_state.specs.declared.updates.SessionUpdate.TheVariants.{Begins, Prolongs, Ends, Answers}
 use Rattle.cell_core.specs.declared.effects.Effect.{Effect}
-use Rattle.cell_parts.specs.declared.pending.Idle.{Idle}
-use Rattle.cell_parts.specs.declared.pending.Task.{Task}
-use Rattle.cell_parts.specs.declared.pending.Work.{Work}
-use Rattle.cell_state.specs.Lookups.{session_of, may_start, is_live, nothing, turned_away, reply_of}
+use Rattle.master_parts.specs.declared.pending.Idle.{Idle}
+use Rattle.master_parts.specs.declared.pending.Task.{Task}
+use Rattle.master_parts.specs.declared.pending.Work.{Work}
+use Rattle.master_state.specs.Lookups.{session_of, may_start, is_live, nothing, turned_away, reply_of}
 use Rattle.tags_cell.specs.Messages.{is_leave}
 use Rattle.cell_core.specs.Ephemerals.{next_idle, is_still_idle}
 use Rattle.cell_core.specs.Effect.{effect, gone_by_itself}
 use Rattle.over_core.specs.declared.actions.Action.{Action}
 use Rattle.over_core.specs.declared.actions.Action.TheVariants.{Recover, Expire, Apply, Reopen, Tidy, Answer, Quiet}
-use Rattle.cell_state.specs.Replies.{kept_puts, sent, turn_replies, locked_lines, puts_of}
+use Rattle.master_state.specs.Replies.{kept_puts, sent, turn_replies, locked_lines, puts_of}
 use Rattle.cell_core.specs.Outcomes.{locking_lines, locking_puts, lock_ended, applied_lines, effect_replies}
-use Rattle.cell_state.specs.Lapses.{lapses_replies, lapses_puts, lapses_of, parting_lines}
+use Rattle.master_state.specs.Lapses.{lapses_replies, lapses_puts, lapses_of, parting_lines}
 use Rattle.node_core.specs.declared.refusals.Fault.TheVariants as faults
 use Rattle.node_core.specs.declared.lines.Line.TheVariants as lines
 use Rattle.tags_cell.specs.declared.messages.outs.Out.TheVariants as outs
 use Rattle.tags_cell.specs.declared.messages.outs.CallResult.TheVariants as results
-use Rattle.cell_parts.specs.declared.pending.Task.TheVariants as tasks
-use Rattle.cell_parts.specs.declared.pending.Work.TheVariants as works
+use Rattle.master_parts.specs.declared.pending.Task.TheVariants as tasks
+use Rattle.master_parts.specs.declared.pending.Work.TheVariants as works
 use Rattle.lock_core.specs.declared.partings.Parting.TheVariants as partings
 
 -- ---- who is told

@@ -1,18 +1,18 @@
 -- A sweep: what is planned for its first action is done and committed, and the clients are told of it.
 use Rattle.std.specs.Prelude.{List, ℕ, Bool, true, false, ◌||◌, [], Result, Ok, Err, if◌then◌else◌}
-use Rattle.cell_parts.specs.declared.notices.Telling.{Telling}
-use Rattle.cell_parts.specs.declared.pending.Taken.{Taken}
-use Rattle.cell_state.specs.Notices.{with_tellings}
-use Rattle.cell_state.specs.State.{MasterState}
+use Rattle.master_parts.specs.declared.notices.Telling.{Telling}
+use Rattle.master_parts.specs.declared.pending.Taken.{Taken}
+use Rattle.master_state.specs.Notices.{with_tellings}
+use Rattle.master_state.specs.State.{MasterState}
 use Rattle.over_core.specs.declared.plans.Plan.{Plan}
 use Rattle.node_core.specs.declared.refusals.Fault.{Fault}
 use Rattle.rows_cell.specs.declared.tables.Edit.{Edit}
 use Rattle.std.specs.Option.{option_map_or}
 use Rattle.session_core.specs.Session.{is_client_answerable}
 use Rattle.session_core.specs.Sessions.{has_spent_events, lowest}
-use Rattle.cell_state.specs.Lookups.{noted}
+use Rattle.master_state.specs.Lookups.{noted}
 use Rattle.cell_core.specs.Step.{is_past_end}
-use Rattle.cell_state.specs.Updates.{done, edits_of}
+use Rattle.master_state.specs.Updates.{done, edits_of}
 use Rattle.cell_core.specs.Ephemerals.{tidied}
 use Rattle.over_core.specs.declared.actions.Action.{Action}
 use Rattle.over_core.specs.declared.actions.Action.TheVariants.{Tidy, Answer, Quiet}

@@ -12,43 +12,43 @@ use Rattle.tags_cell.specs.declared.messages.outs.CallResult.{CallResult}
 use Rattle.tags_cell.specs.declared.messages.outs.Reply.{Reply}
 use Rattle.gate_core.specs.declared.pending.Waiting.{Waiting}
 use Rattle.gate_core.specs.Gate.{is_free}
-use Rattle.cell_state.specs.declared.updates.Change.{Change}
-use Rattle.cell_parts.specs.declared.handles.Note.{Note}
-use Rattle.cell_parts.specs.declared.pending.Asked.{Asked}
-use Rattle.cell_parts.specs.declared.pending.Idle.{Idle}
-use Rattle.cell_parts.specs.declared.pending.Task.{Task}
+use Rattle.master_state.specs.declared.updates.Change.{Change}
+use Rattle.master_parts.specs.declared.handles.Note.{Note}
+use Rattle.master_parts.specs.declared.pending.Asked.{Asked}
+use Rattle.master_parts.specs.declared.pending.Idle.{Idle}
+use Rattle.master_parts.specs.declared.pending.Task.{Task}
 use Rattle.lock_core.specs.declared.claims.Claim.{Claim}
 use Rattle.lock_core.specs.declared.partings.Parting.{Parting}
 use Rattle.lock_core.specs.Turns.{reopened}
 use Rattle.lock_core.specs.Locks.{lock_at, due}
-use Rattle.cell_state.specs.declared.updates.LockPut.{LockPut}
+use Rattle.master_state.specs.declared.updates.LockPut.{LockPut}
 use Rattle.cell_core.specs.declared.effects.Leave.{Leave}
-use Rattle.cell_state.specs.NameSpace.{name_space, caller}
-use Rattle.cell_state.specs.State.{MasterState}
+use Rattle.master_state.specs.NameSpace.{name_space, caller}
+use Rattle.master_state.specs.State.{MasterState}
 use Rattle.cell_core.specs.Ephemerals.{next_idle, tidied, is_still_idle}
 use Rattle.session_core.specs.declared.records.Parked.{Parked}
 use Rattle.session_core.specs.declared.records.Session.{Session}
 use Rattle.session_core.specs.Session.{session_until, prolonged, answered, is_client_expired, is_client_due, is_client_answerable, offer_to}
 use Rattle.session_core.specs.Sessions.{with_session, with_new, all_heard, lowest}
-use Rattle.cell_state.specs.Lookups.{session_of, may_start, is_live, turned_away, reply_of}
-use Rattle.cell_parts.specs.Answered.{answered_by}
+use Rattle.master_state.specs.Lookups.{session_of, may_start, is_live, turned_away, reply_of}
+use Rattle.master_parts.specs.Answered.{answered_by}
 use Rattle.cell_core.specs.Step.{recorded}
-use Rattle.cell_state.specs.Updates.{with_note, edit_of, with_kept, with_locks, without_lock, lock_changes}
+use Rattle.master_state.specs.Updates.{with_note, edit_of, with_kept, with_locks, without_lock, lock_changes}
 use Rattle.cell_core.specs.Effect.{effect}
 use Rattle.over_core.specs.declared.swept.Swept.{Swept}
 use Rattle.over_core.specs.Sweep.{beats_action}
 use Rattle.over_core.specs.Plans.{first_action, started_out, alive_out}
-use Rattle.cell_state.specs.Partings.{ending_by}
+use Rattle.master_state.specs.Partings.{ending_by}
 use Rattle.tags_cell.specs.Messages.{is_leave}
-use Rattle.cell_state.specs.Lapses.{parting_lines, lapses_of, lapses_puts, lapses_replies}
-use Rattle.cell_state.specs.Replies.{kept_puts, sent, turn_replies, locked_line, locked_lines, puts_of, replies_to}
+use Rattle.master_state.specs.Lapses.{parting_lines, lapses_of, lapses_puts, lapses_replies}
+use Rattle.master_state.specs.Replies.{kept_puts, sent, turn_replies, locked_line, locked_lines, puts_of, replies_to}
 use Rattle.cell_core.specs.Outcomes.{put_listing, leave_lines, left_put}
 use Rattle.node_core.specs.declared.refusals.Fault.TheVariants as faults
 use Rattle.node_core.specs.declared.lines.Line.TheVariants as lines
 use Rattle.tags_cell.specs.declared.messages.outs.Out.TheVariants as outs
 use Rattle.rights_core.specs.Rights as of_rights
-use Rattle.cell_parts.specs.declared.pending.Task.TheVariants as tasks
-use Rattle.cell_parts.specs.declared.pending.Work.TheVariants as works
+use Rattle.master_parts.specs.declared.pending.Task.TheVariants as tasks
+use Rattle.master_parts.specs.declared.pending.Work.TheVariants as works
 use Rattle.tags_cell.specs.declared.messages.outs.CallResult.TheVariants as results
 use Rattle.cell_core.specs.declared.effects.Locking.TheVariants as lockings
 use Rattle.session_core.specs.Session as of_session

@@ -6,7 +6,7 @@ use Rattle.rows_cell.specs.declared.tables.Edit.{Edit}
 use Rattle.rows_cell.specs.declared.tables.Edit.TheVariants.{Epoch}
 use Rattle.rows_cell.specs.Rows.{changed_rows}
 use Rattle.rows_cell.specs.Sound.{sound}
-use Rattle.cell_state.specs.State.{MasterState, master_of}
+use Rattle.master_state.specs.State.{MasterState, master_of}
 use Rattle.cell_core.specs.Step.{is_past_end}
 use Rattle.cell_core.specs.Effect.{is_last}
 use Rattle.rows_cell.specs.Stores.{Store, IsRead, IsUnread, IsCommitted, IsRefused}

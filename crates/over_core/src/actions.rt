@@ -3,8 +3,8 @@ ghost use Rattle.std.specs.Prelude.{◌≡◌, IfOk};
 ghost use Rattle.over_core.specs.Plans.{first_action, apply_or_later, reopen_or_later, tidy_or_later, answer_or_quiet};
 
 use cell_core::Cell;
-use cell_parts::Idle;
-use cell_state::Master;
+use master_parts::Idle;
+use master_state::Master;
 use std::alloc::AllocError;
 use tags_cell::ClientNumber;
 

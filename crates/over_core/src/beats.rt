@@ -1,15 +1,15 @@
 //! What a master answers though nothing can be committed.
 ghost use Rattle.std.specs.Prelude.{◌≡◌, ◌≢◌, ◌≤◌, ◌<◌, ◌+◌, length, Ok, Err, IfOk, IfErr, OnOk, OnErr};
 ghost use Rattle.std.specs.Vec.{vec_len, vec_capacity};
-ghost use Rattle.cell_state.specs.Updates.{BeginsNew, done};
+ghost use Rattle.master_state.specs.Updates.{BeginsNew, done};
 ghost use Rattle.over_core.specs.Sweep.{swept_as, beats_action, beats_answered, beats_step};
 
 use crate::actions::Action;
 use crate::sweeps::{Done, Prepared, SweptThrice, is_over, is_quiet, planned};
 use crate::swept::Swept;
 use cell_core::{Answers, Cell, Thrice};
-use cell_parts::Taken;
-use cell_state::{Grown, Master, Update};
+use master_parts::Taken;
+use master_state::{Grown, Master, Update};
 use node_core::{Fault, Line};
 use std::alloc::AllocError;
 

@@ -1,21 +1,21 @@
 //! What is planned for the locks of a session that ends, and for one that is open again.
 ghost use Rattle.std.specs.Prelude.{◌≡◌, [], ◌∷◌, ◌++◌, IfOk};
-ghost use Rattle.cell_state.specs.Replies.{kept_puts, sent, locked_lines};
-ghost use Rattle.cell_state.specs.Lapses.{lapses_replies, lapses_puts, parting_lines, lapses_of};
-ghost use Rattle.cell_state.specs.Lookups.{reply_of};
+ghost use Rattle.master_state.specs.Replies.{kept_puts, sent, locked_lines};
+ghost use Rattle.master_state.specs.Lapses.{lapses_replies, lapses_puts, parting_lines, lapses_of};
+ghost use Rattle.master_state.specs.Lookups.{reply_of};
 ghost use Rattle.tags_cell.specs.declared.messages.outs.CallResult.TheVariants as results;
 ghost use Rattle.over_core.specs.Plans.{parting_plan, plan_expiry, plan_leave, plan_reopen};
 ghost use Rattle.node_core.specs.declared.lines.Line.TheVariants as lines;
 
 use crate::plans::Plan;
-use cell_state::{
+use collections::Items;
+use lock_core::{Parting, Turn};
+use master_state::{
     LockPut, Master, SessionUpdate, Told, lapses_puts, lapses_replies, locked_lines, parting_lines,
     puts_of, told_by, turn_replies,
 };
-use lock_core::{Parting, Turn};
 use names_cell::Principal;
 use node_core::Line;
-use plain::Items;
 use std::alloc::AllocError;
 use tags_cell::{CallResult, ClientNumber, MessageNumber, Reply};
 

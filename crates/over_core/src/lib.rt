@@ -14,10 +14,10 @@ mod swept;
 mod tellings;
 
 pub use actions::{Action, first_action};
-pub use cell_parts::Taken;
 pub use cells::Cell;
 pub use deadlines::next_deadline;
 pub use laws::quiet_tells_of_sweeps;
+pub use master_parts::Taken;
 pub use plans::{Plan, plan_of};
 pub use sweeps::SweptThrice;
 pub use swept::Swept;

@@ -2,7 +2,7 @@
 ghost use Rattle.std.specs.Prelude.{◌≡◌, [], ◌∷◌, Some, None, map, IfOk};
 ghost use Rattle.node_core.specs.declared.lines.Line.TheVariants as lines;
 ghost use Rattle.over_core.specs.declared.actions.Action.TheVariants as actions;
-ghost use Rattle.cell_state.specs.NameSpace.{name_space};
+ghost use Rattle.master_state.specs.NameSpace.{name_space};
 ghost use Rattle.cell_core.specs.Effect.{gone_by_itself};
 ghost use Rattle.over_core.specs.Plans.{no_update, started_out, alive_out, plan_session, plan_start, plan_effect, plan_call, plan_live, plan_asked, plan_work, plan_tidied, plan_task, invalidation_of, plan_answer, plan_of};
 ghost use Rattle.cell_core.specs.Outcomes.{lock_ended, locking_puts};
@@ -13,11 +13,11 @@ use cell_core::{
     Cell, Effect, contested_by, effect_lines, effect_of, effect_replies, gone_by_itself,
     lock_ended, locking_puts, locking_replies,
 };
-use cell_parts::{Asked, Idle, Taken, Task, Work, is_leave};
-use cell_state::{LockPut, Master, SessionUpdate, Told, Update, told_by};
+use collections::{Bytes, Items, Table};
+use master_parts::{Asked, Idle, Taken, Task, Work, is_leave};
+use master_state::{LockPut, Master, SessionUpdate, Told, Update, told_by};
 use names_cell::{Name, Principal};
 use node_core::{Fault, Line};
-use plain::{Bytes, Items, Table};
 use session_core::Offer;
 use std::alloc::{AllocError, Global};
 use tags_cell::{Alive, Call, ClientNumber, Invalidation, MessageNumber, Out, Started};

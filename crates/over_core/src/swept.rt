@@ -1,9 +1,9 @@
 //! What a sweep prints and sends.
 ghost use Rattle.std.specs.Prelude.{◌≡◌};
 
-use cell_parts::Taken;
+use collections::Items;
+use master_parts::Taken;
 use node_core::Line;
-use plain::Items;
 use tags_cell::Out;
 
 /// What a sweep prints and sends, and whether it found nothing to do.

@@ -4,9 +4,9 @@ ghost use Rattle.over_core.specs.Plans.{notices_of, tellings_of};
 
 use crate::plans::Plan;
 use cell_core::{change_notices, contest_notices, locks_notices};
-use cell_parts::{Notice, Telling};
-use cell_state::Master;
-use plain::Items;
+use collections::Items;
+use master_parts::{Notice, Telling};
+use master_state::Master;
 use std::alloc::AllocError;
 
 /// What the clients of open handles are told of what is planned.

@@ -1,10 +1,10 @@
 //! A cache, the handles that Opens share, and the grace period, step by step.
 use crate::rights::name;
 use cache_core::{Cache, CacheOp, Kept, KeptHandles, Shared, Standing};
+use collections::Bytes;
 use lease_core::Lease;
 use names_cell::{Component, Name};
 use node_core::{Kind, Life, Listing, Node, View};
-use plain::Bytes;
 use std::alloc::Global;
 use std::process::Abort;
 use std::test::Fail;

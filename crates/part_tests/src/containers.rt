@@ -1,5 +1,5 @@
 //! Each public call on its happy path: that memory is there is what no clause says.
-use plain::{Bytes, Items, Secret, Table};
+use collections::{Bytes, Items, Secret, Table};
 use std::alloc::Global;
 use std::test::Fail;
 

@@ -1,7 +1,7 @@
 //! The texts of the lines, and a small map.
+use collections::{Bytes, Items};
 use names_cell::{Component, Name, Principal};
 use node_core::*;
-use plain::{Bytes, Items};
 use std::alloc::Global;
 use std::process::Abort;
 use std::test::Fail;

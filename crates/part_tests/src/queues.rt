@@ -1,9 +1,9 @@
 //! The changes that wait beside the rights that hold them up: at each step the change that is ready is the one that a walk
 //! finds.
 use crate::rights::name;
+use collections::Items;
 use gate_core::{Pending, Queue};
 use names_cell::Name;
-use plain::Items;
 use rights_core::Ending;
 use std::alloc::Global;
 use std::process::Abort;

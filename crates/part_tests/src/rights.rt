@@ -1,8 +1,8 @@
 //! Rights, and the changes that wait for them, step by step.
+use collections::Items;
 use gate_core::{Gate, Pending};
 use names_cell::Name;
 use node_core::Fault;
-use plain::Items;
 use rights_core::{Grant, Rights};
 use std::alloc::Global;
 use std::process::Abort;

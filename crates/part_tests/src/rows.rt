@@ -1,9 +1,8 @@
 //! The rows of a new store, and each public call once on its happy path.
+use collections::Secret;
 use names_cell::{Component, Name, Principal};
 use node_core::{Listing, View};
-use plain::Secret;
-use rows_cell::{ListRecords, Records, Rows, StoredNode};
-use settings_core::{Settings, SettingsFault};
+use rows_cell::{ListRecords, Records, Rows, Settings, SettingsFault, StoredNode};
 use std::alloc::Global;
 use std::test::Fail;
 

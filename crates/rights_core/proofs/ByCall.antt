@@ -11,8 +11,8 @@ use Rattle.std.specs.Map.{lookup, keys_of, values_of}
 use Rattle.std.specs.BTreeMap.{is_at, insert_entry}
 use Rattle.std.proofs.lemmas.Bool.Decides.{nat_tests}
 use Rattle.std.proofs.lemmas.Map.Lookups.{exact_unsigned}
-use Rattle.plain.proofs.Entries.{lookup_put}
-use Rattle.plain.proofs.Keys.{equal_itself, number_same, same_number, at_itself, same_key, apart}
+use Rattle.collections.proofs.Entries.{lookup_put}
+use Rattle.collections.proofs.Keys.{equal_itself, number_same, same_number, at_itself, same_key, apart}
 use Rattle.node_core.proofs.Orders.{sorted_insert}
 use Rattle.rights_core.specs.declared.cache_rights.CacheRight.{CacheRight}
 use Rattle.rights_core.specs.declared.endings.Ending.{Ending}

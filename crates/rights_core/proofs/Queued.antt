@@ -12,8 +12,8 @@ use Rattle.std.specs.BTreeMap.{is_at, insert_entry}
 use Rattle.std.proofs.lemmas.Bool.Decides.{nat_tests}
 use Rattle.std.proofs.lemmas.List.Sums.{sum_by-cons}
 use Rattle.std.proofs.lemmas.Map.Entries.{sum_by-remove_entry}
-use Rattle.plain.proofs.Keys.{number_same, same_number, at_itself, same_key, apart}
-use Rattle.plain.proofs.OneKey.{lookup_set, lookup_set_apart, lookup_put, lookup_put_apart, lookup_removed, lookup_removed_apart}
+use Rattle.collections.proofs.Keys.{number_same, same_number, at_itself, same_key, apart}
+use Rattle.collections.proofs.OneKey.{lookup_set, lookup_set_apart, lookup_put, lookup_put_apart, lookup_removed, lookup_removed_apart}
 use Rattle.node_core.proofs.Orders.{sorted_insert, sorted_remove}
 use Rattle.rights_core.specs.declared.cache_rights.CacheRight.{CacheRight}
 use Rattle.rights_core.specs.declared.endings.Ending.TheVariants as endings

@@ -7,7 +7,7 @@ use Rattle.std.specs.Ordering.{nat_cmp, is_eq, match_ordering}
 use Rattle.std.specs.Map.{keys_of}
 use Rattle.std.specs.Map.Calls.{RetainsPairs}
 use Rattle.std.specs.BTreeMap.{insert_entry}
-use Rattle.plain.proofs.Keys.{bytes_same, same_key}
+use Rattle.collections.proofs.Keys.{bytes_same, same_key}
 use Rattle.rights_core.specs.declared.cache_rights.CacheRight.{CacheRight}
 use Rattle.rights_core.specs.Rights.{is_held, is_held_on, next_invalidation, is_to_ask, with_asked, clients_to_ask, renumbered, with_next, asked_back}
 use Rattle.rights_core.specs.Laws.{AskingLeavesOthers, RenumberedAreAsked}

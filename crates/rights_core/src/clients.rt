@@ -6,7 +6,7 @@ ghost use Rattle.std.specs.BTreeMap.{is_at, insert_entry};
 ghost use Rattle.std.specs.List.Sorted.{IsStrictlySortedBy};
 ghost use Rattle.rights_core.specs.Clients.{listed};
 
-use plain::Table;
+use collections::Table;
 use std::alloc::{AllocError, Global};
 use std::marker::Model;
 

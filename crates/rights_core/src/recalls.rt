@@ -8,8 +8,8 @@ ghost use Rattle.rights_core.specs.Holds.{with_number, without_all, told};
 ghost use Rattle.rights_core.specs.Rights.{unacked_number, with_entry};
 
 use crate::cache_rights::CacheRight;
+use collections::Table;
 use names_cell::Name;
-use plain::Table;
 use std::alloc::{AllocError, Global};
 use std::collections::VecDeque;
 

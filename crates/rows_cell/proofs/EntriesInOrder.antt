@@ -10,7 +10,7 @@ use Rattle.std.specs.BTreeMap.{is_at, insert_entry}
 use Rattle.std.proofs.lemmas.Bool.{and_from}
 use Rattle.std.proofs.lemmas.Map.{lookup-none}
 use Rattle.std.proofs.lemmas.Map.Entries.{none_below_head}
-use Rattle.plain.proofs.Entries.{eq_at}
+use Rattle.collections.proofs.Entries.{eq_at}
 
 -- ---- the order of two keys
 

@@ -14,7 +14,7 @@ use Rattle.rows_cell.specs.declared.tables.StoredNode.{StoredNode}
 use Rattle.rows_cell.specs.Rows.{StoredNodes}
 use Rattle.rows_cell.specs.Sound.{sound, node_fits, is_directory_at}
 use Rattle.rows_cell.specs.Opening.{opening, opening_node}
-use Rattle.settings_core.specs.Settings.{Settled}
+use Rattle.rows_cell.specs.Settings.{Settled}
 
 pub joined : (a b : Bool) → a ≡ true → b ≡ true → (a && b) ≡ true
 joined a b e f = rw (e, f) refl

@@ -12,7 +12,7 @@ use Rattle.std.proofs.lemmas.Bool.Decides.{nat_tests}
 use Rattle.std.proofs.lemmas.Map.{lookup-none}
 use Rattle.std.proofs.lemmas.Map.Entries.{none_below_head}
 use Rattle.std.proofs.lemmas.Map.Lookups.{CmpEqualImpliesEq}
-use Rattle.plain.proofs.Entries.{eq_at}
+use Rattle.collections.proofs.Entries.{eq_at}
 use Rattle.rows_cell.specs.Sound.{are_distinct}
 
 -- a test that says less

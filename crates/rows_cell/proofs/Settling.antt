@@ -6,7 +6,7 @@ use Rattle.std.specs.List.Sorted.{IsStrictlySortedBy}
 use Rattle.std.specs.Cmp.{tied_itself}
 use Rattle.std.specs.Map.{keys_of, lookup, remove_entry}
 use Rattle.std.specs.BTreeMap.{is_at, insert_entry}
-use Rattle.plain.proofs.Entries.{lookup_put}
+use Rattle.collections.proofs.Entries.{lookup_put}
 use Rattle.rows_cell.specs.declared.keys.LockKey.{LockKey}
 use Rattle.rows_cell.specs.declared.tables.LockRow.{LockRow}
 use Rattle.rows_cell.specs.declared.tables.Rows.{Rows}

@@ -10,7 +10,7 @@ use Rattle.std.specs.BTreeMap.{is_at}
 use Rattle.std.proofs.lemmas.Map.{lookup-none}
 use Rattle.std.proofs.lemmas.Map.Entries.{none_below_head, option_filter}
 use Rattle.std.proofs.lemmas.Map.Lookups.{CmpEqualImpliesEq, exact_unsigned}
-use Rattle.plain.proofs.Entries.{eq_at, cond_apart}
+use Rattle.collections.proofs.Entries.{eq_at, cond_apart}
 use Rattle.rows_cell.specs.Keys.{lock_order}
 
 -- ---- the order of the keys of locks tells them apart

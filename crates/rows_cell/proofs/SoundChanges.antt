@@ -16,7 +16,7 @@ use Rattle.std.proofs.lemmas.Map.Lookups.{exact_bytes, exact_unsigned}
 use Rattle.std.proofs.lemmas.Slice.Eq.{bytes_eq-Decides}
 use Rattle.names_cell.specs.Text.{parent_of, cell_of, root_of}
 use Rattle.node_core.specs.declared.nodes.Node.{Node}
-use Rattle.plain.proofs.Entries.{lookup_put, eq_at}
+use Rattle.collections.proofs.Entries.{lookup_put, eq_at}
 use Rattle.rows_cell.specs.declared.tables.StoredNode.{StoredNode}
 use Rattle.rows_cell.specs.declared.tables.Session.{Session}
 use Rattle.rows_cell.specs.declared.keys.LockKey.{LockKey}

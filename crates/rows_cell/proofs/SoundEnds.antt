@@ -12,7 +12,7 @@ use Rattle.std.proofs.lemmas.Bool.{and_parts, and_from}
 use Rattle.std.proofs.lemmas.Bool.Decides.{nat_tests}
 use Rattle.std.proofs.lemmas.Cmp.{then_total, on_total}
 use Rattle.std.proofs.lemmas.Map.Lookups.{CmpEqualImpliesEq, exact_unsigned}
-use Rattle.plain.proofs.Entries.{lookup_put, eq_at}
+use Rattle.collections.proofs.Entries.{lookup_put, eq_at}
 use Rattle.rows_cell.specs.declared.tables.Session.{Session}
 use Rattle.rows_cell.specs.declared.tables.LockRow.{LockRow}
 use Rattle.rows_cell.specs.declared.tables.LockState.{LockState}

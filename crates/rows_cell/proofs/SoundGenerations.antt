@@ -14,7 +14,7 @@ use Rattle.std.proofs.lemmas.Map.Lookups.{CmpEqualImpliesEq, exact_bytes}
 use Rattle.names_cell.specs.Text.{parent_of, cell_of, root_of}
 use Rattle.node_core.specs.declared.nodes.Node.{Node}
 use Rattle.node_core.specs.Nodes.{Nodes, get_node}
-use Rattle.plain.proofs.Entries.{eq_at, cond_twice, cond_apart}
+use Rattle.collections.proofs.Entries.{eq_at, cond_twice, cond_apart}
 use Rattle.rows_cell.specs.declared.tables.StoredNode.{StoredNode}
 use Rattle.rows_cell.specs.declared.tables.LockRow.{LockRow}
 use Rattle.rows_cell.specs.declared.tables.LockState.{LockState}

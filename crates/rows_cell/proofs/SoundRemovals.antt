@@ -14,7 +14,7 @@ use Rattle.std.proofs.lemmas.Map.Lookups.{CmpEqualImpliesEq, exact_bytes}
 use Rattle.std.proofs.lemmas.Slice.Eq.{bytes_eq-Decides}
 use Rattle.names_cell.specs.Text.{is_slash, front_of, parent_of, cell_of, root_of, is_child}
 use Rattle.node_core.specs.Nodes.{has_children}
-use Rattle.plain.proofs.Entries.{eq_at}
+use Rattle.collections.proofs.Entries.{eq_at}
 use Rattle.rows_cell.specs.declared.tables.StoredNode.{StoredNode}
 use Rattle.rows_cell.specs.declared.tables.LockRow.{LockRow}
 use Rattle.rows_cell.specs.declared.tables.LockState.{LockState}

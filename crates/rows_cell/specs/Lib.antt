@@ -1,6 +1,7 @@
-pub use Rattle.plain.specs.Results
+pub use Rattle.collections.specs.Results
 pub use Rattle.names_cell.specs.Text
 pub use Rattle.node_core.specs.Nodes
+pub mod Settings
 pub mod Keys
 pub mod Rows
 pub mod Undo
@@ -10,3 +11,4 @@ pub mod Stores
 pub mod Indexes
 pub mod Counts
 pub mod Opening
+pub mod Failing

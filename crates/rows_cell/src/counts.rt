@@ -3,7 +3,7 @@ ghost use Rattle.std.specs.Prelude.{◌≡◌, length, filter};
 ghost use Rattle.rows_cell.specs.Counts.{counts_of};
 
 use crate::tables::{Rows, Session};
-use plain::Table;
+use collections::Table;
 
 /// How much the rows of a cell hold.
 #[derive(Clone, Copy, Debug, PartialEq, Eq)]

@@ -1,5 +1,5 @@
 //! The key of a lock's row.
-use plain::Same;
+use collections::Same;
 
 /// The key of a lock's row: the node's instance, and who holds it, by client and handle number. Of a lapsed lock
 /// client and handle are 0. Ordered by instance, then client, then handle.

@@ -8,11 +8,11 @@ ghost use Rattle.rows_cell.specs.Opening.{opening, opening_node};
 ghost use Rattle.rows_cell.specs.Sound.{sound};
 
 use crate::records::{Records, StoreFault};
+use crate::settings::{Settings, component};
 use crate::tables::{Edit, Rows, StoredNode};
+use collections::{Bytes, Items, Table};
 use names_cell::{Component, Name};
 use node_core::{Kind, Life, Node};
-use plain::{Bytes, Items, Table};
-use settings_core::{Settings, component};
 use std::alloc::{AllocError, Global};
 
 /// Rows in memory, which no crash outlives. No call is refused but for want of memory.

@@ -2,8 +2,8 @@
 ghost use Rattle.std.specs.Prelude.{◌≡◌};
 
 use crate::tables::{Edit, Rows};
+use collections::Items;
 use node_core::Fault;
-use plain::Items;
 use std::alloc::AllocError;
 use thiserror::Error;
 

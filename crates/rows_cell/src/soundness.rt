@@ -10,9 +10,9 @@ ghost use Rattle.rows_cell.specs.Indexes.{IsIndexed, HasGenerations, HasGroups, 
 
 use crate::keys::LockKey;
 use crate::tables::{LockRow, LockState, Rows, Session, StoredNode};
+use collections::Table;
 use names_cell::{Component, Name};
 use node_core::{CONTENT_LIMIT, Kind, NUMBER_LIMIT, Node};
-use plain::Table;
 use std::alloc::{AllocError, Global};
 
 /// The longest lock-delay, in milliseconds.

@@ -6,14 +6,14 @@ ghost use Rattle.std.specs.Map.{remove_entry};
 ghost use Rattle.std.specs.BTreeMap.{is_at};
 ghost use Rattle.std.specs.Cmp.Lexicographic.{slice_cmp};
 ghost use Rattle.std.specs.Ordering.{nat_cmp};
-ghost use Rattle.plain.specs.Tables.{with_former};
+ghost use Rattle.collections.specs.Tables.{with_former};
 ghost use Rattle.rows_cell.specs.Rows.{edited, changed_rows, takes_memory, map_of, stored_node, put_stored, at_generation, without_locks_of};
 ghost use Rattle.rows_cell.specs.Undo.{removes_node, is_of_locks};
 
 use crate::keys::LockKey;
+use collections::{Items, Same, Secret, Table};
 use names_cell::{Component, Name, Principal};
 use node_core::{Map, Node};
-use plain::{Items, Same, Secret, Table};
 use std::alloc::{AllocError, Global};
 
 /// A node as it is stored, with the generation of its lock.

@@ -8,9 +8,9 @@ ghost use Rattle.rows_cell.specs.Undo.{restored, all_restored, takes_away, remov
 
 use crate::keys::LockKey;
 use crate::tables::{Edit, LockRow, Rows, Session, StoredNode, generation_at};
+use collections::{Items, Table};
 use names_cell::Name;
 use node_core::Node;
-use plain::{Items, Table};
 use std::alloc::{AllocError, Global};
 use std::mem;
 

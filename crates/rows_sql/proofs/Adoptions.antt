@@ -17,7 +17,7 @@ use Rattle.rows_cell.specs.declared.tables.Edit.{Edit}
 use Rattle.rows_cell.specs.declared.tables.Edit.TheVariants.{PutNode}
 use Rattle.rows_cell.specs.Rows.{StoredNodes}
 use Rattle.rows_cell.specs.Opening.{opening}
-use Rattle.settings_core.specs.Settings.{Settled}
+use Rattle.rows_cell.specs.Settings.{Settled}
 use Rattle.rows_sql.specs.OurSchema.{first_schema, unindexed_schema, the_schema}
 use Rattle.rows_cell.specs.Sound.{sound}
 use Rattle.rows_sql.specs.declared.schema.ours.Version.{Version}

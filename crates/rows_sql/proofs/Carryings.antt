@@ -10,7 +10,7 @@ use Rattle.sqlite.specs.State.{HasCleanDisk, Survives}
 use Rattle.sqlite.specs.Held.{Held, state}
 use Rattle.rows_cell.specs.Sound.{sound}
 use Rattle.rows_cell.specs.declared.tables.Rows.{Rows}
-use Rattle.settings_core.specs.Settings.{Settled}
+use Rattle.rows_cell.specs.Settings.{Settled}
 use Rattle.rows_sql.specs.OurSchema.{first_schema}
 use Rattle.rows_sql.specs.declared.schema.ours.Version.TheVariants.{First, Unindexed, Second}
 use Rattle.rows_sql.specs.Held.{Says, SaysAs}

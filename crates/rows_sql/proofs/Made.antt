@@ -9,7 +9,7 @@ use Rattle.sqlite.proofs.Callers.{survives_begin}
 use Rattle.sqlite_trees.specs.declared.store.Store.{Ghosts}
 use Rattle.rows_cell.specs.declared.tables.Edit.{Edit}
 use Rattle.rows_cell.specs.Opening.{opening}
-use Rattle.settings_core.specs.Settings.{Settled}
+use Rattle.rows_cell.specs.Settings.{Settled}
 use Rattle.rows_cell.specs.Rows.{changed_rows}
 use Rattle.rows_sql.specs.Held.{Says}
 use Rattle.rows_sql.specs.Ready.{tables_of}

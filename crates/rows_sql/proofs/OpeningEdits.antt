@@ -9,7 +9,7 @@ use Rattle.node_core.specs.declared.nodes.Node.{Node}
 use Rattle.rows_cell.specs.declared.tables.Rows.{Rows}
 use Rattle.rows_cell.specs.declared.tables.Edit.TheVariants.{PutNode}
 use Rattle.rows_cell.specs.Opening.{opening}
-use Rattle.settings_core.specs.Settings.{Settled}
+use Rattle.rows_cell.specs.Settings.{Settled}
 use Rattle.rows_cell.specs.Rows.{changed_rows}
 use Rattle.rows_sql.specs.Creation.{bare_rows, opening_edits}
 

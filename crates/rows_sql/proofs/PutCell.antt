@@ -34,7 +34,7 @@ use Rattle.sqlite_rules.proofs.ListLemmas.{all_has}
 use Rattle.sqlite_rules.proofs.TableLemmas.{int_is}
 use Rattle.sqlite.specs.State.{State, Executes}
 use Rattle.names_cell.specs.Text.{is_component}
-use Rattle.settings_core.specs.Settings.{Settled}
+use Rattle.rows_cell.specs.Settings.{Settled}
 use Rattle.rows_sql.specs.OurSchema.{the_schema, meta}
 use Rattle.rows_sql.specs.Decode.{meta_from, meta_in, node_in, session_in, lock_in, child_in, secret_in}
 use Rattle.rows_sql.specs.Held.{HoldsNodes, HoldsSessions, HoldsLocks, HoldsChildren, meta_of}

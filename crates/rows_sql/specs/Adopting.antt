@@ -7,7 +7,7 @@ use Rattle.sqlite.specs.Effect.{Database, IsDatabase}
 use Rattle.sqlite.specs.State.{State, HasCleanDisk}
 use Rattle.sqlite.specs.Held.{Held, state}
 use Rattle.rows_cell.specs.Opening.{opening}
-use Rattle.settings_core.specs.Settings.{Settled}
+use Rattle.rows_cell.specs.Settings.{Settled}
 use Rattle.rows_cell.specs.declared.tables.Rows.{Rows}
 use Rattle.node_core.specs.Limits.{number_limit}
 use Rattle.rows_cell.specs.Sound.{sound}

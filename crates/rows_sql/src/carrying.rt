@@ -16,8 +16,7 @@ use crate::reading::{children_of, load_as};
 use crate::schema::Version;
 use crate::writing::carry_over;
 use node_core::NUMBER_LIMIT;
-use rows_cell::{Rows, StoreFault, is_sound};
-use settings_core::Settings;
+use rows_cell::{Rows, Settings, StoreFault, is_sound};
 use sqlite::{Alter, Connection};
 use std::alloc::Global;
 

@@ -13,8 +13,7 @@ ghost use Rattle.rows_sql.specs.Adopting.{IsAnew, IsTaken, IsLeftAlone};
 use crate::carrying::load_sound_as;
 use crate::schema::Version;
 use crate::writing::add_index;
-use rows_cell::{Rows, StoreFault};
-use settings_core::Settings;
+use rows_cell::{Rows, Settings, StoreFault};
 use sqlite::{Alter, Connection};
 use std::alloc::Global;
 

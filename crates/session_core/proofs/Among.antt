@@ -6,7 +6,7 @@ use Rattle.std.specs.List.{AllByRecursion, list_any}
 use Rattle.std.specs.List.Sorted.{IsStrictlySortedBy}
 use Rattle.std.specs.Map.{keys_of}
 use Rattle.std.specs.BTreeMap.{is_at}
-use Rattle.timer_core.specs.Timers.{has_key}
+use Rattle.collections.specs.Timers.{has_key}
 use Rattle.session_core.proofs.Keys.{below, same_key}
 use Rattle.session_core.proofs.Lowest.{lowest_is}
 use Rattle.session_core.specs.declared.records.Session.{Session}

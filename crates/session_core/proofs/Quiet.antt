@@ -16,11 +16,11 @@ use Rattle.node_core.specs.Limits.{number_limit}
 use Rattle.event_core.specs.Queue.{count_of, is_exhausted}
 use Rattle.session_core.specs.Session.{events_of, owes, has_heard, nears_end, is_given_up, is_due, is_client_expired, is_due_by, is_client_due_by}
 use Rattle.session_core.specs.Sessions.{SessionTable, has_spent_events, all_heard, passes, AreAllAmong}
-use Rattle.timer_core.specs.Timers.{TimerState, never, has_key, wakes}
+use Rattle.collections.specs.Timers.{TimerState, never, has_key, wakes}
 use Rattle.session_core.specs.declared.bounds.Bounds.{Bounds}
 use Rattle.session_core.specs.declared.bounds.Moments.{Moments}
 use Rattle.session_core.specs.Quiet.{end_moment, due_moment, answer_moment, moments_of, IsNoted, AreNoted, is_client_unheard, HaveAtMost}
-use Rattle.plain.proofs.Keys.{same_key}
+use Rattle.collections.proofs.Keys.{same_key}
 use Rattle.session_core.proofs.OneClient.{lookup_set, lookup_set_apart, lookup_put, lookup_put_apart}
 
 -- ---- what is noted, as sessions come, change and go

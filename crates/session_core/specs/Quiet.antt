@@ -4,7 +4,7 @@ use Rattle.std.specs.Option.{option_map_or}
 use Rattle.std.specs.Map.{values_of, lookup}
 use Rattle.std.specs.BTreeMap.{is_at}
 use Rattle.std.specs.Ordering.{nat_cmp}
-use Rattle.timer_core.specs.Timers.{TimerState, never, wakes}
+use Rattle.collections.specs.Timers.{TimerState, never, wakes}
 use Rattle.session_core.specs.declared.bounds.Moments.{Moments}
 use Rattle.session_core.specs.declared.records.Session.{Session}
 use Rattle.event_core.specs.Queue.{count_of}

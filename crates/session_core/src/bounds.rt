@@ -2,8 +2,8 @@
 ghost use Rattle.std.specs.Prelude.{◌≡◌, ℕ, [], false, nat_eq, max};
 ghost use Rattle.session_core.specs.Quiet.{IsNoted};
 
+use collections::Timers;
 use std::alloc::Global;
-use timer_core::Timers;
 
 // From when on something may be to be done for a session by itself: `u64::MAX` stands for never.
 #[derive(Clone, Copy)]

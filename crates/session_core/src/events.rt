@@ -5,8 +5,8 @@ ghost use Rattle.session_core.specs.Session.{events_of, told};
 
 use crate::records::Session;
 use crate::sessions::Sessions;
+use collections::Items;
 use node_core::{Event, NUMBER_LIMIT};
-use plain::Items;
 use std::alloc::{AllocError, Global};
 use tags_cell::NumberedEvent;
 

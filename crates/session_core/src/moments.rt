@@ -2,14 +2,14 @@
 ghost use Rattle.std.specs.Prelude.{◌≡◌, ◌≤◌};
 ghost use Rattle.std.specs.Option.{option_map_or};
 ghost use Rattle.lease_core.specs.Lease.{longest_lease};
-ghost use Rattle.timer_core.specs.Timers.{never};
+ghost use Rattle.collections.specs.Timers.{never};
 ghost use Rattle.session_core.specs.Quiet.{end_moment, answer_moment, is_client_unheard, AreNoted};
 
 use crate::bounds::Bounds;
 use crate::records::Session;
 use crate::sessions::Sessions;
+use collections::Timers;
 use std::collections::BTreeMap;
-use timer_core::Timers;
 
 impl<K> Sessions<K> {
     ghost use Rattle.session_core.specs.Sessions.{lowest, passes, session_of};

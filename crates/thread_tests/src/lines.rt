@@ -1,6 +1,6 @@
 //! What runs of clients print.
-use live_cell::{Idle, live_with};
 use std::test::Fail;
+use threads::{Idle, live_with};
 
 // Clients, rounds, the status and what is printed.
 const RUNS: &[(u64, u64, u8, &str)] = &[

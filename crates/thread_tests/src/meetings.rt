@@ -1,8 +1,8 @@
 //! Clients that run at once.
-use live_cell::{Turn, live_with};
 use std::sync::atomic::{AtomicU64, Ordering};
 use std::test::Fail;
 use std::thread::yield_now;
+use threads::{Turn, live_with};
 
 // Who comes first waits for the other, for so many turns at most.
 const TURNS: u64 = 10_000_000;

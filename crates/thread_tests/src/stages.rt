@@ -3,19 +3,19 @@ ghost use Rattle.std.specs.Prelude.{◌≡◌, None, IfOk, OnOk};
 ghost use Rattle.cache_core.specs.Caches.{new_cache};
 
 use client_core::{Ask, Asked, Beaten, Client, Given, Outcome};
-use live_cell::new_cell;
+use collections::Items;
 use names_cell::Principal;
 use node_core::{Fault, Line};
 use over_core::{Cell, Swept, Taken};
-use plain::Items;
 use rows_cell::{ListRecords, Settings};
-use script_cell::{Parsed, read_step};
+use scripts::{Parsed, read_step};
 use share_cell::{Keeper, Viewer};
 use std::alloc::Global;
 use std::collections::VecDeque;
 use std::sync::Wait;
 use tags_cell::{ClientNumber, Out, Request};
-use world_core::{Step, Ticks};
+use threads::new_cell;
+use world_steps::{Step, Ticks};
 
 // A message on its way.
 #[derive(Drop)]

@@ -2,11 +2,10 @@
 ghost use Rattle.std.specs.Prelude.{◌≡◌, [], IfOk};
 ghost use Rattle.watch_cell.specs.Views.{watched};
 
-use live_cell::{give_up, new_cell, retire};
+use collections::Bytes;
 use names_cell::{Name, Principal};
 use node_core::{Fault, Life};
 use over_core::Cell;
-use plain::Bytes;
 use rows_cell::{ListRecords, Records, Rows, Settings};
 use std::alloc::Global;
 use std::marker::Brand;
@@ -18,6 +17,7 @@ use tags_cell::{
     Call, CallMessage, ClientNumber, Create, Disposition, Events, MessageNumber, Mode, NewNode,
     Open, Request, Start,
 };
+use threads::{give_up, new_cell, retire};
 use watch_cell::{Blanks, Closed, Event, Opening, Pass, Watch};
 
 // What is done with a watch and its passes.

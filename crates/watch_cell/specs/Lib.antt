@@ -1,9 +1,9 @@
-pub use Rattle.plain.specs.Results
+pub use Rattle.collections.specs.Results
 pub use Rattle.rows_cell.specs.Rows
 pub use Rattle.rows_cell.specs.Stores
 pub use Rattle.rights_core.specs.Rights
 pub use Rattle.rights_core.specs.Grants
-pub use Rattle.cell_state.specs.State
+pub use Rattle.master_state.specs.State
 pub use Rattle.cell_core.specs.Step
 pub use Rattle.over_core.specs.Kept
 pub use Rattle.over_core.specs.Sweep

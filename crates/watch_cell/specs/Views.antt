@@ -1,7 +1,7 @@
 -- What contracts see of a watch's types.
 use Rattle.std.specs.Prelude.{ℕ, List, [], ◌∷◌, ◌++◌, suc, zero, ◌+◌}
 use Rattle.rows_cell.specs.declared.tables.Rows.{Rows}
-use Rattle.cell_state.specs.State.{MasterState, master_of}
+use Rattle.master_state.specs.State.{MasterState, master_of}
 use Rattle.over_core.specs.Kept.{CellState}
 use Rattle.over_core.specs.declared.swept.Swept.{Swept}
 use Rattle.rights_core.specs.declared.totals.Totals.{Totals}

@@ -1,9 +1,9 @@
 //! Values that are compared whole.
 ghost use Rattle.std.specs.Prelude.{◌≡◌, ◌↔◌, IsTrue};
 
+use collections::{Bytes, Items};
 use names_cell::{Component, Name, Principal};
 use node_core::Listing;
-use plain::{Bytes, Items};
 use tags_cell::HandleBytes;
 
 /// A type whose values can be compared whole. Costs their size.

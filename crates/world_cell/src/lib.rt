@@ -1,8 +1,11 @@
 //! A world: records, a master while one is up, clients, and the messages between them.
+//!
+//! What holds of every world and of every run of its steps: definitions, and the proofs of them from the table of steps.
+//! No code.
 #![tactic(auto)]
 
 mod runs;
 mod worlds;
 
-pub use world_core::Step;
+pub use world_steps::Step;
 pub use worlds::World;

@@ -3,22 +3,22 @@ ghost use Rattle.std.specs.Prelude.{◌≡◌, ◌≤◌, ◌++◌, ◌∷◌, [
 ghost use Rattle.rows_cell.specs.Rows.{map_of};
 ghost use Rattle.node_core.specs.declared.lines.Line.{Line as PrintedLine};
 ghost use Rattle.node_core.specs.declared.views.Mod.{Mod};
-ghost use Rattle.world_laws.specs.Consistent.{IsConsistent};
+ghost use Rattle.world_cell.specs.Consistent.{IsConsistent};
 ghost use Rattle.rows_cell.specs.Sound.{is_live_in};
-ghost use Rattle.world_core.specs.World.{IsUndoubted};
-ghost use Rattle.world_laws.specs.Runs.{AnyRun, map_at, after_lines, epoch_at, live_at, LeasesKeepSessions, AreJoint, KeepsClocksFair, AreRecordedOnce, applied, Rises, IsOfCall, IsOfIdle};
-ghost use Rattle.world_core.specs.Made.{WasRefused, AnyStep};
-ghost use Rattle.world_laws.specs.Served.{ServesPresentByThen};
-ghost use Rattle.world_laws.specs.Locks.{HasLegalLocks, NoGenerationTwice};
-ghost use Rattle.world_laws.specs.Told.{ShowsNoOlder};
-ghost use Rattle.world_laws.specs.Laws.{HoldsOfRuns};
+ghost use Rattle.world_steps.specs.World.{IsUndoubted};
+ghost use Rattle.world_cell.specs.Runs.{AnyRun, map_at, after_lines, epoch_at, live_at, LeasesKeepSessions, AreJoint, KeepsClocksFair, AreRecordedOnce, applied, Rises, IsOfCall, IsOfIdle};
+ghost use Rattle.world_steps.specs.Made.{WasRefused, AnyStep};
+ghost use Rattle.world_cell.specs.Served.{ServesPresentByThen};
+ghost use Rattle.world_cell.specs.Locks.{HasLegalLocks, NoGenerationTwice};
+ghost use Rattle.world_cell.specs.Told.{ShowsNoOlder};
+ghost use Rattle.world_cell.specs.RunLaws.{HoldsOfRuns};
 
 use crate::worlds::World;
+use collections::Items;
 use node_core::{Fault, Line};
-use plain::Items;
 use rows_cell::Records;
 use std::alloc::{AllocError, Global};
-use world_core::Step;
+use world_steps::Step;
 
 impl<R: Records + Drop> World<R> {
     /// Steps, one behind the other; a refused step is the one line that says so. Where memory ends, the steps made so

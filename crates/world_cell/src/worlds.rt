@@ -1,18 +1,17 @@
 //! A world.
 ghost use Rattle.std.specs.Prelude.{◌≡◌, ◌∷◌, [], Ok, IfOk, IfErr, OnOk, OnErr, is_some};
 ghost use Rattle.rows_cell.specs.Rows.{map_of};
-ghost use Rattle.world_core.specs.World.{opened, store_in, world_sweep, step_edits, IsUndoubted, IsStored, IsLeft, MayRefuseStep};
-ghost use Rattle.world_core.specs.Made.{WasMade, WasRefused};
-ghost use Rattle.world_laws.specs.Served.{ServesPresent};
-ghost use Rattle.world_laws.specs.Locks.{HasLegalLocks, CountsHolds};
+ghost use Rattle.world_steps.specs.World.{opened, store_in, world_sweep, step_edits, IsUndoubted, IsStored, IsLeft, MayRefuseStep};
+ghost use Rattle.world_steps.specs.Made.{WasMade, WasRefused};
+ghost use Rattle.world_cell.specs.Served.{ServesPresent};
+ghost use Rattle.world_cell.specs.Locks.{HasLegalLocks, CountsHolds};
 
+use collections::Items;
 use node_core::{Fault, Line};
-use plain::Items;
-use rows_cell::Records;
-use settings_core::Settings;
+use rows_cell::{Records, Settings};
 use std::alloc::Global;
 use std::marker::Model;
-use world_core::{Message, Step, SweepResult, WorldParts};
+use world_steps::{Message, Step, SweepResult, WorldParts};
 
 /// A cell with all that happens around it: records, at most one master, clients, and every message that was sent. To a
 /// contract, plain lists of these. Where nothing that was read from the records is in doubt, they fit one another always
@@ -23,8 +22,8 @@ pub struct World<R: Records> {
 }
 
 impl<R: Records> Model for World<R> {
-    ghost use Rattle.world_core.specs.World.{WorldView, IsUndoubted};
-    ghost use Rattle.world_laws.specs.Consistent.{IsConsistent};
+    ghost use Rattle.world_steps.specs.World.{WorldView, IsUndoubted};
+    ghost use Rattle.world_cell.specs.Consistent.{IsConsistent};
 
     ghost Value = { WorldView };
 

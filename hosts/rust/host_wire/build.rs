@@ -1,6 +1,6 @@
-//! Links the library of crates/cell_server, as `rt lib` builds it, and the kit's small C library, by which it reaches malloc, realloc
+//! Links the library of crates/server_exports, as `rt lib` builds it, and the kit's small C library, by which it reaches malloc, realloc
 //! and free. The library lies in the folder that CELL_SERVER_LIBRARY names, else in the one of CELL_CLIENT_LIBRARY, else in
-//! crates/cell_server/out. The kit is the folder that RATTLE_KIT names, else the one of the page that `rt doc` prints.
+//! crates/server_exports/out. The kit is the folder that RATTLE_KIT names, else the one of the page that `rt doc` prints.
 
 use std::path::{Path, PathBuf};
 use std::process::Command;
@@ -10,12 +10,12 @@ fn main() {
         println!("cargo:rerun-if-env-changed={name}");
     }
     let kit = std::env::var("RATTLE_KIT").unwrap_or_else(|_| kit_of_rt());
-    let made = Path::new(env!("CARGO_MANIFEST_DIR")).join("../../../crates/cell_server/out");
+    let made = Path::new(env!("CARGO_MANIFEST_DIR")).join("../../../crates/server_exports/out");
     let named = std::env::var_os("CELL_SERVER_LIBRARY").or_else(|| std::env::var_os("CELL_CLIENT_LIBRARY"));
     let folder = named.map_or(made, PathBuf::from);
     println!("cargo:rerun-if-changed={}", folder.join("libcell_server.a").display());
     println!("cargo:rustc-link-search=native={}", folder.display());
-    println!("cargo:rustc-link-lib=static=cell_server");
+    println!("cargo:rustc-link-lib=static=server_exports");
     println!("cargo:rustc-link-search=native={kit}/c");
     println!("cargo:rustc-link-lib=static=libc_c");
 }

@@ -3,8 +3,8 @@ ghost use Rattle.std.specs.Prelude.{◌≡◌, IfOk};
 ghost use Rattle.client_core.specs.Calls.{call_on};
 ghost use Rattle.client_core.specs.Asks.{asks_to_leave};
 
+use collections::{Bytes, Items};
 use node_core::{Answer, Fault, Line, LockMode};
-use plain::{Bytes, Items};
 use std::alloc::AllocError;
 use tags_cell::{AclNames, Call, HandleBytes, Open, Request};
 

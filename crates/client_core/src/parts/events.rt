@@ -4,8 +4,8 @@ ghost use Rattle.std.specs.Prelude.{◌≡◌, ◌++◌, IfOk};
 ghost use Rattle.client_core.specs.InOrder.{follow};
 ghost use Rattle.client_core.specs.Events.{event_numbers, are_events_in_order, last_event, event_lines};
 
+use collections::Items;
 use node_core::Line;
-use plain::Items;
 use std::alloc::AllocError;
 use tags_cell::NumberedEvent;
 

@@ -4,9 +4,9 @@ ghost use Rattle.client_core.specs.Opens.{is_plain, is_read_only, only_reads, is
 
 use crate::parts::asks::NodeCall;
 use cache_core::{Kept, Shared};
+use collections::Bytes;
 use names_cell::Name;
 use node_core::{Answer, Fault, Kind, Life, Right, View};
-use plain::Bytes;
 use std::alloc::AllocError;
 use tags_cell::{HandleBytes, Mode, NewHandle, Open, Ordinal};
 

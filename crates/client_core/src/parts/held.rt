@@ -2,7 +2,7 @@
 ghost use Rattle.std.specs.Prelude.{◌≡◌, OnOk, OnErr};
 ghost use Rattle.std.specs.BTreeMap.{insert_entry};
 ghost use Rattle.std.specs.Ordering.{nat_cmp};
-ghost use Rattle.plain.specs.Results.{Gives};
+ghost use Rattle.collections.specs.Results.{Gives};
 ghost use Rattle.cache_core.specs.Kept.{with_kept};
 ghost use Rattle.client_core.specs.Targets.{opening_of};
 ghost use Rattle.client_core.specs.Handles.{handle_of, usable_handle, has_number, put_under, handles_behind, kept_behind};
@@ -10,8 +10,8 @@ ghost use Rattle.client_core.specs.Handles.{handle_of, usable_handle, has_number
 use crate::parts::handles::{ClientHandle, is_shareable, share_of};
 use crate::parts::targets::Outstanding;
 use cache_core::{Kept, KeptHandles};
+use collections::{Bytes, Table};
 use node_core::{Fault, NUMBER_LIMIT};
-use plain::{Bytes, Table};
 use std::alloc::AllocError;
 use std::mem;
 use tags_cell::{CallResult, NewHandle};

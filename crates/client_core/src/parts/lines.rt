@@ -4,9 +4,9 @@ ghost use Rattle.std.specs.Option.{option_to_list};
 ghost use Rattle.cache_core.specs.Standings.{turn_line};
 
 use cache_core::{Shared, Standing};
+use collections::Items;
 use names_cell::Name;
 use node_core::{Answer, Line, View};
-use plain::Items;
 use std::alloc::{AllocError, Global};
 
 /// A line by itself.

@@ -7,9 +7,9 @@ use crate::parts::handles::is_plain;
 use crate::parts::lines::pushed;
 use crate::parts::targets::{Outstanding, Target};
 use cache_core::Shared;
+use collections::{Bytes, Items};
 use names_cell::Name;
 use node_core::{Answer, Fault, Line, View};
-use plain::{Bytes, Items};
 use std::alloc::AllocError;
 
 /// The sequencer under which the outstanding call was sent.

@@ -1,7 +1,7 @@
 //! What comes of a message, and of the asking for a Beat.
 
+use collections::Items;
 use node_core::{Fault, Line};
-use plain::Items;
 use tags_cell::Request;
 
 /// What comes of a message that a client was given.

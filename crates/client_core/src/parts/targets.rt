@@ -4,7 +4,7 @@ ghost use Rattle.std.specs.Option.{option_copied};
 ghost use Rattle.client_core.specs.Targets.{is_on, is_leaving};
 ghost use Rattle.client_core.specs.Targets.{opening_by, sequencer_by};
 
-use plain::Bytes;
+use collections::Bytes;
 use tags_cell::{Call, Open, Request};
 
 /// What the reply to a call is for. Handles go by the client's own numbers for them.

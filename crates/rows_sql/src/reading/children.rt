@@ -4,8 +4,8 @@ ghost use Rattle.names_cell.specs.Text.{parent_of};
 ghost use Rattle.rows_sql.specs.Children.{children_of, children_for, put_under};
 
 use crate::schema::Version;
+use collections::Table;
 use names_cell::Name;
-use plain::Table;
 use rows_cell::StoredNode;
 use std::alloc::{AllocError, Global};
 

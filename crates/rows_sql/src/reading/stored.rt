@@ -5,9 +5,9 @@ ghost use Rattle.sqlite.specs.Edit.{id_in};
 ghost use Rattle.rows_sql.specs.Decode.{count_of, count_in, node_with, name_in, component_in, secret_in, kind_of, life_of, live_of, lock_state_of, numbers_in, acls_in, node_in, session_in, lock_in, child_in, meta_as};
 
 use crate::schema::Version;
+use collections::{Bytes, Secret};
 use names_cell::{Component, Name, NameFault, Principal};
 use node_core::{Kind, Life, Node};
-use plain::{Bytes, Secret};
 use rows_cell::{LockKey, LockRow, LockState, Session, StoredNode};
 use sqlite::Row;
 use sqlite_value::value::ValueRef;

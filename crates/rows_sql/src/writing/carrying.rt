@@ -8,8 +8,8 @@ ghost use Rattle.rows_sql.specs.Carrying.{SetsVersion, PutsChildren, AddsAll, Ca
 use crate::writing::creation::make_fifth;
 use crate::writing::edits::{put_child, run};
 use crate::writing::values::number;
+use collections::Table;
 use names_cell::Name;
-use plain::Table;
 use sqlite::{Alter, Connection, Error, Transaction};
 
 // Sets the number of the version, and the epoch.

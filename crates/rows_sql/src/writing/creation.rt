@@ -8,8 +8,7 @@ ghost use Rattle.rows_sql.specs.Creation.{no_schema, with_meta, with_nodes, with
 
 use crate::writing::changes::edit_all;
 use crate::writing::edits::run;
-use rows_cell::Edit;
-use settings_core::Settings;
+use rows_cell::{Edit, Settings};
 use sqlite::{Alter, Connection, Error, Transaction};
 use sqlite_value::value::ValueRef;
 

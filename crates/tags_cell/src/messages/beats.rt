@@ -3,9 +3,9 @@ ghost use Rattle.std.specs.Prelude.{◌≡◌};
 
 use crate::clients::ClientNumber;
 use crate::numbers::MessageNumber;
+use collections::{Items, Same};
 use names_cell::Name;
 use node_core::Event;
-use plain::{Items, Same};
 use std::alloc::AllocError;
 
 /// A client with a session lets its master hear of it, and acknowledges what it has processed.

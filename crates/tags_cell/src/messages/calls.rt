@@ -4,9 +4,9 @@ ghost use Rattle.std.specs.Prelude.{◌≡◌};
 use crate::handle_bytes::HandleBytes;
 use crate::masks::Events;
 use crate::modes::Mode;
+use collections::{Bytes, Same};
 use names_cell::{Component, Name};
 use node_core::{Life, LockMode};
-use plain::{Bytes, Same};
 use std::alloc::AllocError;
 
 /// Whether a node that is to be made may be there already.

@@ -7,8 +7,8 @@ use crate::handle_bytes::HandleBytes;
 use crate::messages::beats::Alive;
 use crate::numbers::MessageNumber;
 use crate::ordinals::Ordinal;
+use collections::{Bytes, Same};
 use node_core::{Fault, Life, Stat, View};
-use plain::{Bytes, Same};
 use std::alloc::AllocError;
 
 /// The client has a session.

@@ -6,8 +6,8 @@ use crate::clients::ClientNumber;
 use crate::messages::beats::Beat;
 use crate::messages::calls::Call;
 use crate::numbers::MessageNumber;
+use collections::{Bytes, Same};
 use names_cell::Principal;
-use plain::{Bytes, Same};
 use std::alloc::AllocError;
 
 /// Asks for a session (Burrows 2006, section 2.7). A client that sends one has no epoch yet.

@@ -2,7 +2,7 @@
 //!
 //! A stream is blocks, each behind its length in four bytes, big-endian. The first block each way greets: the client says who it
 //! is ([`Hello`]), the server which number the connection is bound to ([`Welcome`]). Every later block is one message between
-//! client and master, and what a master and its server say to each other are blocks too: their bytes the library of `crates/cell_server` knows alone. A
+//! client and master, and what a master and its server say to each other are blocks too: their bytes the library of `crates/server_exports` knows alone. A
 //! server that doesn't hand a call on says why ([`Notice`]).
 
 mod addresses;

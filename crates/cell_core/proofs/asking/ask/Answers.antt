@@ -1,6 +1,6 @@
 use Rattle.std.proofs.Common.{◌≡◌, Some, sym, subst}
 use Rattle.rights_core.specs.Rights.{clients_to_ask, renumbered}
-use Rattle.cell_state.specs.State.{MasterState}
+use Rattle.master_state.specs.State.{MasterState}
 use Rattle.cell_core.specs.Asking.{AboveFits}
 use Rattle.cell_core.proofs.ToAsk.{asked_behind}
 use Rattle.cell_core.proofs.asking.ask.Goals as goal

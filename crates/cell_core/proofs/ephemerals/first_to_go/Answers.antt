@@ -1,7 +1,7 @@
 use Rattle.std.proofs.Common.{ap, ◌∙◌}
-use Rattle.cell_parts.specs.Ephemerals.{first_to_go}
-use Rattle.cell_state.specs.State.{tables_of}
-use Rattle.cell_state.proofs.MissingRights.{by_value}
+use Rattle.master_parts.specs.Ephemerals.{first_to_go}
+use Rattle.master_state.specs.State.{tables_of}
+use Rattle.master_state.proofs.MissingRights.{by_value}
 use Rattle.cell_core.proofs.ephemerals.first_to_go.Goals as goal
 
 pub returns : goal.returns

@@ -1,6 +1,6 @@
 use Rattle.std.proofs.Common.{◌≡◌}
 use Rattle.std.specs.Prelude.{fold}
-use Rattle.cell_parts.specs.Locks.{locks_of, with_row}
+use Rattle.master_parts.specs.Locks.{locks_of, with_row}
 use Rattle.cell_core.proofs.stored.locks_of.Given as goal
 
 abbrev pub invariant-loop-key : goal.invariant-loop-key

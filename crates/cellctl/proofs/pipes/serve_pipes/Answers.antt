@@ -1,4 +1,4 @@
-use Rattle.frame_rows.specs.Asking.{Framed}
+use Rattle.rows_remote.specs.Asking.{Framed}
 use Rattle.cellctl.proofs.Overs.{frames_ended}
 use Rattle.cellctl.proofs.pipes.serve_pipes.Goals as goal
 

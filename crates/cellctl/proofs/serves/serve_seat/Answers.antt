@@ -1,4 +1,4 @@
-use Rattle.serve_cell.specs.Seats.{hosted}
+use Rattle.hosting.specs.Seats.{hosted}
 use Rattle.cellctl.proofs.Buffers.{remaining_of}
 use Rattle.cellctl.proofs.Overs.{ends_serving, ends_roomless}
 use Rattle.cellctl.proofs.serves.serve_seat.Goals as goal

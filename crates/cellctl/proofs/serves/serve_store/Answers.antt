@@ -1,6 +1,6 @@
 use Rattle.std.proofs.Common.{refl}
 use Rattle.sqlite.specs.Files.{file_state}
-use Rattle.serve_cell.specs.Seats.{hosted, without_master}
+use Rattle.hosting.specs.Seats.{hosted, without_master}
 use Rattle.cellctl.specs.Led.{FramesLead}
 use Rattle.cellctl.proofs.Overs.{done_over, frames_led, frames_led_surely}
 use Rattle.cellctl.proofs.Lefts.{left_open}

@@ -4,7 +4,7 @@ use Rattle.node_core.specs.declared.refusals.Fault.{Fault}
 use Rattle.rows_cell.specs.declared.tables.Rows.{Rows}
 use Rattle.rows_cell.specs.Stores.{Store, IsRefused}
 use Rattle.over_core.specs.Up.{up_edits, up_step, up_commit, next_epoch}
-use Rattle.cell_state.specs.State.{MasterState, master_of}
+use Rattle.master_state.specs.State.{MasterState, master_of}
 use Rattle.cell_core.specs.Step.{is_past_end}
 use Rattle.over_core.proofs.cells.next_master.Goals as goal
 

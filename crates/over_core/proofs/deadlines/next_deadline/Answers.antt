@@ -1,5 +1,5 @@
 use Rattle.std.proofs.Common.{◌≡◌, sym, ap, ◌∙◌}
-use Rattle.cell_state.specs.State.{MasterState}
+use Rattle.master_state.specs.State.{MasterState}
 use Rattle.over_core.proofs.Later.{busy_now, never_busy}
 use Rattle.over_core.proofs.deadlines.next_deadline.Goals as goal
 

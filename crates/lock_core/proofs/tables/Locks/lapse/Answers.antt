@@ -1,6 +1,6 @@
 use Rattle.std.proofs.Common.{◌≡◌, ℕ, true, List, subst}
 use Rattle.std.specs.Prelude.{IfOk}
-use Rattle.timer_core.specs.Timers.{has_key}
+use Rattle.collections.specs.Timers.{has_key}
 use Rattle.lock_core.specs.declared.turns.Lapse.{Lapse}
 use Rattle.lock_core.specs.Claimants.{has}
 use Rattle.lock_core.proofs.Firsts.{in_order}

@@ -1,4 +1,4 @@
-use Rattle.world_laws.proofs.PartsOfRuns.{line_refused, line_lost}
+use Rattle.world_cell.proofs.PartsOfRuns.{line_refused, line_lost}
 use Rattle.world_cell.proofs.worlds.World.line_step.Goals as goal
 
 pub returns-in-Err-clause-err : goal.returns-in-Err-clause-err

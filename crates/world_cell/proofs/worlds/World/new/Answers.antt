@@ -1,7 +1,7 @@
 use Rattle.std.proofs.Common.{subst, sym}
-use Rattle.world_core.specs.World.{WorldView, IsUndoubted}
-use Rattle.world_laws.specs.Consistent.{IsConsistent}
-use Rattle.world_laws.proofs.ConsistentSteps.{new_holds}
+use Rattle.world_steps.specs.World.{WorldView, IsUndoubted}
+use Rattle.world_cell.specs.Consistent.{IsConsistent}
+use Rattle.world_cell.proofs.ConsistentSteps.{new_holds}
 use Rattle.world_cell.proofs.worlds.World.new.Goals as goal
 
 pub invariant_of-result : goal.invariant_of-result

@@ -1,17 +1,17 @@
 use Rattle.std.proofs.Common.{arith, inr}
-use Rattle.world_laws.proofs.RowsByRuns.{run_tells}
-use Rattle.world_laws.proofs.OnceByRuns.{run_once}
-use Rattle.world_laws.proofs.CallsByRuns.{run_calls, run_own}
-use Rattle.world_laws.proofs.PartsOfRuns.{run_more, run_part, began_consistent, whole_sure}
-use Rattle.world_laws.proofs.SessionsByRuns.{run_lives}
-use Rattle.world_laws.proofs.RightsByRuns.{run_records}
-use Rattle.world_laws.proofs.SliceLeases.{leases_keep_sessions, joint_everywhere}
-use Rattle.world_laws.proofs.ServedLines.{run_serves}
-use Rattle.world_laws.proofs.ClocksByRuns.{run_consistent, run_fair}
-use Rattle.world_laws.proofs.FitsByRuns.{run_fits}
-use Rattle.world_laws.proofs.SureRuns.{run_sure}
-use Rattle.world_laws.proofs.LocksByRuns.{run_legal, run_generations}
-use Rattle.world_laws.proofs.ToldByRuns.{run_shows}
+use Rattle.world_cell.proofs.RowsByRuns.{run_tells}
+use Rattle.world_cell.proofs.OnceByRuns.{run_once}
+use Rattle.world_cell.proofs.CallsByRuns.{run_calls, run_own}
+use Rattle.world_cell.proofs.PartsOfRuns.{run_more, run_part, began_consistent, whole_sure}
+use Rattle.world_cell.proofs.SessionsByRuns.{run_lives}
+use Rattle.world_cell.proofs.RightsByRuns.{run_records}
+use Rattle.world_cell.proofs.SliceLeases.{leases_keep_sessions, joint_everywhere}
+use Rattle.world_cell.proofs.ServedLines.{run_serves}
+use Rattle.world_cell.proofs.ClocksByRuns.{run_consistent, run_fair}
+use Rattle.world_cell.proofs.FitsByRuns.{run_fits}
+use Rattle.world_cell.proofs.SureRuns.{run_sure}
+use Rattle.world_cell.proofs.LocksByRuns.{run_legal, run_generations}
+use Rattle.world_cell.proofs.ToldByRuns.{run_shows}
 use Rattle.world_cell.proofs.worlds.World.run.Goals as goal
 
 pub returns-in_err-here-clause-part : goal.returns-in_err-here-clause-part

@@ -1,5 +1,5 @@
 use Rattle.std.proofs.Common.{take}
-use Rattle.world_laws.specs.Runs.{AnyRun}
+use Rattle.world_cell.specs.Runs.{AnyRun}
 use Rattle.world_cell.proofs.worlds.World.run.Given as goal
 
 -- the steps so far were run

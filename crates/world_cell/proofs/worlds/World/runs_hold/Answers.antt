@@ -1,4 +1,4 @@
-use Rattle.world_laws.proofs.LawsOfRuns.{runs_hold}
+use Rattle.world_cell.proofs.LawsOfRuns.{runs_hold}
 use Rattle.world_cell.proofs.worlds.World.runs_hold.Goals as goal
 
 pub returns : goal.returns

@@ -1,10 +1,10 @@
 use Rattle.std.proofs.Common.{subst}
-use Rattle.world_core.specs.World.{WorldView, IsUndoubted}
-use Rattle.world_laws.specs.Locks.{HasLegalLocks, CountsHolds}
-use Rattle.world_laws.proofs.ConsistentSteps.{step_holds}
-use Rattle.world_laws.proofs.Reaches.{leads_on}
-use Rattle.world_laws.proofs.ServedLines.{told_serves}
-use Rattle.world_laws.proofs.LocksByRuns.{told_legal, told_counts}
+use Rattle.world_steps.specs.World.{WorldView, IsUndoubted}
+use Rattle.world_cell.specs.Locks.{HasLegalLocks, CountsHolds}
+use Rattle.world_cell.proofs.ConsistentSteps.{step_holds}
+use Rattle.world_cell.proofs.Reaches.{leads_on}
+use Rattle.world_cell.proofs.ServedLines.{told_serves}
+use Rattle.world_cell.proofs.LocksByRuns.{told_legal, told_counts}
 use Rattle.world_cell.proofs.worlds.World.step.Goals as goal
 
 pub invariant_of-self : goal.invariant_of-self

@@ -1,5 +1,5 @@
-use Rattle.world_laws.proofs.ConsistentSteps.{swept_holds}
-use Rattle.world_laws.proofs.Reaches.{leads_on}
+use Rattle.world_cell.proofs.ConsistentSteps.{swept_holds}
+use Rattle.world_cell.proofs.Reaches.{leads_on}
 use Rattle.world_cell.proofs.worlds.World.sweep.Goals as goal
 
 pub invariant_of-self : goal.invariant_of-self

@@ -1,5 +1,0 @@
-use Rattle.cell_client.proofs.Naming.{bad_component}
-use Rattle.cell_client.proofs.acls.component_in.Goals as goal
-
-pub returns-in_default : goal.returns-in_default
-returns-in_default c = λ other. bad_component c.args.text.now c.in_default.ensures.cases.0

@@ -1,5 +1,0 @@
-use Rattle.cell_parts.proofs.OwnedHandles.{Owned}
-use Rattle.cell_parts.proofs.open_handles.add_owners.Given as goal
-
-abbrev pub invariant-loop-owner : goal.invariant-loop-owner
-invariant-loop-owner l = Owned l.holders l.owner-iterator l.fn.keys l.keys

@@ -1,5 +1,0 @@
-use Rattle.cell_parts.proofs.Looked.{Looked}
-use Rattle.cell_parts.proofs.walks.candidates_of.Given as goal
-
-abbrev pub invariant-loop-name : goal.invariant-loop-name
-invariant-loop-name l = Looked l.nodes l.name-iterator l.candidates

@@ -1,5 +1,0 @@
-use Rattle.cell_server.proofs.Behind.{message_behind}
-use Rattle.cell_server.proofs.laws.message_stands_behind.Goals as goal
-
-pub returns : goal.returns
-returns c = λ block number message fits e. message_behind block number message fits e

@@ -1,6 +1,0 @@
-use Rattle.std.proofs.Common.{◌≡◌, ◌++◌, drop, map}
-use Rattle.cell_state.specs.Replies.{locked_line, locked_lines}
-use Rattle.cell_state.proofs.replies.locked_lines.Given as goal
-
-abbrev pub invariant-loop-claim : goal.invariant-loop-claim
-invariant-loop-claim l = l.printed ++ map (locked_line l.instance l.generation) (drop l.claim-index l.claim-items) ≡ locked_lines l.instance l.turn

@@ -1,6 +1,0 @@
-use Rattle.std.proofs.Common.{◌≡◌, ◌++◌, drop}
-use Rattle.cell_state.specs.Replies.{replies_to}
-use Rattle.cell_state.proofs.replies.replies_to.Given as goal
-
-abbrev pub invariant-loop-claim : goal.invariant-loop-claim
-invariant-loop-claim l = l.replies ++ replies_to l.master l.answer (drop l.claim-index l.claims) ≡ replies_to l.master l.answer l.claims

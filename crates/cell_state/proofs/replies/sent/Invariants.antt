@@ -1,6 +1,0 @@
-use Rattle.std.proofs.Common.{◌≡◌, ◌++◌, drop}
-use Rattle.cell_state.specs.Replies.{sent}
-use Rattle.cell_state.proofs.replies.sent.Given as goal
-
-abbrev pub invariant-loop-reply : goal.invariant-loop-reply
-invariant-loop-reply l = l.outs ++ sent (drop l.reply-index l.replies) ≡ sent l.replies

@@ -1,0 +1,8 @@
+use Rattle.std.proofs.Common.{◌++◌, length}
+use Rattle.byteorder.specs.Endian.{big_bytes}
+use Rattle.codec.specs.Beats.{numbered_event}
+use Rattle.codec.proofs.Loops.{WritesFirst}
+use Rattle.codec.proofs.events.put_numbered_events.Given as goal
+
+abbrev pub invariant-loop-item : goal.invariant-loop-item
+invariant-loop-item l = WritesFirst numbered_event l.items l.item-index (l.fn.out.items ++ big_bytes 4 (length l.items)) l.out.items

@@ -1,0 +1,4 @@
+pub mod Lent
+pub mod Results
+pub mod Tables
+pub mod Timers

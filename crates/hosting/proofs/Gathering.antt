@@ -1,0 +1,192 @@
+-- Frames that are done in a group, one behind the other.
+use Rattle.std.proofs.Common.{◌≡◌, inl, inr, ℕ, List, [], ◌∷◌, ◌++◌, Option, None, Some, Result, Ok, Err, refl, sym, ap, subst, ◌∙◌, append-nil, append_assoc}
+use Rattle.codec.specs.declared.faults.WireFault.{WireFault}
+use Rattle.master_state.specs.State.{MasterState}
+use Rattle.hosting.specs.Held.{GroupState, seen}
+use Rattle.hosting.specs.declared.frames.Frame.{Frame}
+use Rattle.hosting.specs.declared.seats.Reply.{Reply}
+use Rattle.hosting.specs.declared.stops.Stop.{Stop}
+use Rattle.hosting.specs.declared.gathers.Behind.{Behind}
+use Rattle.hosting.specs.declared.gathers.Behind.TheVariants as behinds
+use Rattle.hosting.specs.declared.gathers.Onward.{Onward}
+use Rattle.hosting.specs.declared.gathers.Onward.TheVariants as onwards
+use Rattle.hosting.specs.declared.gathers.Tried.{Tried}
+use Rattle.hosting.specs.declared.gathers.Tried.TheVariants as tries
+use Rattle.hosting.specs.Streams.{FrameIs, Answer, Turn, Turns, AreAnswers}
+use Rattle.hosting.specs.Groups.{together, HeldTurn, DoesHeld, PutsTold, PutsReply, Tries, StandsBehind, NextThere, Gathered, Gathers, GathersOn, GathersBy, GathersOnBy, Goes, GoesBy, Keeps, ServesBehind}
+use Rattle.rows_cell.specs.Stores.{Store}
+use Rattle.hosting.specs.declared.stops.GroupStop.TheVariants.{Stopped}
+use Rattle.hosting.specs.declared.groups.Course.{Course}
+use Rattle.hosting.specs.declared.groups.Course.TheVariants as courses
+use Rattle.hosting.specs.Seats.{Hosted, without_master, IsDue}
+use Rattle.hosting.proofs.Grouped.{turns_behind, answers_behind, kept_goes, behind_goes, lost_goes}
+
+abbrev Known : Type 0
+Known = Option (List ℕ)
+
+gathered_none : (lease : ℕ) (text : Known) (group : GroupState) (told : List ℕ) → Gathered lease text group group text told told
+gathered_none lease text group told = record { answers = []; bytes = []; turns = (refl, refl); told = refl; behind = sym (append-nil told); store = refl }
+
+gathered_then : (lease : ℕ) (text there rest : Known) (old mid new : GroupState) (before between after : List ℕ) → Gathered lease text old mid there before between
+    → Gathered lease there mid new rest between after → Gathered lease text old new rest before after
+gathered_then lease text there rest old mid new before between after g h = record {
+  answers = g.answers ++ h.answers;
+  bytes = g.bytes ++ h.bytes;
+  turns = turns_behind lease text there rest (together old) (together mid) (together new) g.answers h.answers g.turns h.turns;
+  told = answers_behind g.answers h.answers g.bytes h.bytes g.told h.told;
+  behind = h.behind ∙ ap (λ (u : List ℕ). u ++ h.bytes) g.behind ∙ append_assoc before g.bytes h.bytes;
+  store = h.store ∙ g.store;
+}
+
+-- ---- one frame
+
+gathered_one : (lease : ℕ) (sent : Result Frame WireFault) (text here : Known) (old new : GroupState) (before after : List ℕ) → FrameIs text sent here → HeldTurn sent old new before after
+    → Gathered lease text old new here before after
+gathered_one lease sent text here old new before after f h = record {
+  answers = h.answer ∷ [];
+  bytes = h.bytes;
+  turns = (together new, here, record { done = record { sent = sent; next = f; does = h.does lease }; due = h.due }, (refl, refl));
+  told = (h.bytes, [], h.blocks, refl, sym (append-nil h.bytes));
+  behind = h.told;
+  store = h.store;
+}
+
+-- what stands behind what was done
+gathers_to : (behind : Behind) (lease : ℕ) (text there rest : Known) (old new : GroupState) (before after : List ℕ) → Gathered lease text old new there before after → StandsBehind behind there rest
+    → Gathers lease text old behind new rest before after
+gathers_to behinds.Nothing lease text there rest old new before after g s = (there, g, s)
+gathers_to (behinds.Found found) lease text there rest old new before after g s = (there, g, s)
+gathers_to (behinds.Lost stop) lease text there rest old new before after g s = (s, g.store)
+
+pub done_on : (onward : Onward) (tried : Tried) (sent : Result Frame WireFault) (here rest : Known) (old new : GroupState) (before after : List ℕ) → tried ≡ tries.Done
+    → Tries sent old tried new before after → NextThere onward here rest → GathersOnBy sent here old onward new rest before after
+done_on onward tried sent here rest old new before after is t n lease text f =
+    let P : Tried → Type 0 = λ u. Tries sent old u new before after in
+    by_next onward (gathered_one lease sent text here old new before after f (subst P is t)) n
+  where
+    by_next : (onward : Onward) → Gathered lease text old new here before after → NextThere onward here rest → GathersOn lease text old onward new rest before after
+    by_next (onwards.Next next) g n = (here, g, n)
+    by_next (onwards.Ends behind) g n = gathers_to behind lease text here rest old new before after g n
+
+pub alone_on : (tried : Tried) (sent : Result Frame WireFault) (here : Known) (old new : GroupState) (before after : List ℕ) → tried ≡ tries.Alone → Tries sent old tried new before after
+    → GathersOnBy sent here old (onwards.Ends (behinds.Found (Some sent))) new here before after
+alone_on tried sent here old new before after is t lease text f =
+    let P : Tried → Type 0 = λ u. Tries sent old u new before after in
+    let same = subst P is t in
+    let Q : GroupState → Type 0 = λ g. Gathered lease text old g text before after in
+    let W : List ℕ → Type 0 = λ u. Gathered lease text old old text before u in
+    (text, subst Q (sym same.0) (subst W (sym same.1) (gathered_none lease text old before)), f)
+
+pub stopped_on : (tried : Tried) (stop : Stop) (sent : Result Frame WireFault) (here : Known) (old new : GroupState) (before after : List ℕ) → tried ≡ tries.Stopped stop → Tries sent old tried new before after
+    → GathersOnBy sent here old (onwards.Ends (behinds.Lost stop)) new here before after
+stopped_on tried stop sent here old new before after is t lease text f =
+    let P : Tried → Type 0 = λ u. Tries sent old u new before after in
+    subst P is t
+
+-- ---- many
+
+-- what a group did so far, from its first frame on, and the next frame
+abbrev pub SoFar : Result Frame WireFault → Known → GroupState → Result Frame WireFault → GroupState → Known → List ℕ → List ℕ → Type 0
+SoFar begun here old sent new rest before after = GathersOnBy begun here old (onwards.Next sent) new rest before after
+
+pub so_far_none : (begun : Result Frame WireFault) (here : Known) (group : GroupState) (told : List ℕ) → SoFar begun here group begun group here told told
+so_far_none begun here group told lease text f = (text, gathered_none lease text group told, f)
+
+pub so_far_on : (onward : Onward) (begun sent next : Result Frame WireFault) (here there rest : Known) (old mid new : GroupState) (before between after : List ℕ) → onward ≡ onwards.Next next
+    → SoFar begun here old sent mid there before between → GathersOnBy sent there mid onward new rest between after → SoFar begun here old next new rest before after
+so_far_on onward begun sent next here there rest old mid new before between after is s g lease text f =
+    let P : Onward → Type 0 = λ u. GathersOnBy sent there mid u new rest between after in
+    let front = s lease text f in
+    let back = subst P is g lease front.0 front.2 in
+    (back.0, gathered_then lease text front.0 back.0 old mid new before between after front.1 back.1, back.2)
+
+then_gathers : (behind : Behind) (lease : ℕ) (text there rest : Known) (old mid new : GroupState) (before between after : List ℕ) → Gathered lease text old mid there before between
+    → Gathers lease there mid behind new rest between after → Gathers lease text old behind new rest before after
+then_gathers behinds.Nothing lease text there rest old mid new before between after g h =
+    (h.0, gathered_then lease text there h.0 old mid new before between after g h.1, h.2)
+then_gathers (behinds.Found found) lease text there rest old mid new before between after g h =
+    (h.0, gathered_then lease text there h.0 old mid new before between after g h.1, h.2)
+then_gathers (behinds.Lost stop) lease text there rest old mid new before between after g h = (h.0, h.1 ∙ g.store)
+
+pub so_far_ends : (onward : Onward) (behind : Behind) (begun sent : Result Frame WireFault) (here there rest : Known) (old mid new : GroupState) (before between after : List ℕ) → onward ≡ onwards.Ends behind
+    → SoFar begun here old sent mid there before between → GathersOnBy sent there mid onward new rest between after → GathersBy begun here old behind new rest before after
+so_far_ends onward behind begun sent here there rest old mid new before between after is s g lease text f =
+    let P : Onward → Type 0 = λ u. GathersOnBy sent there mid u new rest between after in
+    let front = s lease text f in
+    then_gathers behind lease text front.0 rest old mid new before between after front.1 (subst P is g lease front.0 front.2)
+
+pub so_far_full : (begun sent : Result Frame WireFault) (here rest : Known) (old new : GroupState) (before after : List ℕ) → SoFar begun here old sent new rest before after
+    → GathersBy begun here old (behinds.Found (Some sent)) new rest before after
+so_far_full begun sent here rest old new before after s lease text f = s lease text f
+
+-- ---- what is told of a frame
+
+pub tries_by : (tried : Tried) (sent : Result Frame WireFault) (old mid new : GroupState) (reply : Reply) (before after : List ℕ) → DoesHeld sent old (Some reply) mid
+    → PutsReply tried mid.master reply before after → new ≡ mid → Tries sent old tried new before after
+tries_by tries.Done sent old mid new reply before after d p same =
+    let P : GroupState → Type 0 = λ g. HeldTurn sent old g before after in
+    subst P (sym same) (record {
+      answer = record { reply = reply; deadline = p.0 };
+      bytes = p.2.0;
+      does = d.0;
+      due = p.1;
+      blocks = p.2.1;
+      told = p.2.2;
+      store = d.1;
+    })
+tries_by tries.Alone sent old mid new reply before after d p same = absurd p
+tries_by (tries.Stopped stop) sent old mid new reply before after d p same = (p, ap (λ (g : GroupState). g.store) same ∙ d.1)
+
+pub tries_some : (done : Option Reply) (tried : Tried) (sent : Result Frame WireFault) (old mid new : GroupState) (reply : Reply) (before after : List ℕ) → done ≡ Some reply → DoesHeld sent old done mid
+    → PutsReply tried mid.master reply before after → new ≡ mid → Tries sent old tried new before after
+tries_some done tried sent old mid new reply before after is d p same =
+    let P : Option Reply → Type 0 = λ u. DoesHeld sent old u mid in
+    tries_by tried sent old mid new reply before after (subst P is d) p same
+
+pub tries_none : (done : Option Reply) (sent : Result Frame WireFault) (old new : GroupState) (before : List ℕ) → done ≡ None → DoesHeld sent old done new → Tries sent old tries.Alone new before before
+tries_none done sent old new before is d =
+    let P : Option Reply → Type 0 = λ u. DoesHeld sent old u new in
+    (subst P is d, refl)
+
+pub puts_by : (tried : Tried) (master : MasterState) (reply : Reply) (deadline : Option ℕ) (before after : List ℕ) → IsDue (Some master) deadline → PutsTold tried reply deadline before after
+    → PutsReply tried master reply before after
+puts_by tries.Done master reply deadline before after due p = (deadline, due, p)
+puts_by tries.Alone master reply deadline before after due p = absurd p
+puts_by (tries.Stopped stop) master reply deadline before after due p = p
+
+-- ---- the group as a whole
+
+from_none : (t0 t1 : List ℕ) (begun : Result Frame WireFault) (here rest : Known) (first group : GroupState) (behind : Behind) → t0 ≡ [] → GathersBy begun here first behind group rest t0 t1
+    → GathersBy begun here first behind group rest [] t1
+from_none t0 t1 begun here rest first group behind empty g =
+    let P : List ℕ → Type 0 = λ u. GathersBy begun here first behind group rest u t1 in
+    subst P empty g
+
+pub together_nothing : (behind : Behind) (course : Course) (lease : ℕ) (begun : Result Frame WireFault) (here rest before after : Known) (first group : GroupState) (t0 told slice : List ℕ) (new : Hosted)
+    → behind ≡ behinds.Nothing → t0 ≡ [] → slice ≡ told → first.held ≡ [] → GathersBy begun here first behind group rest t0 told → Keeps group slice course new before after
+    → GoesBy lease (Some begun) here (together first) course new rest before after
+together_nothing behind course lease begun here rest before after first group t0 told slice new is empty same none g k text f =
+    let P : Behind → Type 0 = λ u. GathersBy begun here first u group rest [] told in
+    let done = subst P is (from_none t0 told begun here rest first group behind empty g) lease text f in
+    let Q : List ℕ → Type 0 = λ u. Keeps group u course new before after in
+    let W : Known → Type 0 = λ u. Goes lease text (together first) course new u before after in
+    subst W (sym done.2) (kept_goes course lease text done.0 before after first group told new none done.1 (subst Q same k))
+
+pub together_found : (behind : Behind) (found : Option (Result Frame WireFault)) (kept course : Course) (lease : ℕ) (begun : Result Frame WireFault) (here rest before between after : Known)
+    (first group : GroupState) (t0 told slice : List ℕ) (mid new : Hosted) → behind ≡ behinds.Found found → t0 ≡ [] → slice ≡ told → first.held ≡ []
+    → GathersBy begun here first behind group rest t0 told → Keeps group slice kept mid before between
+    → ((there : Known) → ServesBehind lease kept found there mid course new between after) → GoesBy lease (Some begun) here (together first) course new rest before after
+together_found behind found kept course lease begun here rest before between after first group t0 told slice mid new is empty same none g k s text f =
+    let P : Behind → Type 0 = λ u. GathersBy begun here first u group rest [] told in
+    let done = subst P is (from_none t0 told begun here rest first group behind empty g) lease text f in
+    let Q : List ℕ → Type 0 = λ u. Keeps group u kept mid before between in
+    behind_goes kept course lease found text done.0 rest before between after (together first) mid new
+    (kept_goes kept lease text done.0 before between first group told mid none done.1 (subst Q same k)) (s rest) done.2
+
+pub together_lost : (behind : Behind) (stop : Stop) (lease : ℕ) (begun : Result Frame WireFault) (here rest before : Known) (first group : GroupState) (t0 told : List ℕ) (store : Store)
+    → behind ≡ behinds.Lost stop → first.held ≡ [] → GathersBy begun here first behind group rest t0 told → store ≡ group.store
+    → GoesBy lease (Some begun) here (together first) (courses.Ends (Stopped stop)) (without_master store) rest before before
+together_lost behind stop lease begun here rest before first group t0 told store is none g kept text f =
+    let P : Behind → Type 0 = λ u. GathersBy begun here first u group rest t0 told in
+    let done = subst P is g lease text f in
+    lost_goes stop lease text rest before first group store none done.0 done.1 kept

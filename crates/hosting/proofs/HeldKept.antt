@@ -1,0 +1,42 @@
+-- A master whose changes are held back stands beside what its rows would be.
+use Rattle.std.proofs.Common.{◌≡◌, ℕ, List, [], ◌∷◌, ◌++◌, Result, Ok, Err, refl, sym, ap, subst, ◌∙◌, append-nil}
+use Rattle.std.specs.Prelude.{IfOk, OnOk, OnErr}
+use Rattle.node_core.specs.declared.refusals.Fault.{Fault}
+use Rattle.rows_cell.specs.declared.tables.Rows.{Rows}
+use Rattle.rows_cell.specs.declared.tables.Edit.{Edit}
+use Rattle.rows_cell.specs.Rows.{changed_rows}
+use Rattle.rows_cell.specs.Stores.{Store, IsCommitted}
+use Rattle.master_parts.specs.declared.pending.Idle.{Idle}
+use Rattle.master_state.specs.State.{MasterState}
+use Rattle.over_core.specs.Kept.{IsKept}
+use Rattle.over_core.specs.declared.actions.Action.{Action}
+use Rattle.over_core.specs.declared.actions.Action.TheVariants.{Tidy}
+use Rattle.over_core.specs.declared.swept.Swept.{Swept}
+use Rattle.over_core.specs.Plans.{first_action}
+use Rattle.over_core.specs.Sweep.{action_edits, sweep_edits, sweep_step}
+use Rattle.over_core.proofs.KeptBySweeps.{swept_kept}
+use Rattle.hosting.specs.Held.{store_behind}
+use Rattle.hosting.proofs.HeldBack.{held_back}
+
+pub held_kept : (store : Store) (held new : List Edit) (s after : MasterState) (now : ℕ) (result : Result Swept Fault) → IsKept store.cell (changed_rows store.rows held) s
+    → IfOk result (λ told. sweep_step s now ≡ Ok (after, told)) → OnOk result (new ≡ held ++ sweep_edits s now) → OnErr result ((after ≡ s) × (new ≡ held))
+    → IsKept store.cell (changed_rows store.rows new) after
+held_kept store held new s after now (Ok told) k ok is err =
+    let P : List Edit → Type 0 = λ u. IsKept store.cell (changed_rows store.rows u) after in
+    subst P (sym is) (swept_kept (store_behind store held) (store_behind store (held ++ sweep_edits s now)) s after now (Ok told) k ok (held_back store held (sweep_edits s now)) tt tt)
+held_kept store held new s after now (Err e) k ok is err =
+    let P : List Edit → Type 0 = λ u. IsKept store.cell (changed_rows store.rows u) after in
+    let Q : MasterState → Type 0 = λ m. IsKept store.cell (changed_rows store.rows held) m in
+    subst P (sym err.1) (subst Q (sym err.0) k)
+
+pub committed_kept : (old new : Store) (edits : List Edit) (s : MasterState) → IsCommitted edits old new → IsKept old.cell (changed_rows old.rows edits) s → IsKept new.cell new.rows s
+committed_kept old new edits s c k =
+    let P : List ℕ → Type 0 = λ u. IsKept u new.rows s in
+    let Q : Rows → Type 0 = λ r. IsKept old.cell r s in
+    subst P (sym c.cell) (subst Q (sym c.rows) k)
+
+-- what is queued holds nothing back
+pub tidied_nothing : (s : MasterState) (idle : Idle) (held new : List Edit) → Tidy idle ≡ first_action s → new ≡ held → new ≡ held ++ action_edits s (first_action s)
+tidied_nothing s idle held new first same =
+    let P : Action → Type 0 = λ a. new ≡ held ++ action_edits s a in
+    subst P first (same ∙ sym (append-nil held))

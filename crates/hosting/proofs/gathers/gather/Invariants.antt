@@ -1,0 +1,7 @@
+use Rattle.std.specs.Io.Buffered.{reader_remaining}
+use Rattle.hosting.proofs.Gathering.{SoFar}
+use Rattle.hosting.proofs.gathers.gather.Given as goal
+
+abbrev pub invariant-loop-frame : goal.invariant-loop-frame
+invariant-loop-frame g l =
+    SoFar l.fn.begun (reader_remaining g.I.Read.remaining l.fn.reader) l.fn.first l.sent l.group (reader_remaining g.I.Read.remaining l.reader) l.fn.told.items l.told.items

@@ -1,0 +1,11 @@
+use Rattle.hosting.proofs.Gathering.{done_on, alone_on, stopped_on}
+use Rattle.hosting.proofs.gathers.go_on.Goals as goal
+
+pub returns-in-Done : goal.returns-in-Done
+returns-in-Done g c = done_on _ _ _ _ _ _ _ _ _ c.in-Done.is c.do_held.ensures c.next_there.ensures
+
+pub returns-in-Alone : goal.returns-in-Alone
+returns-in-Alone g c = alone_on _ _ _ _ _ _ _ c.in-Alone.is c.do_held.ensures
+
+pub returns-in-Stopped : goal.returns-in-Stopped
+returns-in-Stopped g c = stopped_on _ c.in-Stopped.stop _ _ _ _ _ _ c.in-Stopped.is c.do_held.ensures

@@ -1,0 +1,12 @@
+use Rattle.std.proofs.Common.{◌≡◌, length}
+use Rattle.hosting.specs.Held.{seen}
+use Rattle.hosting.specs.Serving.{SweepsOnce}
+use Rattle.hosting.proofs.Sweeps.{Going}
+use Rattle.hosting.proofs.held.sweep_on.Given as goal
+
+abbrev pub invariant-loop-done : goal.invariant-loop-done
+invariant-loop-done g l = record {
+  going : Going (SweepsOnce l.now) (seen l.fn.group) l.sweeps.items (seen l.group);
+  counted : length l.sweeps.items ≡ l._done;
+  store : l.group.store ≡ l.fn.group.store;
+}

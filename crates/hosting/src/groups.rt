@@ -1,0 +1,235 @@
+//! Frames that are there together are committed together.
+ghost use Rattle.std.specs.Prelude.{◌≡◌, ◌≤◌, ℕ, List, [], length, Option, Some};
+ghost use Rattle.std.specs.Io.Buffered.{reader_remaining};
+ghost use Rattle.hosting.specs.Seats.{hosted};
+ghost use Rattle.hosting.specs.Groups.{EndsGroups, Goes, GoesBy, Keeps, ServesBehind, together, course_of};
+
+use crate::frames::Frame;
+use crate::gathers::{Behind, gather, is_there};
+use crate::holds::Group;
+use crate::inputs::next_frame;
+use crate::seats::Seat;
+use crate::stops::{GroupStop, Stop};
+use crate::streams::{Turned, block_room, serve_found};
+use codec::WireFault;
+use output::write_bytes;
+use rows_cell::Records;
+use std::alloc::Global;
+use std::io::{BufReader, Read, Write};
+
+/// What became of a group.
+#[derive(Clone, Copy)]
+pub enum Course {
+    /// It was told of.
+    On,
+    /// No frame is left.
+    Over,
+    Ends(GroupStop),
+}
+
+/// Answers the frames of a stream to its end as `serve_on` does, but messages and ticks that are there together are done
+/// one behind the other, all that they change is committed as one change, and then all that is told of them is written and
+/// flushed. Together are at most 256 that stand whole in the reader's buffer, while what is told of them is below 1 MiB. A
+/// frame that stands there alone, or is another one, is done and told by itself. Where the store refuses what a group
+/// changed nothing is told of it: the master is gone, and the records are as they were before the group.
+pub fn serve_groups<R: Records, I: Read, W: Write>(
+    alloc: Global,
+    lease: u64,
+    seat: Seat<R>,
+    reader: &mut BufReader<I>,
+    writer: &mut W,
+) -> (Seat<R>, Result<(), GroupStop>)
+    requires { (1000 ≤ lease) × (lease ≤ 60000) }
+    ensures { EndsGroups lease (reader_remaining I.remaining reader.old) (hosted R.store seat) result.1 (hosted R.store result.0) (W.contents writer.old) (W.contents writer.new) }
+{
+    match block_room(alloc) {
+        Ok(mut room) => serve_all(alloc, lease, seat, reader, room.as_mut_slice(), writer),
+        Err(_) => (seat, Err(GroupStop::Stopped(Stop::NoMemory))),
+    }
+}
+
+fn serve_all<R: Records, I: Read, W: Write>(
+    alloc: Global,
+    lease: u64,
+    first: Seat<R>,
+    reader: &mut BufReader<I>,
+    buffer: &mut [u8],
+    writer: &mut W,
+) -> (Seat<R>, Result<(), GroupStop>)
+    requires lease { (1000 ≤ lease) × (lease ≤ 60000) }
+    requires room { length buffer.old ≡ 1048576 }
+    ensures { EndsGroups lease (reader_remaining I.remaining reader.old) (hosted R.store first) result.1 (hosted R.store result.0) (W.contents writer.old) (W.contents writer.new) }
+{
+    let mut seat = first;
+    for _group in 0..u64::MAX {
+        let (next, course) = serve_some(alloc, lease, seat, reader, buffer, writer);
+        seat = next;
+        match course {
+            Course::On => {}
+            Course::Over => return (seat, Ok(())),
+            Course::Ends(stop) => return (seat, Err(stop)),
+        }
+    }
+    (seat, Err(GroupStop::Stopped(Stop::Unread)))
+}
+
+// The frames that are there.
+fn serve_some<R: Records, I: Read, W: Write>(
+    alloc: Global,
+    lease: u64,
+    seat: Seat<R>,
+    reader: &mut BufReader<I>,
+    buffer: &mut [u8],
+    writer: &mut W,
+) -> (Seat<R>, Course)
+    requires lease { (1000 ≤ lease) × (lease ≤ 60000) }
+    requires room { length buffer.old ≡ 1048576 }
+    ensures { Goes lease (reader_remaining I.remaining reader.old) (hosted R.store seat) result.1 (hosted R.store result.0) (reader_remaining I.remaining reader.new) (W.contents writer.old) (W.contents writer.new) }
+{
+    match next_frame(alloc, reader, buffer) {
+        Ok(found) => serve_from(alloc, lease, seat, found, reader, buffer, writer),
+        Err(stop) => (seat, Course::Ends(GroupStop::Stopped(stop))),
+    }
+}
+
+// A frame that was found, and those behind it that are there.
+fn serve_from<R: Records, I: Read, W: Write>(
+    alloc: Global,
+    lease: u64,
+    seat: Seat<R>,
+    found: Option<Result<Frame, WireFault>>,
+    reader: &mut BufReader<I>,
+    buffer: &mut [u8],
+    writer: &mut W,
+) -> (Seat<R>, Course)
+    requires lease { (1000 ≤ lease) × (lease ≤ 60000) }
+    requires room { length buffer.old ≡ 1048576 }
+    ensures { GoesBy lease found (reader_remaining I.remaining reader.old) (hosted R.store seat) result.1 (hosted R.store result.0) (reader_remaining I.remaining reader.new) (W.contents writer.old) (W.contents writer.new) }
+{
+    if !is_there(reader.buffer()) {
+        return serve_alone(alloc, lease, seat, found, writer);
+    }
+    match found {
+        Some(sent) => serve_sent(alloc, lease, seat, sent, reader, buffer, writer),
+        None => serve_alone(alloc, lease, seat, None, writer),
+    }
+}
+
+// What was sent, and the frames behind it that are there, where a master is up.
+fn serve_sent<R: Records, I: Read, W: Write>(
+    alloc: Global,
+    lease: u64,
+    seat: Seat<R>,
+    sent: Result<Frame, WireFault>,
+    reader: &mut BufReader<I>,
+    buffer: &mut [u8],
+    writer: &mut W,
+) -> (Seat<R>, Course)
+    requires lease { (1000 ≤ lease) × (lease ≤ 60000) }
+    requires room { length buffer.old ≡ 1048576 }
+    ensures { GoesBy lease (Some sent) (reader_remaining I.remaining reader.old) (hosted R.store seat) result.1 (hosted R.store result.0) (reader_remaining I.remaining reader.new) (W.contents writer.old) (W.contents writer.new) }
+{
+    match seat {
+        Seat::Up(cell) => {
+            let group = Group::of(alloc, cell);
+            serve_together(alloc, lease, group, sent, reader, buffer, writer)
+        }
+        Seat::Down(records) => serve_alone(alloc, lease, Seat::Down(records), Some(sent), writer),
+    }
+}
+
+// A frame that was found, by itself.
+fn serve_alone<R: Records, W: Write>(
+    alloc: Global,
+    lease: u64,
+    seat: Seat<R>,
+    found: Option<Result<Frame, WireFault>>,
+    writer: &mut W,
+) -> (Seat<R>, Course)
+    requires { (1000 ≤ lease) × (lease ≤ 60000) }
+    ensures { (here : Option (List ℕ)) → GoesBy lease found here (hosted R.store seat) result.1 (hosted R.store result.0) here (W.contents writer.old) (W.contents writer.new) }
+{
+    let (next, turned) = serve_found(alloc, lease, seat, found, writer);
+    (next, course_of(turned))
+}
+
+fn course_of(turned: Turned) -> Course
+    ensures { result ≡ course_of turned }
+{
+    match turned {
+        Turned::On => Course::On,
+        Turned::Over => Course::Over,
+        Turned::Stopped(stop) => Course::Ends(GroupStop::Stopped(stop)),
+    }
+}
+
+// A frame and those behind it that are there, as a group, and the one behind it that was found by itself.
+fn serve_together<R: Records, I: Read, W: Write>(
+    alloc: Global,
+    lease: u64,
+    first: Group<R>,
+    begun: Result<Frame, WireFault>,
+    reader: &mut BufReader<I>,
+    buffer: &mut [u8],
+    writer: &mut W,
+) -> (Seat<R>, Course)
+    requires lease { (1000 ≤ lease) × (lease ≤ 60000) }
+    requires room { length buffer.old ≡ 1048576 }
+    requires none { first.held ≡ [] }
+    ensures { GoesBy lease (Some begun) (reader_remaining I.remaining reader.old) (together first) result.1 (hosted R.store result.0) (reader_remaining I.remaining reader.new) (W.contents writer.old) (W.contents writer.new) }
+{
+    let mut told = Vec::new(alloc);
+    let (group, behind) = gather(alloc, first, begun, reader, buffer, &mut told);
+    match behind {
+        Behind::Nothing => keep(group, told.as_slice(), writer),
+        Behind::Found(found) => {
+            let (seat, course) = keep(group, told.as_slice(), writer);
+            serve_behind(alloc, lease, seat, course, found, writer)
+        }
+        Behind::Lost(stop) => (
+            Seat::Down(group.lose()),
+            Course::Ends(GroupStop::Stopped(stop)),
+        ),
+    }
+}
+
+// Behind a group that was kept, what was found behind it.
+fn serve_behind<R: Records, W: Write>(
+    alloc: Global,
+    lease: u64,
+    seat: Seat<R>,
+    course: Course,
+    found: Option<Result<Frame, WireFault>>,
+    writer: &mut W,
+) -> (Seat<R>, Course)
+    requires { (1000 ≤ lease) × (lease ≤ 60000) }
+    ensures { (here : Option (List ℕ)) → ServesBehind lease course found here (hosted R.store seat) result.1 (hosted R.store result.0) (W.contents writer.old) (W.contents writer.new) }
+{
+    match course {
+        Course::On => serve_alone(alloc, lease, seat, found, writer),
+        Course::Over => {
+            drop(found);
+            (seat, Course::Over)
+        }
+        Course::Ends(stop) => {
+            drop(found);
+            (seat, Course::Ends(stop))
+        }
+    }
+}
+
+// What is held back is committed, and then all that is told of it is written.
+fn keep<R: Records, W: Write>(group: Group<R>, told: &[u8], writer: &mut W) -> (Seat<R>, Course)
+    ensures { Keeps group told.now result.1 (hosted R.store result.0) (W.contents writer.old) (W.contents writer.new) }
+{
+    match group.commit() {
+        Ok(cell) => match write_bytes(writer, told) {
+            Ok(()) => (Seat::Up(cell), Course::On),
+            Err(_) => (
+                Seat::Up(cell),
+                Course::Ends(GroupStop::Stopped(Stop::Unwritten)),
+            ),
+        },
+        Err((fault, records)) => (Seat::Down(records), Course::Ends(GroupStop::Refused(fault))),
+    }
+}

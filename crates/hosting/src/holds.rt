@@ -1,0 +1,116 @@
+//! A master over its records, whose changes are committed together.
+ghost use Rattle.std.specs.Prelude.{◌≡◌, ◌≢◌, ◌⊎◌, ◌<◌, ◌++◌, [], Ok, Err, IfOk, IfErr, OnOk, OnErr};
+ghost use Rattle.std.specs.Vec.{vec_len, vec_capacity};
+ghost use Rattle.cell_core.specs.Step.{take_step};
+ghost use Rattle.rows_cell.specs.Stores.{IsCommitted, IsRefused};
+ghost use Rattle.over_core.specs.Sweep.{sweep_step, sweep_edits};
+ghost use Rattle.over_core.specs.Deadlines.{IsDeadline};
+
+use crate::sweeping::sweep_held;
+use collections::Items;
+use master_parts::Taken;
+use node_core::Fault;
+use over_core::{Cell, Swept, next_deadline};
+use rows_cell::{Edit, Records};
+use std::alloc::{AllocError, Global};
+use std::marker::Model;
+use tags_cell::Request;
+
+/// A master over its records. What its steps change is held back, and committed as one change in the end; until then the
+/// records aren't asked. To a contract, what the master is, what its records keep, and the edits that are held back.
+#[derive(Drop)]
+pub struct Group<R: Records> {
+    records: R,
+    master: cell_core::Cell,
+    held: Items<Edit>,
+}
+
+impl<R: Records> Model for Group<R> {
+    ghost use Rattle.rows_cell.specs.Rows.{changed_rows};
+    ghost use Rattle.over_core.specs.Kept.{IsKept};
+    ghost use Rattle.hosting.specs.Held.{GroupState};
+
+    ghost Value = { GroupState };
+
+    ghost view = { λ g. record { master = g.master; store = R.store g.records; held = g.held } };
+
+    ghost invariant = { λ g. IsKept (R.store g.records).cell (changed_rows (R.store g.records).rows g.held) g.master };
+}
+
+impl<R: Records> Group<R> {
+    /// A master that goes on in a group: nothing is held back yet.
+    pub fn of(alloc: Global, cell: Cell<R>) -> Group<R>
+        ensures { result ≡ record { master = cell.master; store = cell.store; held = [] } }
+    {
+        let (master, records) = cell.into_parts();
+        Group {
+            records,
+            master,
+            held: Items::new(alloc),
+        }
+    }
+
+    /// One step by a request that came, as `take` of `over_core` does it.
+    pub fn take(&mut self, now: u64, request: &Request) -> Result<Taken, Fault>
+        ensures ok { IfOk result (λ taken. take_step self.old.master now request.now ≡ Ok (self.new.master, taken)) }
+        ensures same { self.new ≡ record self.old { master = self.new.master } }
+        ensures fault { IfErr result (λ e. e ≢ Fault.NoMemory → take_step self.old.master now request.now ≡ Err e) }
+        ensures err { OnErr result (self.new ≡ self.old) }
+    {
+        let _client = request.client().get();
+        self.master.take(now, request)
+    }
+
+    /// Does the first action that there is, as `sweep` of `over_core` does it, and holds back what it would commit. Room
+    /// for one item is made in a list of the caller's, before anything changes. A refusal changes nothing, and is that of
+    /// the step, or want of memory.
+    pub fn sweep_with_room<T>(&mut self, now: u64, room: &mut Vec<T>) -> Result<Swept, Fault>
+        ensures ok { IfOk result (λ swept. sweep_step self.old.master now ≡ Ok (self.new.master, swept)) }
+        ensures held { OnOk result (self.new ≡ record self.old { master = self.new.master; held = self.old.held ++ sweep_edits self.old.master now }) }
+        ensures fault { IfErr result (λ e. (sweep_step self.old.master now ≡ Err e) ⊎ (e ≡ Fault.NoMemory)) }
+        ensures err { OnErr result (self.new ≡ self.old) }
+        ensures items { room.new.items ≡ room.old.items }
+        ensures room { OnOk result (vec_len room.new < vec_capacity room.new) }
+    {
+        sweep_held(&mut self.master, &mut self.held, now, room)
+    }
+
+    /// The earliest moment at which a sweep would do something, as `next_deadline` of `over_core` tells it.
+    pub fn next_deadline(&mut self) -> Result<Option<u64>, AllocError>
+        ensures deadline { IfOk result (IsDeadline self.old.master) }
+        ensures same { self.new ≡ self.old }
+    {
+        next_deadline(&mut self.master)
+    }
+
+    /// All that is held back is committed as one change, and the master goes on over it. Where the store refuses that, the
+    /// master is gone, and the records come back as they were before the group.
+    pub fn commit(self) -> Result<Cell<R>, (Fault, R)>
+        ensures ok { IfOk result (λ cell. (cell.master ≡ self.master) × IsCommitted self.held self.store cell.store) }
+        ensures refused { IfErr result (λ e. IsRefused e.0 self.held self.store (R.store e.1)) }
+    {
+        let Group {
+            mut records,
+            master,
+            held,
+        } = self;
+        let committed = records.commit(&held);
+        drop(held);
+        match committed {
+            Ok(()) => Ok(Cell::of_parts(master, records)),
+            Err(fault) => {
+                drop(master);
+                Err((fault.into(), records))
+            }
+        }
+    }
+
+    /// The master is gone, and nothing that is held back was ever committed: the records come back as they were before the
+    /// group.
+    pub fn lose(self) -> R
+        ensures { R.store result ≡ self.store }
+    {
+        let Group { records, .. } = self;
+        records
+    }
+}

@@ -1,0 +1,253 @@
+//! The bytes of what is told.
+ghost use Rattle.std.specs.Prelude.{◌∷◌, ◌++◌, [], map, OnOk, IfOk};
+ghost use Rattle.hosting.specs.Replies.{line_told, out_told, refusal_told, bad_told, mark_told, step_told, sweeps_told, end_told, round_told, settled_told, answered_told, recovery_told, delay_told, delays_told, standing_told, reply_told, all_told, AreBlocks, Puts};
+
+use crate::answers::Answered;
+use crate::seats::Reply;
+use crate::settling::{End, Round, Settled};
+use crate::standing::{Counts, Delay, Recovery, Standing};
+use crate::stops::Stop;
+use crate::tellings::{
+    Told, write_awaited, write_bad, write_counts, write_end, write_line, write_message,
+    write_recovers, write_touches, write_waits,
+};
+use codec::WireFault;
+use names_cell::Name;
+use node_core::{Fault, Line};
+use over_core::Swept;
+use std::alloc::Global;
+use tags_cell::Out;
+
+/// The bytes of all that is told of a frame, and of the mark behind it with the next deadline, in milliseconds.
+pub fn write_reply(alloc: Global, reply: &Reply, deadline: Option<u64>) -> Result<Vec<u8>, Stop>
+    ensures { IfOk result (λ bytes. AreBlocks (all_told reply.now deadline) bytes.items) }
+{
+    let mut out = Vec::new(alloc);
+    put_reply(alloc, &mut out, reply)?;
+    put_mark(alloc, &mut out, deadline)?;
+    Ok(out)
+}
+
+fn put_mark(alloc: Global, out: &mut Vec<u8>, deadline: Option<u64>) -> Result<(), Stop>
+    ensures { OnOk result (Puts (mark_told deadline) out.old.items out.new.items) }
+{
+    let block = write_end(alloc, deadline)?;
+    Ok(out.extend_from_slice(block.as_slice())?)
+}
+
+fn put_reply(alloc: Global, out: &mut Vec<u8>, reply: &Reply) -> Result<(), Stop>
+    ensures { OnOk result (Puts (reply_told reply.now) out.old.items out.new.items) }
+{
+    match reply {
+        Reply::Bad(fault) => put_bad(alloc, out, *fault),
+        Reply::Refused(fault) => put_refusal(alloc, out, *fault),
+        Reply::Came(epoch, settled) => put_arrival(alloc, out, *epoch, settled),
+        Reply::Answered(answered) => put_answered(alloc, out, answered),
+        Reply::Swept(settled) => put_settled(alloc, out, settled),
+        Reply::Gone => put_own_line(alloc, out, Line::Down),
+        Reply::Stands(standing) => put_standing(alloc, out, standing),
+    }
+}
+
+fn put_bad(alloc: Global, out: &mut Vec<u8>, fault: WireFault) -> Result<(), Stop>
+    ensures { OnOk result (Puts (bad_told fault) out.old.items out.new.items) }
+{
+    let block = write_bad(alloc, fault)?;
+    Ok(out.extend_from_slice(block.as_slice())?)
+}
+
+fn put_refusal(alloc: Global, out: &mut Vec<u8>, fault: Fault) -> Result<(), Stop>
+    ensures { OnOk result (Puts (refusal_told fault) out.old.items out.new.items) }
+{
+    put_own_line(alloc, out, Line::Refused(fault))
+}
+
+fn put_own_line(alloc: Global, out: &mut Vec<u8>, line: Line) -> Result<(), Stop>
+    ensures { OnOk result (Puts (line_told line ∷ []) out.old.items out.new.items) }
+{
+    let put = put_line(alloc, out, &line);
+    drop(line);
+    put
+}
+
+// A master came up, and swept.
+fn put_arrival(alloc: Global, out: &mut Vec<u8>, epoch: u64, settled: &Settled) -> Result<(), Stop>
+    ensures { OnOk result (Puts (line_told (Line.Up epoch) ∷ settled_told settled.now) out.old.items out.new.items) }
+{
+    put_own_line(alloc, out, Line::Up(epoch))?;
+    put_settled(alloc, out, settled)
+}
+
+fn put_answered(alloc: Global, out: &mut Vec<u8>, answered: &Answered) -> Result<(), Stop>
+    ensures { OnOk result (Puts (answered_told answered.now) out.old.items out.new.items) }
+{
+    match answered {
+        Answered::Refused(fault) => put_refusal(alloc, out, *fault),
+        Answered::Taken(taken, settled) => {
+            put_step(alloc, out, taken.lines.as_slice(), taken.outs.as_slice())?;
+            put_settled(alloc, out, settled)
+        }
+    }
+}
+
+fn put_settled(alloc: Global, out: &mut Vec<u8>, settled: &Settled) -> Result<(), Stop>
+    ensures { OnOk result (Puts (settled_told settled.now) out.old.items out.new.items) }
+{
+    put_round(alloc, out, &settled.round)?;
+    put_round(alloc, out, &settled.beats)
+}
+
+fn put_round(alloc: Global, out: &mut Vec<u8>, round: &Round) -> Result<(), Stop>
+    ensures { OnOk result (Puts (round_told round.now) out.old.items out.new.items) }
+{
+    put_sweeps(alloc, out, round.sweeps.as_slice())?;
+    put_end(alloc, out, round.end)
+}
+
+fn put_end(alloc: Global, out: &mut Vec<u8>, end: End) -> Result<(), Stop>
+    ensures { OnOk result (Puts (end_told end) out.old.items out.new.items) }
+{
+    match end {
+        End::Quiet | End::Unfinished => Ok(()),
+        End::Refused(fault) => put_refusal(alloc, out, fault),
+    }
+}
+
+fn put_sweeps(alloc: Global, out: &mut Vec<u8>, sweeps: &[Swept]) -> Result<(), Stop>
+    ensures { OnOk result (Puts (sweeps_told sweeps.now) out.old.items out.new.items) }
+{
+    for swept in sweeps {
+        put_step(alloc, out, swept.lines.as_slice(), swept.outs.as_slice())?;
+    }
+    Ok(())
+}
+
+// The lines of a step, and then its messages.
+fn put_step(alloc: Global, out: &mut Vec<u8>, lines: &[Line], outs: &[Out]) -> Result<(), Stop>
+    ensures { OnOk result (Puts (step_told lines.now outs.now) out.old.items out.new.items) }
+{
+    put_lines(alloc, out, lines)?;
+    put_outs(alloc, out, outs)
+}
+
+fn put_lines(alloc: Global, out: &mut Vec<u8>, lines: &[Line]) -> Result<(), Stop>
+    ensures { OnOk result (Puts (map line_told lines.now) out.old.items out.new.items) }
+{
+    for line in lines {
+        put_line(alloc, out, line)?;
+    }
+    Ok(())
+}
+
+fn put_outs(alloc: Global, out: &mut Vec<u8>, outs: &[Out]) -> Result<(), Stop>
+    ensures { OnOk result (Puts (map out_told outs.now) out.old.items out.new.items) }
+{
+    for message in outs {
+        put_out(alloc, out, message)?;
+    }
+    Ok(())
+}
+
+fn put_line(alloc: Global, out: &mut Vec<u8>, line: &Line) -> Result<(), Stop>
+    ensures { OnOk result (Puts (line_told line.now ∷ []) out.old.items out.new.items) }
+{
+    let block = write_line(alloc, line)?;
+    Ok(out.extend_from_slice(block.as_slice())?)
+}
+
+fn put_out(alloc: Global, out: &mut Vec<u8>, message: &Out) -> Result<(), Stop>
+    ensures { OnOk result (Puts (out_told message.now ∷ []) out.old.items out.new.items) }
+{
+    let block = write_message(alloc, message)?;
+    Ok(out.extend_from_slice(block.as_slice())?)
+}
+
+fn put_standing(alloc: Global, out: &mut Vec<u8>, standing: &Standing) -> Result<(), Stop>
+    ensures { OnOk result (Puts (standing_told standing.now) out.old.items out.new.items) }
+{
+    put_counts(alloc, out, standing.counts)?;
+    put_recovery(alloc, out, &standing.recovery)?;
+    put_delays(alloc, out, standing.longest.as_slice())
+}
+
+fn put_counts(alloc: Global, out: &mut Vec<u8>, counts: Counts) -> Result<(), Stop>
+    ensures { OnOk result (Puts (Told.Counts counts ∷ []) out.old.items out.new.items) }
+{
+    let block = write_counts(alloc, counts)?;
+    Ok(out.extend_from_slice(block.as_slice())?)
+}
+
+fn put_recovery(alloc: Global, out: &mut Vec<u8>, recovery: &Option<Recovery>) -> Result<(), Stop>
+    ensures { OnOk result (Puts (recovery_told recovery.now) out.old.items out.new.items) }
+{
+    match recovery {
+        None => Ok(()),
+        Some(recovery) => {
+            put_until(alloc, out, recovery.until)?;
+            put_awaited(alloc, out, recovery.awaited.as_slice())
+        }
+    }
+}
+
+fn put_until(alloc: Global, out: &mut Vec<u8>, until: u64) -> Result<(), Stop>
+    ensures { OnOk result (Puts (Told.Recovers until ∷ []) out.old.items out.new.items) }
+{
+    let block = write_recovers(alloc, until)?;
+    Ok(out.extend_from_slice(block.as_slice())?)
+}
+
+fn put_delays(alloc: Global, out: &mut Vec<u8>, delays: &[Delay]) -> Result<(), Stop>
+    ensures { OnOk result (Puts (delays_told delays.now) out.old.items out.new.items) }
+{
+    for delay in delays {
+        put_delay(alloc, out, delay)?;
+    }
+    Ok(())
+}
+
+fn put_delay(alloc: Global, out: &mut Vec<u8>, delay: &Delay) -> Result<(), Stop>
+    ensures { OnOk result (Puts (delay_told delay.now) out.old.items out.new.items) }
+{
+    put_number(alloc, out, delay.number)?;
+    put_names(alloc, out, delay.touched.as_slice())?;
+    put_awaited(alloc, out, delay.awaited.as_slice())
+}
+
+fn put_number(alloc: Global, out: &mut Vec<u8>, number: u64) -> Result<(), Stop>
+    ensures { OnOk result (Puts (Told.Waits number ∷ []) out.old.items out.new.items) }
+{
+    let block = write_waits(alloc, number)?;
+    Ok(out.extend_from_slice(block.as_slice())?)
+}
+
+fn put_names(alloc: Global, out: &mut Vec<u8>, names: &[Name]) -> Result<(), Stop>
+    ensures { OnOk result (Puts (map Told.Touches names.now) out.old.items out.new.items) }
+{
+    for name in names {
+        put_name(alloc, out, name)?;
+    }
+    Ok(())
+}
+
+fn put_name(alloc: Global, out: &mut Vec<u8>, name: &Name) -> Result<(), Stop>
+    ensures { OnOk result (Puts (Told.Touches name.now ∷ []) out.old.items out.new.items) }
+{
+    let block = write_touches(alloc, name.as_str().as_bytes())?;
+    Ok(out.extend_from_slice(block.as_slice())?)
+}
+
+fn put_awaited(alloc: Global, out: &mut Vec<u8>, clients: &[u64]) -> Result<(), Stop>
+    ensures { OnOk result (Puts (map Told.Awaited clients.now) out.old.items out.new.items) }
+{
+    for client in clients {
+        put_client(alloc, out, *client)?;
+    }
+    Ok(())
+}
+
+fn put_client(alloc: Global, out: &mut Vec<u8>, client: u64) -> Result<(), Stop>
+    ensures { OnOk result (Puts (Told.Awaited client ∷ []) out.old.items out.new.items) }
+{
+    let block = write_awaited(alloc, client)?;
+    Ok(out.extend_from_slice(block.as_slice())?)
+}

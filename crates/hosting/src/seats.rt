@@ -1,0 +1,164 @@
+//! A master that a program hosts, and what it does by a frame.
+ghost use Rattle.std.specs.Prelude.{◌≡◌, ◌≤◌, IfOk};
+ghost use Rattle.hosting.specs.Seats.{hosted, Does, DoesFrame, Arrives, Listens, Ticks, Leaves, Shows, Stands, IsDue};
+ghost use Rattle.hosting.specs.Standing.{standing_of};
+
+use crate::answers::{Answered, answer};
+use crate::frames::Frame;
+use crate::settling::{Settled, settle};
+use crate::standing::{Standing, standing_of};
+use codec::WireFault;
+use master_state::Master;
+use node_core::Fault;
+use over_core::Cell;
+use rows_cell::Records;
+use std::alloc::{AllocError, Global};
+use tags_cell::Request;
+
+/// The records of a cell by themselves, or with the master that is up over them.
+#[derive(Drop)]
+pub enum Seat<R: Records> {
+    Up(Cell<R>),
+    Down(R),
+}
+
+/// What is answered to a frame.
+#[derive(Drop)]
+pub enum Reply {
+    /// What was sent is no frame, and nothing changes.
+    Bad(WireFault),
+    /// What it asks for is refused.
+    Refused(Fault),
+    /// The master came up with this epoch, and swept.
+    Came(u64, Settled),
+    Answered(Answered),
+    Swept(Settled),
+    /// The master is gone.
+    Gone,
+    Stands(Standing),
+}
+
+impl<R: Records> Seat<R> {
+    /// The records. A master that is up is gone.
+    pub fn close(self) -> R
+        ensures { R.store result ≡ (hosted R.store self).store }
+    {
+        match self {
+            Seat::Up(cell) => cell.down(),
+            Seat::Down(records) => records,
+        }
+    }
+
+    /// Does what was sent: a frame, or what is wrong with one. The lease is in milliseconds.
+    pub fn take(
+        self,
+        alloc: Global,
+        lease: u64,
+        sent: &Result<Frame, WireFault>,
+    ) -> (Seat<R>, Reply)
+        requires { (1000 ≤ lease) × (lease ≤ 60000) }
+        ensures { Does lease sent.now (hosted R.store self) result.1 (hosted R.store result.0) }
+    {
+        match sent {
+            Ok(frame) => self.do_frame(alloc, lease, frame),
+            Err(fault) => (self, Reply::Bad(*fault)),
+        }
+    }
+
+    /// The earliest moment, in milliseconds, at which the master that is up has something to do, from the last one on that
+    /// it was told; none where it never has, or where none is up. Nothing changes. Want of memory alone refuses.
+    pub fn next_deadline(&mut self) -> Result<Option<u64>, AllocError>
+        ensures due { IfOk result (IsDue (hosted R.store self.old).master) }
+        ensures same { hosted R.store self.new ≡ hosted R.store self.old }
+    {
+        match self {
+            Seat::Up(cell) => cell.next_deadline(),
+            Seat::Down(_) => Ok(None),
+        }
+    }
+
+    fn do_frame(self, alloc: Global, lease: u64, frame: &Frame) -> (Seat<R>, Reply)
+        requires { (1000 ≤ lease) × (lease ≤ 60000) }
+        ensures { DoesFrame lease frame.now (hosted R.store self) result.1 (hosted R.store result.0) }
+    {
+        match frame {
+            Frame::Up(now) => self.come_up(alloc, lease, *now),
+            Frame::Message(now, request) => self.hear(alloc, *now, request),
+            Frame::Tick(now) => self.sweep(alloc, *now),
+            Frame::Down => self.go(),
+            Frame::State => self.stand(alloc),
+        }
+    }
+
+    fn come_up(self, alloc: Global, lease: u64, now: u64) -> (Seat<R>, Reply)
+        requires { (1000 ≤ lease) × (lease ≤ 60000) }
+        ensures { Arrives lease now (hosted R.store self).master (hosted R.store self).store result.1 (hosted R.store result.0) }
+    {
+        match self {
+            Seat::Up(cell) => (Seat::Up(cell), Reply::Refused(Fault::MasterUp)),
+            Seat::Down(records) => match Cell::up(alloc, records, lease, now) {
+                Ok(mut cell) => {
+                    let epoch = cell.epoch();
+                    let settled = settle(alloc, &mut cell, now);
+                    (Seat::Up(cell), Reply::Came(epoch, settled))
+                }
+                Err((fault, records)) => (Seat::Down(records), Reply::Refused(fault)),
+            },
+        }
+    }
+
+    fn hear(self, alloc: Global, now: u64, request: &Request) -> (Seat<R>, Reply)
+        ensures { Listens now request.now (hosted R.store self).master (hosted R.store self).store result.1 (hosted R.store result.0) }
+    {
+        match self {
+            Seat::Up(mut cell) => {
+                let answered = answer(alloc, &mut cell, now, request);
+                (Seat::Up(cell), Reply::Answered(answered))
+            }
+            Seat::Down(records) => (Seat::Down(records), Reply::Refused(Fault::MasterDown)),
+        }
+    }
+
+    fn sweep(self, alloc: Global, now: u64) -> (Seat<R>, Reply)
+        ensures { Ticks now (hosted R.store self).master (hosted R.store self).store result.1 (hosted R.store result.0) }
+    {
+        match self {
+            Seat::Up(mut cell) => {
+                let settled = settle(alloc, &mut cell, now);
+                (Seat::Up(cell), Reply::Swept(settled))
+            }
+            Seat::Down(records) => (Seat::Down(records), Reply::Refused(Fault::MasterDown)),
+        }
+    }
+
+    fn go(self) -> (Seat<R>, Reply)
+        ensures { Leaves (hosted R.store self).master (hosted R.store self).store result.1 (hosted R.store result.0) }
+    {
+        match self {
+            Seat::Up(cell) => (Seat::Down(cell.down()), Reply::Gone),
+            Seat::Down(records) => (Seat::Down(records), Reply::Refused(Fault::MasterDown)),
+        }
+    }
+
+    fn stand(self, alloc: Global) -> (Seat<R>, Reply)
+        ensures { Stands (hosted R.store self).master (hosted R.store self).store result.1 (hosted R.store result.0) }
+    {
+        match self {
+            Seat::Up(cell) => {
+                let reply = shown(alloc, cell.master());
+                (Seat::Up(cell), reply)
+            }
+            Seat::Down(records) => (Seat::Down(records), Reply::Refused(Fault::MasterDown)),
+        }
+    }
+}
+
+// How a master stands, unless memory is wanting.
+fn shown(alloc: Global, master: &Master) -> Reply
+    ensures { Shows (standing_of master.now) result }
+{
+    match standing_of(alloc, master) {
+        Ok(standing) => Reply::Stands(standing),
+        Err(_) => Reply::Refused(Fault::NoMemory),
+    }
+}

@@ -1,4 +1,0 @@
-use Rattle.live_cell.proofs.runs.give_up.Given as goal
-
-abbrev pub decreases-loop-pass : goal.decreases-loop-pass
-decreases-loop-pass g l = goal.left-loop-pass g l

@@ -1,0 +1,7 @@
+use Rattle.std.proofs.Common.{refl}
+use Rattle.session_core.specs.Session.{keeping}
+use Rattle.master_parts.proofs.Kept.{by_step}
+use Rattle.master_parts.proofs.tables.Tables.keep.Goals as goal
+
+pub invariant_of-self : goal.invariant_of-self
+invariant_of-self c = by_step c.self.inside.nodes c.self.inside.handles c.self.inside.sessions c.keep.new.self c.self.inside.queue c.self.inside.candidates c.args.client (keeping c.args.kept) (λ session. refl) c.keep.ensures c.self.invariant

@@ -1,0 +1,25 @@
+pub use Rattle.collections.specs.Results
+pub use Rattle.names_cell.specs.Text
+pub use Rattle.node_core.specs.Nodes
+pub use Rattle.rights_core.specs.Rights
+pub use Rattle.gate_core.specs.Gate
+pub use Rattle.lease_core.specs.Lease
+pub use Rattle.session_core.specs.Session
+pub use Rattle.session_core.specs.Sessions
+pub use Rattle.master_parts.specs.Keys
+pub use Rattle.master_parts.specs.OpenHandles
+pub use Rattle.master_parts.specs.Calls
+pub use Rattle.master_parts.specs.Events
+pub use Rattle.collections.specs.Tables
+pub use Rattle.rows_cell.specs.LockRows
+pub use Rattle.lock_core.specs.Locks as LockTables
+pub use Rattle.master_parts.specs.Locks
+pub mod State
+pub mod NameSpace
+pub mod Lookups
+pub mod Notices
+pub mod Concerned
+pub mod Updates
+pub mod Replies
+pub mod Partings
+pub mod Lapses

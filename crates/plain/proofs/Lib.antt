@@ -1,4 +1,0 @@
-pub mod Entries
-pub mod Formers
-pub mod Keys
-pub mod OneKey

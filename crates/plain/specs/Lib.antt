@@ -1,3 +1,0 @@
-pub mod Lent
-pub mod Results
-pub mod Tables

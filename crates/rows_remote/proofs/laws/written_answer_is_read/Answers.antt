@@ -1,0 +1,6 @@
+use Rattle.codec.proofs.FormLaws.{written_is_read}
+use Rattle.rows_remote.proofs.FrameForms.{answer_form}
+use Rattle.rows_remote.proofs.laws.written_answer_is_read.Goals as goal
+
+pub returns : goal.returns
+returns c = λ a b c d. written_is_read answer_form a b c d

@@ -1,4 +1,0 @@
-pub use Rattle.rows_cell.specs.Rows
-pub use Rattle.rows_cell.specs.Sound
-pub use Rattle.rows_cell.specs.Stores
-pub mod Failing

@@ -1,9 +1,0 @@
-use Rattle.std.proofs.Common.{refl}
-use Rattle.script_cell.proofs.RunsOf.{exit_unbegun, exit_unflushed}
-use Rattle.script_cell.proofs.scripts.run.Goals as goal
-
-pub returns-in_err-lines : goal.returns-in_err-lines
-returns-in_err-lines g c = exit_unbegun _ _ _ _ c.from_residual.result c.in_err-lines.field-0.0 refl c.from_residual.ensures c.in_err-lines.ensures.only
-
-pub returns-in_err-flush : goal.returns-in_err-flush
-returns-in_err-flush g c = exit_unflushed _ _ _ _ _ _ _ c.run_lines-ended.result c.from_residual-in_err-flush.result c.from_residual-in_err-flush.ensures c.run_lines-ended.ensures c.flush.ensures.bytes

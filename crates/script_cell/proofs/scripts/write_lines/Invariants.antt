@@ -1,8 +1,0 @@
-use Rattle.std.proofs.Common.{take}
-use Rattle.std.specs.Io.KnownBytes.{Appends}
-use Rattle.script_cell.specs.Scripts.{lines_text}
-use Rattle.script_cell.proofs.scripts.write_lines.Given as goal
-
--- the lines so far were written
-abbrev pub invariant-loop-line : goal.invariant-loop-line
-invariant-loop-line g l = Appends (g.W.Write.contents l.fn.output) (g.W.Write.contents l.output) (lines_text (take l.line-index l.fn.lines))

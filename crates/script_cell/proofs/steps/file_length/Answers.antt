@@ -1,6 +1,0 @@
-use Rattle.script_cell.proofs.Lifts.{after_one}
-use Rattle.script_cell.proofs.Cuts.{file}
-use Rattle.script_cell.proofs.steps.file_length.Goals as goal
-
-pub returns : goal.returns
-returns c = file _ _ _ _ (after_one c.args.words.now c.in-len1-up.len_at_least) c.acls_length.ensures

@@ -1,5 +1,0 @@
-use Rattle.std.proofs.Common.{rules}
-use Rattle.script_cell.proofs.words.mode.Goals as goal
-
-pub returns-in-wc-clause-some : goal.returns-in-wc-clause-some
-returns-in-wc-clause-some c = search rules

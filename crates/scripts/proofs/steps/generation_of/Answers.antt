@@ -1,0 +1,12 @@
+use Rattle.std.proofs.Common.{arith}
+use Rattle.std.proofs.lemmas.Grind.{common_steps}
+use Rattle.scripts.proofs.steps.generation_of.Goals as goal
+
+pub returns-in_ok-number_of-in-len1 : goal.returns-in_ok-number_of-in-len1
+returns-in_ok-number_of-in-len1 c = grind (arith, common_steps)
+
+pub returns-in_err-number_of-in-len1 : goal.returns-in_err-number_of-in-len1
+returns-in_err-number_of-in-len1 c = grind (arith, common_steps)
+
+pub returns-in_default : goal.returns-in_default
+returns-in_default c = grind (arith, common_steps)

@@ -1,5 +1,0 @@
-use Rattle.serve_cell.proofs.Writings.{moment_framed}
-use Rattle.serve_cell.proofs.frames.write_word.Goals as goal
-
-pub returns : goal.returns
-returns c = moment_framed _ _ _ _ c.bytes_of.ensures c.write_framed.ensures

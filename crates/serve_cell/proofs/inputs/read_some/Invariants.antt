@@ -1,5 +1,0 @@
-use Rattle.std.specs.Io.KnownBytes.{Keeps}
-use Rattle.serve_cell.proofs.inputs.read_some.Given as goal
-
-abbrev pub invariant-loop-turn : goal.invariant-loop-turn
-invariant-loop-turn g l = Keeps (g.I.Read.remaining l.fn.reader) (g.I.Read.remaining l.reader)

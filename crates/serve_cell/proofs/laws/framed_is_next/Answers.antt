@@ -1,5 +1,0 @@
-use Rattle.serve_cell.proofs.BlockLaws.{framed_next}
-use Rattle.serve_cell.proofs.laws.framed_is_next.Goals as goal
-
-pub returns : goal.returns
-returns c = λ bytes rest le. framed_next bytes rest le

@@ -1,6 +1,0 @@
-use Rattle.wire_core.proofs.FormLaws.{read_was_written}
-use Rattle.serve_cell.proofs.FrameLaws.{frame_form}
-use Rattle.serve_cell.proofs.laws.read_frame_was_written.Goals as goal
-
-pub returns : goal.returns
-returns c = λ bytes sent fits e. read_was_written frame_form bytes sent fits e

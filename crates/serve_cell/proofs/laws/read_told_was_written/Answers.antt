@@ -1,6 +1,0 @@
-use Rattle.wire_core.proofs.FormLaws.{read_was_written}
-use Rattle.serve_cell.proofs.ToldLaws.{told_form}
-use Rattle.serve_cell.proofs.laws.read_told_was_written.Goals as goal
-
-pub returns : goal.returns
-returns c = λ bytes given fits e. read_was_written told_form bytes given fits e

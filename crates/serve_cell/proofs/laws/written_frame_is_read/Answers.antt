@@ -1,6 +1,0 @@
-use Rattle.wire_core.proofs.FormLaws.{written_is_read}
-use Rattle.serve_cell.proofs.FrameLaws.{frame_form}
-use Rattle.serve_cell.proofs.laws.written_frame_is_read.Goals as goal
-
-pub returns : goal.returns
-returns c = λ sent bytes holds e. written_is_read frame_form sent bytes holds e

@@ -1,8 +1,0 @@
-use Rattle.std.proofs.Common.{[], ◌∷◌}
-use Rattle.node_core.specs.declared.lines.Line.TheVariants as lines
-use Rattle.serve_cell.specs.Replies.{line_told, settled_told}
-use Rattle.serve_cell.proofs.Streaming.{then_puts}
-use Rattle.serve_cell.proofs.outputs.put_arrival.Goals as goal
-
-pub returns : goal.returns
-returns c = then_puts _ (line_told (lines.Up c.args.epoch) ∷ []) (settled_told c.args.settled.now) _ _ _ c.in_ok-put_own_line.ensures c.put_settled.ensures

@@ -1,7 +1,0 @@
-use Rattle.std.proofs.Common.{take, map}
-use Rattle.serve_cell.specs.declared.tellings.Told.TheVariants.{Touches}
-use Rattle.serve_cell.specs.Replies.{Puts}
-use Rattle.serve_cell.proofs.outputs.put_names.Given as goal
-
-abbrev pub invariant-loop-name : goal.invariant-loop-name
-invariant-loop-name l = Puts (map Touches (take l.name-index l.names)) l.fn.out.items l.out.items

@@ -1,6 +1,0 @@
-use Rattle.std.proofs.Common.{take}
-use Rattle.serve_cell.specs.Replies.{sweeps_told, Puts}
-use Rattle.serve_cell.proofs.outputs.put_sweeps.Given as goal
-
-abbrev pub invariant-loop-swept : goal.invariant-loop-swept
-invariant-loop-swept l = Puts (sweeps_told (take l.swept-index l.sweeps)) l.fn.out.items l.out.items

@@ -1,6 +1,0 @@
-use Rattle.serve_cell.specs.Seats.{hosted}
-use Rattle.serve_cell.proofs.Served.{ends_roomless}
-use Rattle.serve_cell.proofs.streams.serve_on.Goals as goal
-
-pub returns-in-Err : goal.returns-in-Err
-returns-in-Err g c = ends_roomless c.args.lease (g.I.Read.remaining c.args.reader.now) (hosted g.R.Records.store c.args.seat) (g.W.Write.contents c.args.writer.now)

@@ -1,7 +1,0 @@
-use Rattle.std.proofs.Common.{Ok, refl}
-use Rattle.over_core.specs.declared.plans.Plan.{Plan}
-use Rattle.over_core.proofs.BeginsNew.{begins_by}
-use Rattle.serve_cell.proofs.sweeping.planned.Goals as goal
-
-pub returns-in-Ok-clause-begins : goal.returns-in-Ok-clause-begins
-returns-in-Ok-clause-begins c = begins_by Plan Plan (λ p. p.update) c.args.cell.now c.args.action.now c.in_ok-plan.plan (Ok c.in_ok-plan.plan) c.in_ok-plan.ensures refl

@@ -1,0 +1,4 @@
+use Rattle.threads.proofs.runs.give_up.Given as goal
+
+abbrev pub decreases-loop-pass : goal.decreases-loop-pass
+decreases-loop-pass g l = goal.left-loop-pass g l

@@ -1,8 +1,0 @@
-use Rattle.std.proofs.Common.{◌≡◌, ◌-◌}
-use Rattle.wire_core.specs.Forms.{read_all}
-use Rattle.wire_core.specs.Beats.{invalidation}
-use Rattle.wire_core.proofs.Loops.{with_front}
-use Rattle.wire_core.proofs.beats.invalidations_of.Given as goal
-
-abbrev pub invariant-loop : goal.invariant-loop
-invariant-loop l = with_front l.items.items (read_all invalidation.read (l.count - l.counter) l.input) ≡ read_all invalidation.read l.count l.fn.input

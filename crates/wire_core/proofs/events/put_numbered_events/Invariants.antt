@@ -1,8 +1,0 @@
-use Rattle.std.proofs.Common.{◌++◌, length}
-use Rattle.byteorder.specs.Endian.{big_bytes}
-use Rattle.wire_core.specs.Beats.{numbered_event}
-use Rattle.wire_core.proofs.Loops.{WritesFirst}
-use Rattle.wire_core.proofs.events.put_numbered_events.Given as goal
-
-abbrev pub invariant-loop-item : goal.invariant-loop-item
-invariant-loop-item l = WritesFirst numbered_event l.items l.item-index (l.fn.out.items ++ big_bytes 4 (length l.items)) l.out.items

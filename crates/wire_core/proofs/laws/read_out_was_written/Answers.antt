@@ -1,5 +1,0 @@
-use Rattle.wire_core.proofs.OutLaws.{read_out_was_written}
-use Rattle.wire_core.proofs.laws.read_out_was_written.Goals as goal
-
-pub returns : goal.returns
-returns c = λ bytes message fits e. read_out_was_written bytes message fits e

@@ -1,5 +1,0 @@
-use Rattle.wire_core.proofs.LineLaws.{written_line_is_read}
-use Rattle.wire_core.proofs.laws.written_line_is_read.Goals as goal
-
-pub returns : goal.returns
-returns c = λ printed bytes holds e. written_line_is_read printed bytes holds e

@@ -1,5 +1,0 @@
-use Rattle.world_core.proofs.FairTicks.{taken_are_fair}
-use Rattle.world_core.proofs.laws.taken_ticks_are_fair.Goals as goal
-
-pub returns : goal.returns
-returns c = taken_are_fair

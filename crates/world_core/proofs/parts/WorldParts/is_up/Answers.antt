@@ -1,5 +1,0 @@
-use Rattle.std.proofs.Common.{rules}
-use Rattle.world_core.proofs.parts.WorldParts.is_up.Goals as goal
-
-pub returns : goal.returns
-returns g c = search rules

@@ -1,0 +1,21 @@
+pub use Rattle.collections.specs.Results
+pub use Rattle.names_cell.specs.Text
+pub use Rattle.client_core.specs.State as Clients
+pub use Rattle.client_core.specs.Asks
+pub use Rattle.client_core.specs.Beats
+pub use Rattle.client_core.specs.Gives
+pub use Rattle.node_core.specs.Nodes
+pub use Rattle.rows_cell.specs.Rows
+pub use Rattle.rows_cell.specs.Sound
+pub use Rattle.rows_cell.specs.Stores
+pub use Rattle.master_state.specs.State
+pub use Rattle.cell_core.specs.Step
+pub use Rattle.over_core.specs.Plans
+pub use Rattle.over_core.specs.Sweep
+pub use Rattle.over_core.specs.Kept
+pub use Rattle.over_core.specs.Up
+pub mod Messages
+pub mod Members
+pub mod Lives
+pub mod World
+pub mod Made

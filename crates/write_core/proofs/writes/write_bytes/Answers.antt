@@ -1,5 +1,0 @@
-use Rattle.write_core.proofs.Fronts.{front_kept}
-use Rattle.write_core.proofs.writes.write_bytes.Goals as goal
-
-pub returns-in-Err-clause-front : goal.returns-in-Err-clause-front
-returns-in-Err-clause-front g c = front_kept _ _ _ c.args.bytes.now c.in_ok-write_whole.ensures.all c.flush.ensures.bytes
