@@ -1,6 +1,5 @@
-//! Scripts: the words of their lines, the steps that these write, and how these are run on a world.
-//!
-//! Settings of a cell, read from a text in TOML.
+//! Scripts: the words of their lines, the steps that these write, and how these are run on a world. Beside them the settings of
+//! a cell, read from a text in TOML.
 #![tactic(auto)]
 
 mod deliveries;

@@ -1,7 +1,5 @@
-//! A world: records, a master while one is up, clients, and the messages between them.
-//!
-//! What holds of every world and of every run of its steps: definitions, and the proofs of them from the table of steps.
-//! No code.
+//! A world: records, a master while one is up, clients, and the messages between them. What holds of every world, and of every
+//! run of its steps, is defined here and proved from the table of steps.
 #![tactic(auto)]
 
 mod runs;

@@ -9,12 +9,13 @@ pub mod pipes;
 #[cfg(test)]
 pub mod pretended;
 pub mod rows;
+pub(crate) mod standby;
 
 use crate::etcd::gateway::Gateway;
 use crate::etcd::keeper::Keeper;
 use crate::etcd::mastership::Mastership;
 use crate::etcd::pipes::Kept;
-use crate::tls::client_config;
+use crate::net::tls::client_config;
 use anyhow::{Error, bail};
 use clap::Args;
 use host_wire::is_component;

@@ -2,29 +2,12 @@
 //! it.
 
 mod admin;
-mod connections;
-mod doors;
 mod etcd;
-mod lines;
-mod lobby;
-mod locks;
 mod master;
-mod metrics;
-mod numbers;
+mod net;
 mod options;
-mod outgoing;
-mod picture;
-mod pulse;
-mod rates;
-mod restoring;
-mod routes;
 mod serving;
 mod settings;
-mod showing;
-mod standby;
-mod starts;
-mod store;
-mod tls;
 
 use clap::Parser;
 use options::{Command, Log, Options};
@@ -37,7 +20,7 @@ fn main() -> ExitCode {
     let options = Options::parse();
     begin_log(&options);
     let done = match &options.command {
-        Some(Command::Restore { copy, store }) => restoring::restore(copy, store),
+        Some(Command::Restore { copy, store }) => master::restoring::restore(copy, store),
         Some(Command::Copy { from, to, master, trust }) => {
             etcd::copying::copy(from, to, trust, &master.clone().unwrap_or_else(serving::cellctl))
         }

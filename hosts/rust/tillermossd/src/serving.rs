@@ -1,20 +1,20 @@
 //! The server, from its start to its end.
 
-use crate::admin::{Admin, Desk};
-use crate::connections::{Hall, take_all};
-use crate::doors::{Certificates, Door};
+use crate::admin::pages::{Admin, Desk};
+use crate::net::connections::{Hall, take_all};
+use crate::net::doors::{Certificates, Door};
 use crate::etcd::mastership::{Mastership, Seat};
 use crate::etcd::{self, gateway::Gateway};
 use crate::etcd::{Place, Rows};
-use crate::locks::take_lock;
-use crate::master::{Ending, Making, Master, Order, StoreRefused};
-use crate::numbers::{Epochs, Numbers};
+use crate::master::locks::take_lock;
+use crate::master::child::{Ending, Making, Master, Order, StoreRefused};
+use crate::master::numbers::{Epochs, Numbers};
 use crate::options::Options;
-use crate::picture::Picture;
+use crate::master::picture::Picture;
 use crate::settings::Settings;
-use crate::showing::Showing;
-use crate::standby::{self, Known};
-use crate::store::{self, Head, beside};
+use crate::admin::showing::Showing;
+use crate::etcd::standby::{self, Known};
+use crate::master::store::{self, Head, beside};
 use anyhow::{Context, Result, bail};
 use host_wire::{Address, Notice};
 use nix::sys::resource::{Resource, getrlimit, setrlimit};

@@ -1,8 +1,8 @@
 //! What is shown to operators, as it stands.
 
-use crate::connections::Hall;
-use crate::metrics::Levels;
-use crate::picture::Picture;
+use crate::net::connections::Hall;
+use crate::admin::metrics::Levels;
+use crate::master::picture::Picture;
 use host_wire::{Act, LockShown, NodeShown, SessionShown, Shown, Status, WaitShown};
 use std::collections::BTreeMap;
 use std::sync::Arc;

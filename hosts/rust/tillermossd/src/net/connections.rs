@@ -1,14 +1,14 @@
 //! The connections of clients. Each is bound to one client's number and principal, and carries that client's messages alone.
 
-use crate::doors::{Door, Guest, Shown, Stream};
-use crate::lines::{Lines, Message};
-use crate::lobby::Lobby;
-use crate::metrics::Metrics;
-use crate::numbers::Numbers;
-use crate::outgoing::Outgoing;
-use crate::picture::Picture;
-use crate::rates::Rate;
-use crate::routes::Routes;
+use crate::net::doors::{Door, Guest, Shown, Stream};
+use crate::master::lines::{Lines, Message};
+use crate::net::lobby::Lobby;
+use crate::admin::metrics::Metrics;
+use crate::master::numbers::Numbers;
+use crate::net::outgoing::Outgoing;
+use crate::master::picture::Picture;
+use crate::net::rates::Rate;
+use crate::net::routes::Routes;
 use crate::settings::Limits;
 use anyhow::Result;
 use host_wire::{Asked, Blocks, GREETING_LIMIT, Hello, Notice, REQUEST_LIMIT, Text, TurnedAway, Welcome, framed, write_store_refused};

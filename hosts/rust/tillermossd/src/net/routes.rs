@@ -1,6 +1,6 @@
 //! Over which connection a client is reached.
 
-use crate::outgoing::Outgoing;
+use crate::net::outgoing::Outgoing;
 use std::collections::HashMap;
 use std::sync::{Arc, Mutex, MutexGuard, PoisonError};
 

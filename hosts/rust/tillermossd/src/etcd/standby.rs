@@ -1,6 +1,6 @@
 //! A server that stands by: whoever comes is told who is master.
 
-use crate::doors::{Certificates, Door, Guest};
+use crate::net::doors::{Certificates, Door, Guest};
 use crate::etcd::mastership::Seat;
 use crate::options::Options;
 use anyhow::Result;

@@ -1,8 +1,8 @@
 //! A store is made of a copy.
 
-use crate::locks::take_lock;
-use crate::numbers::{Epochs, Numbers};
-use crate::store::{self, Head, beside};
+use crate::master::locks::take_lock;
+use crate::master::numbers::{Epochs, Numbers};
+use crate::master::store::{self, Head, beside};
 use anyhow::{Context, Result, bail};
 use std::fs::{self, File};
 use std::path::Path;

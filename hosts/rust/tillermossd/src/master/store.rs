@@ -1,7 +1,7 @@
 //! The file of the store, as the server looks at it: before a master is started, of a copy; and while one writes it, whether it is
 //! still the same file.
 
-use crate::numbers::Epochs;
+use crate::master::numbers::Epochs;
 use anyhow::{Context, Result, bail};
 use nix::sys::statvfs::statvfs;
 use rusqlite::{Connection, OpenFlags};

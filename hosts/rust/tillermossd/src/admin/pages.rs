@@ -1,0 +1,187 @@
+//! What operators look at and ask for, over HTTP: at a socket in a file, or at loopback.
+
+use crate::net::doors::listen_unix;
+use crate::master::child::Order;
+use crate::admin::showing::Showing;
+use crate::master::store;
+use anyhow::{Context, Result, bail};
+use host_wire::Address;
+use hyper::header::{CONTENT_SECURITY_POLICY, CONTENT_TYPE, HOST, HeaderValue};
+use hyper::server::conn::Http;
+use hyper::service::service_fn;
+use hyper::{Body, Method, Request, Response, StatusCode};
+use std::convert::Infallible;
+use std::io;
+use std::sync::Arc;
+use std::time::Duration;
+use tokio::io::{AsyncRead, AsyncReadExt, AsyncWrite};
+use tokio::net::{TcpListener, UnixListener};
+use tokio::sync::{Semaphore, mpsc, oneshot};
+use tokio::time::{sleep, timeout};
+use tracing::{info, warn};
+
+/// The page, which takes nothing from elsewhere.
+const PAGE: &str = include_str!("page.html");
+const STYLE: &str = include_str!("page.css");
+const SCRIPT: &str = include_str!("page.js");
+const POLICY: &str = "default-src 'none'; script-src 'self'; style-src 'self' 'unsafe-inline'; connect-src 'self'; img-src data:";
+
+/// So many connections of operators there are at once.
+const MOST: usize = 64;
+
+/// So long one may last.
+const PATIENCE: Duration = Duration::from_secs(300);
+
+/// What is asked over a socket.
+#[derive(Debug)]
+pub struct Admin {
+    /// What is shown.
+    pub showing: Arc<Showing>,
+    /// Whom a copy is asked of.
+    pub orders: mpsc::Sender<Order>,
+    /// Only who may open the socket's file gets there, and so may have a copy of the store, with its secret.
+    pub is_private: bool,
+}
+
+/// A socket for operators.
+#[derive(Debug)]
+pub enum Desk {
+    Unix(UnixListener),
+    Tcp(TcpListener),
+}
+
+impl Desk {
+    /// Listens at an address; gives it with the port that it has.
+    pub async fn open(address: &Address) -> Result<(Desk, Address)> {
+        match address {
+            Address::Unix(path) => Ok((Desk::Unix(listen_unix(path, 0o600)?), address.clone())),
+            Address::Tcp(place) if address.is_local() => {
+                let listener = TcpListener::bind(place).await.with_context(|| format!("listening at {address}"))?;
+                let address = address.at(listener.local_addr()?);
+                Ok((Desk::Tcp(listener), address))
+            }
+            _ => bail!("--admin {address}: only unix:PATH, or tcp: on loopback; nothing there is encrypted"),
+        }
+    }
+
+    /// Answers those who come, until the server goes.
+    pub async fn serve(self, admin: Arc<Admin>) {
+        let places = Arc::new(Semaphore::new(MOST));
+        loop {
+            let place = places.clone().acquire_owned().await;
+            let taken: io::Result<Box<dyn Both>> = match &self {
+                Desk::Unix(listener) => listener.accept().await.map(|(stream, _)| Box::new(stream) as Box<dyn Both>),
+                Desk::Tcp(listener) => listener.accept().await.map(|(stream, _)| Box::new(stream) as Box<dyn Both>),
+            };
+            let Ok(stream) = taken else {
+                sleep(Duration::from_millis(20)).await;
+                continue;
+            };
+            let asked = admin.clone();
+            tokio::spawn(async move {
+                let service = service_fn(move |request| answer(asked.clone(), request));
+                // (whatever ends a connection of an operator, another may be made)
+                let _ = timeout(PATIENCE, Http::new().http1_only(true).serve_connection(stream, service)).await;
+                drop(place);
+            });
+        }
+    }
+}
+
+/// A stream both ways.
+trait Both: AsyncRead + AsyncWrite + Send + Unpin {}
+
+impl<S: AsyncRead + AsyncWrite + Send + Unpin> Both for S {}
+
+// A page of another site whose name leads to this machine has that name here.
+fn is_own_host(request: &Request<Body>) -> bool {
+    let host = request.headers().get(HOST).and_then(|host| host.to_str().ok());
+    host.is_none_or(|host| format!("tcp:{host}").parse::<Address>().is_ok_and(|address| address.is_local()) || host == "localhost")
+}
+
+async fn answer(admin: Arc<Admin>, request: Request<Body>) -> Result<Response<Body>, Infallible> {
+    if !is_own_host(&request) {
+        return Ok(said(StatusCode::FORBIDDEN, "text/plain", "only under a name of this machine\n"));
+    }
+    let showing = &admin.showing;
+    let json = |shown: serde_json::Result<String>| match shown {
+        Ok(text) => said(StatusCode::OK, "application/json", text),
+        Err(error) => said(StatusCode::INTERNAL_SERVER_ERROR, "text/plain", error.to_string()),
+    };
+    Ok(match (request.method(), request.uri().path()) {
+        (&Method::GET, "/") => said(StatusCode::OK, "text/html; charset=utf-8", PAGE),
+        (&Method::GET, "/page.css") => said(StatusCode::OK, "text/css", STYLE),
+        (&Method::GET, "/page.js") => said(StatusCode::OK, "text/javascript", SCRIPT),
+        (&Method::GET, "/healthz") => said(StatusCode::OK, "text/plain", "ok\n"),
+        (&Method::GET, "/readyz") => ready(showing),
+        (&Method::GET, "/metrics") => match showing.hall.metrics.text(&showing.levels()) {
+            Ok(text) => said(StatusCode::OK, "text/plain; version=0.0.4", text),
+            Err(error) => said(StatusCode::INTERNAL_SERVER_ERROR, "text/plain", error.to_string()),
+        },
+        (&Method::GET, "/all") => json(serde_json::to_string(&showing.all())),
+        (&Method::GET, "/status") => json(serde_json::to_string(&showing.status())),
+        (&Method::GET, "/sessions") => json(serde_json::to_string(&showing.sessions(usize::MAX))),
+        (&Method::GET, "/locks") => json(serde_json::to_string(&showing.locks())),
+        (&Method::POST, "/backup") => backup(&admin).await,
+        (_, "/backup") => said(StatusCode::METHOD_NOT_ALLOWED, "text/plain", "only by POST\n"),
+        _ => said(StatusCode::NOT_FOUND, "text/plain", "there is no such page\n"),
+    })
+}
+
+fn said(status: StatusCode, kind: &'static str, body: impl Into<Body>) -> Response<Body> {
+    let mut response = Response::new(body.into());
+    *response.status_mut() = status;
+    response.headers_mut().insert(CONTENT_TYPE, HeaderValue::from_static(kind));
+    response.headers_mut().insert(CONTENT_SECURITY_POLICY, HeaderValue::from_static(POLICY));
+    response
+}
+
+fn ready(showing: &Showing) -> Response<Body> {
+    match showing.status().is_ready {
+        true => said(StatusCode::OK, "text/plain", "ready\n"),
+        false => said(StatusCode::SERVICE_UNAVAILABLE, "text/plain", "no master is up that has recovered and may write\n"),
+    }
+}
+
+async fn backup(admin: &Admin) -> Response<Body> {
+    if !admin.is_private {
+        return said(StatusCode::FORBIDDEN, "text/plain", "a copy has the cell's secret: only at --admin unix:PATH\n");
+    }
+    match copied(admin).await {
+        Ok(file) => {
+            info!("a copy of the store was taken");
+            said(StatusCode::OK, "application/vnd.sqlite3", file)
+        }
+        Err(error) => {
+            warn!(reason = %format_args!("{error:#}"), "a copy of the store failed");
+            said(StatusCode::INTERNAL_SERVER_ERROR, "text/plain", format!("{error:#}\n"))
+        }
+    }
+}
+
+// The copy, as it is read. Its folder goes when it was, or when nobody reads it any more.
+async fn copied(admin: &Admin) -> Result<Body> {
+    let (reply, copied) = oneshot::channel();
+    admin.orders.send(Order::Copy(reply)).await.context("no master is up")?;
+    let folder = copied.await.context("the master is gone")??;
+    let path = store::copied(&folder);
+    let settled = path.clone();
+    tokio::task::spawn_blocking(move || store::settle(store::open(&settled)?)).await??;
+    let mut file = tokio::fs::File::open(path).await?;
+    let (mut sender, body) = Body::channel();
+    tokio::spawn(async move {
+        let mut room = vec![0; 1 << 16];
+        loop {
+            match file.read(&mut room).await {
+                Ok(0) => break,
+                Ok(count) if sender.send_data(room[..count].to_vec().into()).await.is_ok() => {}
+                _ => {
+                    sender.abort();
+                    break;
+                }
+            }
+        }
+        drop(folder);
+    });
+    Ok(body)
+}
