@@ -15,7 +15,7 @@ fn main() {
     let folder = named.map_or(made, PathBuf::from);
     println!("cargo:rerun-if-changed={}", folder.join("libcell_server.a").display());
     println!("cargo:rustc-link-search=native={}", folder.display());
-    println!("cargo:rustc-link-lib=static=server_exports");
+    println!("cargo:rustc-link-lib=static=cell_server");
     println!("cargo:rustc-link-search=native={kit}/c");
     println!("cargo:rustc-link-lib=static=libc_c");
 }

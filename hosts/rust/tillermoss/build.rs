@@ -18,7 +18,7 @@ fn main() {
     println!("cargo:rerun-if-changed={}", unproved.display());
     let note = if unproved.exists() { ", over a client library that was built without proof" } else { "" };
     println!("cargo:rustc-env=TILLERMOSS_VERSION={}{note}", env!("CARGO_PKG_VERSION"));
-    println!("cargo:rustc-link-lib=static=client_exports");
+    println!("cargo:rustc-link-lib=static=cell_client");
     println!("cargo:rustc-link-search=native={kit}/c");
     println!("cargo:rustc-link-lib=static=libc_c");
 }
