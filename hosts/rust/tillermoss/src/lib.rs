@@ -92,3 +92,10 @@ pub use nodes::{Kind, LockMode, Mode, Right, Stat, View};
 pub use reaching::own_principal;
 pub use refusals::Refusal;
 pub use viewer::Viewer;
+
+/// The version of this crate, and whether its client library was built without proof.
+///
+/// ```
+/// assert!(tillermoss::VERSION.starts_with(env!("CARGO_PKG_VERSION")));
+/// ```
+pub const VERSION: &str = env!("TILLERMOSS_VERSION");

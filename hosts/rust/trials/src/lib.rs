@@ -21,7 +21,7 @@ pub use far::far_from;
 pub use history::{Read, Write, check_history};
 pub use holds::{Hold, check_holds};
 pub use masters::{Master, forged, messages, opening};
-pub use collections::{Plain, Talker, again, answer, new, start};
+pub use plain::{Plain, Talker, again, answer, new, start};
 pub use proxy::{Counts, Proxy};
 pub use relay::{Passing, Relay};
 pub use servers::{Kill, Server, Start, certificates, folder, master_program, program, server_of_its_own, with_client};

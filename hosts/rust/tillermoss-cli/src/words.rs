@@ -24,7 +24,7 @@ A command that ran under lock, elect or register ends with the command's status,
 
 /// Asks a cell that tillermossd serves.
 #[derive(Debug, Parser)]
-#[command(name = "tillermoss", version = env!("TILLERMOSS_VERSION"), after_help = STATUSES, subcommand_required = true, arg_required_else_help = true)]
+#[command(name = "tillermoss", version = tillermoss::VERSION, after_help = STATUSES, subcommand_required = true, arg_required_else_help = true)]
 pub struct Words {
     /// Where the server is and for whom it is asked.
     #[command(flatten)]

@@ -74,3 +74,12 @@ fn an_output_that_is_full_or_closed_is_no_panic() {
     assert_eq!(output.status.code(), Some(141));
     assert!(output.stderr.is_empty());
 }
+
+// (who builds a client builds no parser of options)
+#[test]
+fn the_library_takes_no_crate_of_the_command_line() {
+    let manifest = include_str!("../../tillermoss/Cargo.toml");
+    for name in ["anyhow", "clap", "hex", "signal-hook"] {
+        assert!(!manifest.lines().any(|line| line.starts_with(name)), "{name}");
+    }
+}
