@@ -1,0 +1,3 @@
+pub mod Histories
+pub mod Takings
+pub mod Ended

@@ -1,2 +1,5 @@
 pub use Rattle.lease_core.specs.Lease
 pub mod Ends
+pub mod Register
+pub mod Keepers
+pub mod Numbers

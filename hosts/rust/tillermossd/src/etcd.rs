@@ -1,6 +1,7 @@
 //! A cell whose rows stand in etcd, and which several servers stand by for.
 
 pub mod copying;
+pub mod decisions;
 pub mod found;
 pub mod gateway;
 pub mod keeper;
@@ -58,9 +59,9 @@ pub struct Rows {
 }
 
 impl Rows {
-    /// Makes the pipes by which a master keeps them.
+    /// Makes the pipes by which a master keeps them, once nothing that an earlier keeper sent can be done any more. It waits for etcd.
     pub fn keep(&self) -> Result<Kept, Error> {
-        pipes::keep(Keeper::new(self.gateway.clone(), &self.prefix, self.mastership.clone()))
+        pipes::keep(Keeper::open(self.gateway.clone(), &self.prefix, self.mastership.clone())?)
     }
 }
 

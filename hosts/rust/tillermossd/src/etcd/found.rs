@@ -206,7 +206,8 @@ impl Found {
         let mut found = Found::default();
         let read = |row: &rusqlite::Row| {
             let secret: Vec<u8> = row.get(1)?;
-            Ok(Meta { cell: row.get(0)?, secret: hex::encode(secret), epoch: row.get(2)?, next_instance: row.get(3)?, number: 0, by: 0 })
+            let (cell, secret) = (row.get(0)?, hex::encode(secret));
+            Ok(Meta { cell, secret, epoch: row.get(2)?, next_instance: row.get(3)?, number: 0, by: 0, keeper: 0, turn: 0 })
         };
         found.meta = Some((connection.query_row("SELECT cell, secret, epoch, next_instance FROM meta WHERE id = 1", [], read)?, 0));
         let mut nodes = connection.prepare(
@@ -257,7 +258,7 @@ mod tests {
     use super::*;
 
     fn found() -> Found {
-        let meta = Meta { cell: "c".to_owned(), secret: "00".repeat(32), epoch: 3, next_instance: 5, number: 0, by: 0 };
+        let meta = Meta { cell: "c".to_owned(), secret: "00".repeat(32), epoch: 3, next_instance: 5, number: 0, by: 0, keeper: 0, turn: 0 };
         let node = |kind: &str, instance, content: &[u8]| Node {
             kind: kind.to_owned(),
             instance,

@@ -157,18 +157,21 @@ impl Gateway {
     // Asks the member that answered last, and the others behind it.
     fn ask(&self, path: &str, body: &Value) -> Result<Value, Lost> {
         let first = self.last.load(Ordering::Relaxed);
-        let mut fault = Lost::Unknown(anyhow!("there is no member"));
+        let mut fault = None;
         for turn in 0..self.places.len() {
             let at = (first + turn) % self.places.len();
-            match self.ask_one(&self.places[at], path, body) {
-                Err(Lost::Unknown(error)) => fault = Lost::Unknown(error),
-                answered => {
-                    self.last.store(at, Ordering::Relaxed);
-                    return answered;
-                }
+            let answered = self.ask_one(&self.places[at], path, body);
+            if !matches!(answered, Err(Lost::Unknown(_))) {
+                self.last.store(at, Ordering::Relaxed);
+            }
+            match answered {
+                Err(Lost::Unknown(error)) => fault = Some(error),
+                // (a member before this one may do what this one refuses)
+                Err(Lost::Refused(error)) if fault.is_some() => return Err(Lost::Unknown(error)),
+                answered => return answered,
             }
         }
-        Err(fault)
+        Err(Lost::Unknown(fault.unwrap_or_else(|| anyhow!("there is no member"))))
     }
 
     fn ask_one(&self, place: &str, path: &str, body: &Value) -> Result<Value, Lost> {

@@ -1,13 +1,16 @@
 //! Who keeps the rows of a master in etcd: all of a commit or nothing, and nothing once another server is master.
 
+use crate::etcd::decisions::{Outcome, Turn, outcome};
 use crate::etcd::found::{Found, lock_key};
 use crate::etcd::gateway::{Compare, Deed, Gateway, Lost};
 use crate::etcd::mastership::Mastership;
 use crate::etcd::rows::{Answer, Lock, Meta, Node, Session};
 use anyhow::{Context, Result, bail};
 use host_wire::rows::{Edit, Question};
+use rand::Rng;
 use std::collections::{BTreeMap, BTreeSet, HashMap};
 use std::sync::Arc;
+use std::sync::atomic::{AtomicBool, Ordering};
 use std::thread;
 use std::time::Duration;
 use tracing::{error, warn};
@@ -25,13 +28,19 @@ struct Known {
     instances: HashMap<String, u64>,
 }
 
-/// Keeps the rows of one mastership.
+/// Keeps the rows for one master.
 #[derive(Debug)]
 pub struct Keeper {
     gateway: Arc<Gateway>,
     prefix: String,
+    /// The key of the cell's own row, which each of its transactions compares and swaps.
+    key: String,
     mastership: Arc<Mastership>,
-    known: Option<Known>,
+    /// Its own number, and the turn of its last transaction.
+    own: Turn,
+    known: Known,
+    is_loaded: bool,
+    is_ended: Arc<AtomicBool>,
 }
 
 /// What a commit puts and takes away.
@@ -44,8 +53,8 @@ struct Change {
 }
 
 impl Change {
-    fn of(known: &Known, number: u64, by: i64, edits: &[Edit]) -> Result<Change> {
-        let meta = Meta { number, by, ..known.meta.clone() };
+    fn of(known: &Known, number: u64, by: i64, Turn { keeper, turn }: Turn, edits: &[Edit]) -> Result<Change> {
+        let meta = Meta { number, by, keeper, turn, ..known.meta.clone() };
         let mut change = Change { meta, pairs: BTreeMap::new(), gone: BTreeSet::new(), nodes: Vec::new() };
         for edit in edits {
             change.add(known, edit)?;
@@ -116,10 +125,22 @@ impl Change {
 }
 
 impl Keeper {
-    /// That of a cell, for a mastership.
+    /// One of a cell, for a mastership. It has written the cell's own row anew, under a number of its own: so nothing that an earlier
+    /// keeper sent is done any more, however late it comes. It waits for etcd while the mastership lasts.
+    pub fn open(gateway: Arc<Gateway>, prefix: &str, mastership: Arc<Mastership>) -> Result<Keeper> {
+        let own = Turn { keeper: rand::thread_rng().gen_range(1..u64::MAX), turn: 1 };
+        let (key, is_ended) = (format!("{prefix}meta"), Arc::default());
+        let (meta, changed) = (Meta::default(), 0);
+        let known = Known { meta, changed, instances: HashMap::new() };
+        let mut keeper = Keeper { gateway, prefix: prefix.to_owned(), key, mastership, own, known, is_loaded: false, is_ended };
+        while !keeper.write_anew()? {}
+        Ok(keeper)
+    }
+
+    /// By which another thread ends it: then it asks etcd nothing more.
     #[must_use]
-    pub fn new(gateway: Arc<Gateway>, prefix: &str, mastership: Arc<Mastership>) -> Keeper {
-        Keeper { gateway, prefix: prefix.to_owned(), mastership, known: None }
+    pub fn is_ended(&self) -> Arc<AtomicBool> {
+        self.is_ended.clone()
     }
 
     /// What is answered to the bytes of a question; or why nothing is answered any more.
@@ -130,91 +151,144 @@ impl Keeper {
         }
     }
 
+    fn check(&self) -> Result<()> {
+        if self.is_ended.load(Ordering::SeqCst) {
+            bail!("its master is gone");
+        }
+        self.mastership.check()
+    }
+
+    // A turn that none of its transactions had. (The one behind it ends what this one does, where its answer gets lost.)
+    fn next_turn(&mut self) -> Turn {
+        self.own.turn += 2;
+        self.own
+    }
+
+    // The cell's own row as it stands; it waits for etcd.
+    fn read(&self) -> Result<(Meta, i64)> {
+        loop {
+            self.check()?;
+            match self.gateway.get(&self.key) {
+                Ok(Some(pair)) => return Ok((serde_json::from_slice(&pair.value)?, pair.changed)),
+                Ok(None) => bail!("{} isn't there: no cell stands there", self.key),
+                Err(lost) => warn!(reason = %lost, "a commit isn't settled yet"),
+            }
+            thread::sleep(PAUSE);
+        }
+    }
+
+    // Writes the cell's own row of this turn alone, over what is known. (A fault: etcd refuses it.)
+    fn write_own(&self, turn: Turn, meta: &Meta) -> Result<Result<Option<i64>, Lost>> {
+        let meta = Meta { by: self.mastership.revision, keeper: turn.keeper, turn: turn.turn, ..meta.clone() };
+        let deeds = [Deed::Put(self.key.clone(), serde_json::to_vec(&meta)?)];
+        match self.gateway.change(&[Compare::Changed(&self.key, self.known.changed), self.mastership.fence()], &deeds) {
+            Err(Lost::Refused(fault)) => Err(fault.context("etcd refuses the cell's own row")),
+            written => Ok(written),
+        }
+    }
+
+    // Writes the cell's own row as it stands, in its own name; whether that stands. Where another was faster it is tried again.
+    fn write_anew(&mut self) -> Result<bool> {
+        let turn = self.next_turn();
+        (self.known.meta, self.known.changed) = self.read()?;
+        loop {
+            match self.write_own(turn, &self.known.meta)? {
+                Ok(Some(revision)) => {
+                    self.known.changed = revision;
+                    return Ok(true);
+                }
+                Ok(None) => self.mastership.check_key()?,
+                Err(lost) => warn!(reason = %lost, "the cell's own row isn't written anew yet"),
+            }
+            let (meta, revision) = self.read()?;
+            match outcome(turn, self.known.changed, meta.written_by(), revision) {
+                Outcome::Stands => {
+                    self.known.changed = revision;
+                    return Ok(true);
+                }
+                Outcome::IsOpen => thread::sleep(PAUSE),
+                Outcome::IsOff | Outcome::IsOver => return Ok(false),
+            }
+        }
+    }
+
     // All rows at one revision.
     fn load(&mut self) -> Result<Answer> {
         let found = Found::read(&self.gateway, &self.prefix)?;
-        let (meta, changed) = found.meta.clone().with_context(|| format!("{}meta isn't there: no cell stands there", self.prefix))?;
+        let (meta, changed) = found.meta.clone().with_context(|| format!("{} isn't there: no cell stands there", self.key))?;
+        if changed != self.known.changed {
+            bail!("another keeper has written the rows");
+        }
         let (count, rows) = found.rows()?;
         let told = Answer::rows(&meta, count, rows)?;
-        self.known = Some(Known { meta, changed, instances: found.instances() });
-        self.mastership.check()?;
+        self.known = Known { meta, changed, instances: found.instances() };
+        self.is_loaded = true;
+        self.check()?;
         Ok(told)
     }
 
     // Whether the edits stand. A fault where that can't be said any more.
     fn commit(&mut self, number: u64, edits: &[Edit]) -> Result<bool> {
-        let known = self.known.as_mut().context("nothing was loaded")?;
-        let by = self.mastership.revision;
-        let change = Change::of(known, number, by, edits)?;
-        let deeds = change.deeds(&self.prefix)?;
-        let key = format!("{}meta", self.prefix);
+        if !self.is_loaded {
+            bail!("nothing was loaded");
+        }
         loop {
-            self.mastership.check()?;
-            let tried = self.gateway.change(&[Compare::Changed(&key, known.changed), self.mastership.fence()], &deeds);
-            let outcome = match tried {
-                Ok(Some(revision)) => Outcome::Stands(revision),
+            self.check()?;
+            let turn = self.next_turn();
+            let change = Change::of(&self.known, number, self.mastership.revision, turn, edits)?;
+            let deeds = change.deeds(&self.prefix)?;
+            let tried = self.gateway.change(&[Compare::Changed(&self.key, self.known.changed), self.mastership.fence()], &deeds);
+            let settled = match tried {
+                Ok(Some(revision)) => Some(revision),
                 Err(Lost::Refused(fault)) => {
                     error!(reason = %fault, deeds = deeds.len(), "etcd refuses a commit; where it has too many operations, set --max-txn-ops");
                     return Ok(false);
                 }
-                Ok(None) | Err(Lost::Unknown(_)) => settle(&self.gateway, &self.mastership, &key, known, number)?,
+                Ok(None) | Err(Lost::Unknown(_)) => self.settle(turn)?,
             };
-            match outcome {
-                Outcome::Stands(revision) => {
-                    known.changed = revision;
-                    known.meta = change.meta;
-                    for (name, instance) in change.nodes {
-                        match instance {
-                            Some(instance) => known.instances.insert(name, instance),
-                            None => known.instances.remove(&name),
-                        };
-                    }
-                    return Ok(true);
-                }
-                Outcome::IsOff(revision) => known.changed = revision,
+            if let Some(revision) = settled {
+                self.note(change, revision);
+                return Ok(true);
             }
         }
     }
-}
 
-/// What became of a transaction whose outcome got lost.
-enum Outcome {
-    /// It stands, by this revision.
-    Stands(i64),
-    /// It doesn't, and never will: this revision stands before it.
-    IsOff(i64),
-}
-
-// Reads `meta`: its number says whether the commit stands. Where it doesn't, `meta` is written as it was: so the transaction can't be
-// done later.
-fn settle(gateway: &Gateway, mastership: &Mastership, key: &str, known: &Known, number: u64) -> Result<Outcome> {
-    loop {
-        mastership.check()?;
-        match gateway.get(key) {
-            Ok(Some(pair)) => {
-                let meta: Meta = serde_json::from_slice(&pair.value)?;
-                if meta.by == mastership.revision && meta.number == number {
-                    return Ok(Outcome::Stands(pair.changed));
-                }
-                if pair.changed != known.changed && meta != known.meta {
-                    bail!("another server has written the rows");
-                }
-                // (it was written as it was, and the answer to that got lost)
-                if pair.changed != known.changed {
-                    return Ok(Outcome::IsOff(pair.changed));
-                }
-                let same = [Deed::Put(key.to_owned(), pair.value)];
-                match gateway.change(&[Compare::Changed(key, known.changed), mastership.fence()], &same) {
-                    Ok(Some(revision)) => return Ok(Outcome::IsOff(revision)),
-                    // (where its key is there the lost one was done meanwhile)
-                    Ok(None) => mastership.check_key()?,
-                    Err(lost) => warn!(reason = %lost, "a commit isn't settled yet"),
-                }
-            }
-            Ok(None) => bail!("the rows are gone"),
-            Err(lost) => warn!(reason = %lost, "a commit isn't settled yet"),
+    // A commit stands.
+    fn note(&mut self, change: Change, revision: i64) {
+        (self.known.meta, self.known.changed) = (change.meta, revision);
+        for (name, instance) in change.nodes {
+            match instance {
+                Some(instance) => self.known.instances.insert(name, instance),
+                None => self.known.instances.remove(&name),
+            };
         }
-        thread::sleep(PAUSE);
+    }
+
+    // What became of the commit of this turn, whose answer got lost: by which revision it stands; None where it doesn't, and never will.
+    // (Where it isn't done the cell's own row is written as it was, in the next turn: so it can't be done later.)
+    fn settle(&mut self, commit: Turn) -> Result<Option<i64>> {
+        let end = Turn { turn: commit.turn + 1, ..commit };
+        loop {
+            let (meta, revision) = self.read()?;
+            match outcome(commit, self.known.changed, meta.written_by(), revision) {
+                Outcome::Stands => return Ok(Some(revision)),
+                Outcome::IsOff => {
+                    self.known.changed = revision;
+                    return Ok(None);
+                }
+                Outcome::IsOver => bail!("another keeper has written the rows"),
+                Outcome::IsOpen => match self.write_own(end, &self.known.meta)? {
+                    Ok(Some(revision)) => {
+                        self.known.changed = revision;
+                        return Ok(None);
+                    }
+                    // (where its key is there the lost one was done meanwhile)
+                    Ok(None) => self.mastership.check_key()?,
+                    Err(lost) => warn!(reason = %lost, "a commit isn't settled yet"),
+                },
+            }
+            thread::sleep(PAUSE);
+        }
     }
 }
 
@@ -232,7 +306,11 @@ mod tests {
         gateway.change(&[], &[Deed::Put("c/meta".to_owned(), META.as_bytes().to_vec())]).unwrap();
         let seat = Seat { address: String::new(), server: "first".to_owned() };
         let mastership = Mastership::wait(&gateway, "c/", &seat, 60, |_| {});
-        let mut keeper = Keeper::new(gateway, "c/", mastership);
+        loaded(gateway, mastership)
+    }
+
+    fn loaded(gateway: Arc<Gateway>, mastership: Arc<Mastership>) -> Keeper {
+        let mut keeper = Keeper::open(gateway, "c/", mastership).unwrap();
         keeper.load().unwrap();
         keeper
     }
@@ -287,6 +365,25 @@ mod tests {
         let mut second = keeper(&etcd);
         assert!(second.commit(1, &[Edit::Epoch(3)]).unwrap() && first.commit(1, &edits()).is_err());
         assert_eq!(stands(&etcd), (1, false));
+    }
+
+    // The server has shot a child while its commit was on its way, and starts the next one, under the same mastership.
+    #[test]
+    fn a_commit_of_an_earlier_keeper_is_not_told_as_standing() {
+        let etcd = Pretended::start();
+        let mut first = keeper(&etcd);
+        let mastership = first.mastership.clone();
+        etcd.go(&[Way::Held]);
+        let late = thread::spawn(move || first.commit(1, &edits()));
+        etcd.wait_for_held(1);
+        let mut second = loaded(etcd.gateway(), mastership);
+        etcd.let_through();
+        let session = host_wire::rows::Session { principal: "bob".to_owned(), is_live: true };
+        let told = second.commit(1, &[Edit::PutSession(8, session)]).ok();
+        let shown = etcd.shown();
+        let has = |client: u64| shown.iter().any(|(key, _)| *key == format!("c/sessions/{client}"));
+        assert_eq!((told, has(7), has(8)), (Some(true), false, true));
+        assert!(late.join().unwrap().is_err());
     }
 
     #[test]

@@ -1,6 +1,7 @@
 //! One server of several is master: it holds a key of etcd under a lease, and renews that. Its mastership ends by its own clock
 //! before etcd lets the key go: the arithmetic of that is the proved one of crates/mastership.
 
+use crate::etcd::decisions::end_of;
 use crate::etcd::gateway::{Compare, Deed, Gateway, Lost, Pair};
 use anyhow::{Result, bail};
 use nix::time::{ClockId, clock_gettime};
@@ -20,10 +21,6 @@ const PAUSE: Duration = Duration::from_millis(250);
 /// So many renewals in a span.
 const RENEWALS: u64 = 4;
 
-unsafe extern "C" {
-    fn mastership_end(sent: u64, span: u64) -> u64;
-}
-
 /// The present moment by the clock that goes on while the machine sleeps, in milliseconds. Where there is none it is the end of all
 /// moments, at which nobody is master.
 #[must_use]
@@ -32,12 +29,6 @@ pub fn now() -> u64 {
         return u64::MAX;
     };
     time.tv_sec().cast_unsigned().saturating_mul(1000).saturating_add(time.tv_nsec().cast_unsigned() / 1_000_000)
-}
-
-// When a mastership ends whose last renewal was sent then, and answered with so many seconds.
-fn end_of(sent: u64, seconds: u64) -> u64 {
-    // SAFETY: it takes and gives numbers alone.
-    unsafe { mastership_end(sent, seconds.saturating_mul(1000)) }
 }
 
 /// What stands at the key of the master.
@@ -258,13 +249,5 @@ mod tests {
             assert!(take(&etcd, "second").is_some(), "{way:?}");
             assert!(taken.renew_once(60).is_err(), "{way:?}");
         }
-    }
-
-    // (5,000 ms: 80,000 sixteenths, less than that in seventeenths is 4,705)
-    #[test]
-    fn a_mastership_ends_before_its_lease() {
-        assert_eq!(end_of(1000, 5), 1000 + 4705);
-        assert_eq!(end_of(1000, 0), 0);
-        assert_eq!(end_of(1 << 53, 5), 0);
     }
 }

@@ -5,14 +5,17 @@ use crate::etcd::rows::Answer;
 use anyhow::{Context, Result};
 use host_wire::rows::write_verdict;
 use host_wire::{ANSWER_LIMIT, Blocks};
+use nix::libc;
 use nix::sys::stat::Mode;
 use nix::unistd::mkfifo;
 use std::fs::File;
 use std::io::Write;
+use std::os::unix::fs::OpenOptionsExt;
 use std::path::Path;
 use std::sync::Arc;
 use std::sync::atomic::{AtomicBool, Ordering};
-use std::thread;
+use std::thread::{self, JoinHandle};
+use std::time::Duration;
 use tempfile::TempDir;
 use tracing::{debug, error};
 
@@ -20,11 +23,16 @@ use tracing::{debug, error};
 const ASKED: &str = "asked";
 const ANSWERED: &str = "answered";
 
+/// How often it is looked whether a keeper's thread has ended.
+const PAUSE: Duration = Duration::from_millis(5);
+
 /// The pipes of a master.
 #[derive(Debug)]
 pub struct Kept {
     folder: TempDir,
     has_ended: Arc<AtomicBool>,
+    is_to_end: Arc<AtomicBool>,
+    keeping: JoinHandle<()>,
 }
 
 impl Kept {
@@ -39,6 +47,22 @@ impl Kept {
     pub fn has_ended(&self) -> bool {
         self.has_ended.load(Ordering::SeqCst)
     }
+
+    /// Ends the keeper of a master that is gone, and waits for its thread: for an answer of etcd at most.
+    pub fn end(self) {
+        self.is_to_end.store(true, Ordering::SeqCst);
+        while !self.keeping.is_finished() {
+            // (it may wait for a master that opens the pipes, and none will)
+            for (name, is_read) in [(ASKED, false), (ANSWERED, true)] {
+                let opened = File::options().read(is_read).write(!is_read).custom_flags(libc::O_NONBLOCK).open(self.folder().join(name));
+                drop(opened);
+            }
+            thread::sleep(PAUSE);
+        }
+        if self.keeping.join().is_err() {
+            error!("the thread that keeps the rows has failed");
+        }
+    }
 }
 
 /// Makes the pipes in a folder of their own, and a thread that keeps the rows by them until the master is gone. Nothing is answered
@@ -48,17 +72,17 @@ pub fn keep(mut keeper: Keeper) -> Result<Kept> {
     for name in [ASKED, ANSWERED] {
         mkfifo(&folder.path().join(name), Mode::S_IRUSR | Mode::S_IWUSR)?;
     }
-    let kept = Kept { folder, has_ended: Arc::default() };
-    let (path, has_ended) = (kept.folder().to_owned(), kept.has_ended.clone());
-    thread::spawn(move || match serve(&mut keeper, &path, &has_ended) {
+    let (is_to_end, has_ended) = (keeper.is_ended(), Arc::new(AtomicBool::new(false)));
+    let (path, noted) = (folder.path().to_owned(), has_ended.clone());
+    let keeping = thread::spawn(move || match serve(&mut keeper, &path, &noted) {
         // (one that goes in order is gone before all that it told is heard)
         Ok(()) => debug!("the master asks no more"),
         Err(fault) => {
             error!(reason = %format_args!("{fault:#}"), "the rows are kept no more");
-            has_ended.store(true, Ordering::SeqCst);
+            noted.store(true, Ordering::SeqCst);
         }
     });
-    Ok(kept)
+    Ok(Kept { folder, has_ended, is_to_end, keeping })
 }
 
 // (behind a commit that was refused a master is told of no other; the answer goes out behind the note of it)

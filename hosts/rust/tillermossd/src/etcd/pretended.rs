@@ -5,9 +5,11 @@ use base64::{decode, encode};
 use serde_json::{Value, json};
 use std::collections::{BTreeMap, VecDeque};
 use std::io::{BufRead, BufReader, Read, Write};
+use std::mem;
 use std::net::{TcpListener, TcpStream};
 use std::sync::{Arc, Mutex, MutexGuard};
 use std::thread;
+use std::time::Duration;
 
 /// What becomes of a transaction.
 #[derive(Clone, Copy, Debug, PartialEq, Eq)]
@@ -20,6 +22,8 @@ pub enum Way {
     Lost,
     /// It is refused.
     Refused,
+    /// It is on its way until it is let through: then it is done, and the answer gets lost.
+    Held,
 }
 
 #[derive(Clone, Debug)]
@@ -36,6 +40,7 @@ struct State {
     pairs: BTreeMap<Vec<u8>, Stands>,
     leases: i64,
     ways: VecDeque<Way>,
+    held: Vec<(Value, TcpStream)>,
 }
 
 /// The etcd, whose thread goes on until the process ends.
@@ -153,6 +158,7 @@ impl Pretended {
         let way = if path == "kv/txn" { state.ways.pop_front().unwrap_or(Way::Done) } else { Way::Done };
         let answer = match way {
             Way::Lost => return,
+            Way::Held => return state.held.push((asked, stream)),
             Way::Refused => ("400 Bad Request", json!({ "error": "too many operations" })),
             Way::Done | Way::Unanswered => ("200 OK", state.answer(&path, &asked)),
         };
@@ -170,6 +176,19 @@ impl Pretended {
     /// What becomes of the next transactions.
     pub fn go(&self, ways: &[Way]) {
         self.state().ways = ways.iter().copied().collect();
+    }
+
+    /// Waits until so many transactions are held.
+    pub fn wait_for_held(&self, count: usize) {
+        while self.state().held.len() < count {
+            thread::sleep(Duration::from_millis(1));
+        }
+    }
+
+    /// Lets through what is held.
+    pub fn let_through(&self) {
+        let held = mem::take(&mut self.state().held);
+        held.iter().for_each(|(asked, _)| drop(self.state().answer("kv/txn", asked)));
     }
 
     /// Takes a key away, as another program does.

@@ -1,5 +1,6 @@
 //! The rows as they stand in etcd, and what a master asks and is told of them: docs/BEYOND_ONE_MACHINE.md has the keys.
 
+use crate::etcd::decisions::Turn;
 use anyhow::{Context, Result};
 use host_wire::rows::{self, Own};
 use serde::{Deserialize, Serialize};
@@ -63,7 +64,7 @@ pub struct Lock {
 }
 
 /// The cell's own row.
-#[derive(Clone, Debug, PartialEq, Eq, Serialize, Deserialize)]
+#[derive(Clone, Debug, Default, PartialEq, Eq, Serialize, Deserialize)]
 pub struct Meta {
     /// The cell.
     pub cell: String,
@@ -75,8 +76,14 @@ pub struct Meta {
     pub next_instance: u64,
     /// The number of the last commit.
     pub number: u64,
-    /// Who made it: the revision by which it became master.
+    /// Under which mastership it was made: the revision by which that began.
     pub by: i64,
+    /// Which keeper wrote this, by the number that it has alone; 0 of one that had none.
+    #[serde(default)]
+    pub keeper: u64,
+    /// Which of its transactions did.
+    #[serde(default)]
+    pub turn: u64,
 }
 
 /// The key of a lock's row.
@@ -91,6 +98,14 @@ pub fn chosen(words: &[&str], place: u32) -> Option<String> {
 pub fn place(words: &[&str], word: &str) -> Result<u32> {
     let at = words.iter().position(|known| *known == word).with_context(|| format!("{word} is none of {words:?}"))?;
     Ok(at as u32)
+}
+
+impl Meta {
+    /// Whose transaction wrote it.
+    #[must_use]
+    pub fn written_by(&self) -> Turn {
+        Turn { keeper: self.keeper, turn: self.turn }
+    }
 }
 
 impl Content {

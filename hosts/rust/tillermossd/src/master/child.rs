@@ -128,14 +128,65 @@ pub struct Master {
     copying: Option<oneshot::Sender<io::Result<TempDir>>>,
 }
 
+// A master's program that is up.
+struct Raised {
+    child: Child,
+    input: Input,
+    output: ChildStdout,
+    blocks: Blocks,
+    begun: Instant,
+    identity: Option<Identity>,
+    next: Option<u64>,
+}
+
+// Behind this nothing that a master which is gone has asked for is sent to etcd.
+async fn end_keeper(rows: Option<(Rows, Kept)>) {
+    let ended = spawn_blocking(|| rows.into_iter().for_each(|(_, kept)| kept.end())).await;
+    if let Err(fault) = ended {
+        error!(reason = %fault, "the keeper of the rows wasn't ended");
+    }
+}
+
 impl Making {
     /// Starts a master, and waits until it is up; meanwhile what the cell looks like is read, where nobody knows it yet. It may have one
     /// frame at a time for a while.
     pub async fn start(&self, hall: &Arc<Hall>, is_alone: bool, reading: Option<Reading>) -> Result<Master> {
+        let rows = match self.rows.clone() {
+            Some(rows) => Some(spawn_blocking(move || rows.keep().map(|kept| (rows, kept))).await??),
+            None => None,
+        };
+        let raised = match self.raise(hall, rows.as_ref().map(|(_, kept)| kept.folder()), reading).await {
+            Ok(raised) => raised,
+            Err(fault) => {
+                end_keeper(rows).await;
+                return Err(fault);
+            }
+        };
+        let Raised { child, input, output, blocks, begun, identity, next } = raised;
+        Ok(Master {
+            hall: hall.clone(),
+            child,
+            input,
+            output,
+            blocks,
+            woken: Vec::new(),
+            starts: Starts::default(),
+            identity,
+            rows,
+            begun,
+            pulse: Pulse::new(0, next),
+            sent: VecDeque::new(),
+            bytes_sent: 0,
+            alone_until: is_alone.then(|| begun + ALONE),
+            copying: None,
+        })
+    }
+
+    // Starts its program, over the pipes in a folder where the rows are kept by them. (It is gone where this fails.)
+    async fn raise(&self, hall: &Arc<Hall>, pipes: Option<&Path>, reading: Option<Reading>) -> Result<Raised> {
         // (it is read before the first answer comes)
         let settings = self.settings.write()?;
-        let kept = self.rows.as_ref().map(|rows| anyhow::Ok((rows.clone(), rows.keep()?))).transpose()?;
-        let mut child = self.spawn(settings.path(), kept.as_ref().map(|(_, kept)| kept.folder()))?;
+        let mut child = self.spawn(settings.path(), pipes)?;
         let (Some(stream), Some(mut output)) = (child.stdin.take(), child.stdout.take()) else {
             bail!("the master has no streams");
         };
@@ -149,26 +200,8 @@ impl Making {
         let coming = come_up(hall, &mut output, &mut blocks);
         let next = timeout(COMING_UP, coming).await.unwrap_or_else(|_| bail!("it took too long"));
         let next = next.context("the master didn't come up")?;
-        let identity = if kept.is_none() { Some(Identity::of(&self.store)?) } else { None };
-        let (hall, pulse) = (hall.clone(), Pulse::new(0, next));
-        let alone_until = is_alone.then(|| begun + ALONE);
-        Ok(Master {
-            hall,
-            child,
-            input,
-            output,
-            blocks,
-            woken: Vec::new(),
-            starts: Starts::default(),
-            identity,
-            rows: kept,
-            begun,
-            pulse,
-            sent: VecDeque::new(),
-            bytes_sent: 0,
-            alone_until,
-            copying: None,
-        })
+        let identity = if pipes.is_none() { Some(Identity::of(&self.store)?) } else { None };
+        Ok(Raised { child, input, output, blocks, begun, identity, next })
     }
 
     // In a process group of its own, so that what is typed at a terminal doesn't end it before its server.
@@ -283,11 +316,14 @@ impl Master {
             Err(error) => Ending::Gone(format!("{error:#}")),
         };
         if matches!(ending, Ending::Asked(_)) {
+            end_keeper(self.rows.take()).await;
             return ending;
         }
         // (one that is gone can't be killed)
         let _ = self.child.start_kill();
-        match (ending, self.child.wait().await) {
+        let status = self.child.wait().await;
+        end_keeper(self.rows.take()).await;
+        match (ending, status) {
             (Ending::Gone(reason), Ok(status)) if status.code() == Some(GROUP_REFUSED) => Ending::Refused(reason),
             (Ending::Gone(reason), Ok(status)) => Ending::Gone(format!("{reason}; {status}")),
             (ending, _) => ending,

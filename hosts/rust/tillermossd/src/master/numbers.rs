@@ -2,10 +2,12 @@
 //! is known.
 //!
 //! They stand in a small file beside the store, which is written and synced before a number is given, a hundred numbers ahead. So
-//! a number that was given, and one whose giving was cut by a crash, isn't given again.
+//! a number that was given, and one whose giving was cut by a crash, isn't given again. Over rows in etcd they stand beside these, and
+//! are taken by compare and swap: whoever takes has read what the last one left.
 
 use crate::etcd::Rows;
-use crate::etcd::gateway::Deed;
+use crate::etcd::decisions::number;
+use crate::etcd::gateway::{Compare, Deed, Lost};
 use anyhow::{Context, Result, bail};
 use siphasher::sip::SipHasher24;
 use std::fs::{self, File};
@@ -41,16 +43,47 @@ impl Epochs {
     }
 }
 
-/// The numbers that are left, and the key by which a number's token is made.
+/// So often it is tried to take numbers beside rows, where others have taken some meanwhile.
+const TRIES: usize = 4;
+
+/// The numbers that were taken and not given yet, and the key by which a number's token is made.
 #[derive(Debug)]
 pub struct Numbers {
     path: PathBuf,
     // (in etcd they stand beside the rows, and no file has them)
-    rows: Option<Rows>,
-    next: u64,
+    beside: Option<Beside>,
+    taken: Taken,
     written: u64,
     key: [u8; 16],
     epochs: Option<Epochs>,
+}
+
+/// Numbers that one write has taken: the first of them, the one behind the last, and how many are given.
+#[derive(Clone, Copy, Debug)]
+struct Taken {
+    from: u64,
+    to: u64,
+    given: u64,
+}
+
+/// Where numbers stand beside rows.
+#[derive(Debug)]
+struct Beside {
+    rows: Rows,
+    key: String,
+    /// The revision that wrote them, 0 where they aren't there; None where that has to be read again.
+    changed: Option<i64>,
+}
+
+impl Taken {
+    fn none(next: u64) -> Taken {
+        Taken { from: next, to: next, given: 0 }
+    }
+
+    // Every number that was given is below it.
+    fn next(self) -> u64 {
+        self.from + self.given
+    }
 }
 
 impl Numbers {
@@ -77,19 +110,17 @@ impl Numbers {
     /// New ones from a number on.
     #[must_use]
     pub fn from(path: &Path, first: u64) -> Numbers {
-        Numbers { path: path.to_owned(), rows: None, next: first, written: first, key: rand::random(), epochs: None }
+        let taken = Taken::none(first);
+        Numbers { path: path.to_owned(), beside: None, taken, written: first, key: rand::random(), epochs: None }
     }
 
     /// Those that stand beside rows in etcd; new ones from a number on where none do.
     pub fn beside(rows: &Rows, first: u64) -> Result<Numbers> {
-        let path = PathBuf::from(format!("{}numbers", rows.prefix));
-        let numbers = match rows.gateway.get(&path.display().to_string())? {
-            Some(pair) => {
-                Numbers::read(&path, std::str::from_utf8(&pair.value)?).with_context(|| format!("{} has no numbers", path.display()))?
-            }
-            None => Numbers::from(&path, first),
-        };
-        Ok(Numbers { rows: Some(rows.clone()), ..numbers })
+        let key = format!("{}numbers", rows.prefix);
+        let mut beside = Beside { rows: rows.clone(), key, changed: None };
+        let path = PathBuf::from(&beside.key);
+        let numbers = beside.read()?.unwrap_or_else(|| Numbers::from(&path, first));
+        Ok(Numbers { beside: Some(beside), ..numbers })
     }
 
     fn read(path: &Path, text: &str) -> Option<Numbers> {
@@ -104,12 +135,13 @@ impl Numbers {
             OLD_TITLE => None,
             _ => return None,
         };
-        lines.next().is_none().then(|| Numbers { path: path.to_owned(), rows: None, next, written: next, key, epochs })
+        let taken = Taken::none(next);
+        lines.next().is_none().then(|| Numbers { path: path.to_owned(), beside: None, taken, written: next, key, epochs })
     }
 
     // No master came up, and no number was given: where the first start ended early.
     fn is_new(&self) -> bool {
-        self.next == 1 && self.epochs.is_some_and(|epochs| epochs.last == 0)
+        self.taken.next() == 1 && self.epochs.is_some_and(|epochs| epochs.last == 0)
     }
 
     /// The epochs that a store of this file has; None where no server has noted them yet.
@@ -120,32 +152,49 @@ impl Numbers {
 
     /// Notes the epochs before a master is started, or once it is up.
     pub fn note(&mut self, epochs: Epochs) -> Result<()> {
-        self.write(self.written, epochs)
+        self.write(0, epochs).map(drop)
     }
 
-    // The file is written anew and then put in place of the old one: a crash leaves the one or the other.
-    fn write(&mut self, next: u64, epochs: Epochs) -> Result<()> {
-        let text = format!("{TITLE}\nnext {next}\nkey {}\nepoch {}\ncoming {}\n", hex::encode(self.key), epochs.last, epochs.coming);
-        match &self.rows {
-            Some(rows) => write_beside(rows, &self.path, text)?,
-            None => write_file(&self.path, &text)?,
-        }
-        (self.written, self.epochs) = (next, Some(epochs));
-        Ok(())
+    // Takes so many numbers more, or as many as there are, and notes the epochs.
+    fn write(&mut self, more: u64, epochs: Epochs) -> Result<Taken> {
+        let taken = match self.beside.take() {
+            Some(mut beside) => {
+                let taken = beside.write(self, more, epochs);
+                self.beside = Some(beside);
+                taken?
+            }
+            None => {
+                let taken = self.more(more);
+                write_file(&self.path, &self.text(taken.to, epochs))?;
+                taken
+            }
+        };
+        (self.written, self.epochs) = (taken.to, Some(epochs));
+        Ok(taken)
+    }
+
+    fn more(&self, more: u64) -> Taken {
+        Taken { from: self.written, to: (self.written + more).min(END), given: 0 }
+    }
+
+    fn text(&self, next: u64, epochs: Epochs) -> String {
+        format!("{TITLE}\nnext {next}\nkey {}\nepoch {}\ncoming {}\n", hex::encode(self.key), epochs.last, epochs.coming)
     }
 
     /// The next number. Where none is left, or it can't be written down, none is given.
     pub fn allot(&mut self) -> Result<u64> {
-        let number = self.next;
-        if number >= END {
-            bail!("no number is left");
-        }
-        if number >= self.written {
-            let epochs = self.epochs.unwrap_or(Epochs { last: 0, coming: 0 });
-            self.write((number + AHEAD).min(END), epochs).with_context(|| format!("writing {}", self.path.display()))?;
-        }
-        self.next = number + 1;
-        Ok(number)
+        let Taken { from, to, given } = self.taken;
+        let found = match number(from, to, given) {
+            Some(found) => found,
+            None if self.written >= END => bail!("no number is left"),
+            None => {
+                let epochs = self.epochs.unwrap_or(Epochs { last: 0, coming: 0 });
+                self.taken = self.write(AHEAD, epochs).with_context(|| format!("writing {}", self.path.display()))?;
+                number(self.taken.from, self.taken.to, 0).context("no number is left")?
+            }
+        };
+        self.taken.given += 1;
+        Ok(found)
     }
 
     /// What shows that this number was given to a client that acts for this principal.
@@ -157,7 +206,7 @@ impl Numbers {
     /// Whether this number was given, to a client that acts for this principal and got this token.
     #[must_use]
     pub fn is_token(&self, number: u64, principal: &str, token: u64) -> bool {
-        (1..self.next).contains(&number) && self.token(number, principal) == token
+        (1..self.taken.next()).contains(&number) && self.token(number, principal) == token
     }
 }
 
@@ -171,12 +220,44 @@ fn write_file(path: &Path, text: &str) -> Result<()> {
     Ok(())
 }
 
-// (where the outcome gets lost, numbers may be written that aren't given)
-fn write_beside(rows: &Rows, key: &Path, text: String) -> Result<()> {
-    rows.mastership.check()?;
-    match rows.gateway.change(&[rows.mastership.fence()], &[Deed::Put(key.display().to_string(), text.into_bytes())])? {
-        Some(_) => Ok(()),
-        None => bail!("another server is master"),
+impl Beside {
+    // What stands there now.
+    fn read(&mut self) -> Result<Option<Numbers>> {
+        let found = self.rows.gateway.get(&self.key)?;
+        self.changed = Some(found.as_ref().map_or(0, |pair| pair.changed));
+        let Some(pair) = found else {
+            return Ok(None);
+        };
+        let numbers = Numbers::read(Path::new(&self.key), std::str::from_utf8(&pair.value)?);
+        numbers.map(Some).with_context(|| format!("{} has no numbers", self.key))
+    }
+
+    // Takes numbers over those that stand there as they were read last, by compare and swap. Where the outcome got lost they are read
+    // again, and others are taken: what a lost write took, sooner or later, isn't given.
+    fn write(&mut self, numbers: &mut Numbers, more: u64, epochs: Epochs) -> Result<Taken> {
+        for _ in 0..TRIES {
+            self.rows.mastership.check()?;
+            let changed = match self.changed {
+                Some(changed) => changed,
+                None => {
+                    if let Some(read) = self.read()? {
+                        (numbers.written, numbers.key) = (read.written, read.key);
+                    }
+                    continue;
+                }
+            };
+            let taken = numbers.more(more);
+            let deeds = [Deed::Put(self.key.clone(), numbers.text(taken.to, epochs).into_bytes())];
+            let written = self.rows.gateway.change(&[Compare::Changed(&self.key, changed), self.rows.mastership.fence()], &deeds);
+            self.changed = written.as_ref().ok().copied().flatten();
+            match written {
+                Ok(Some(_)) => return Ok(taken),
+                Ok(None) => self.rows.mastership.check_key()?,
+                Err(Lost::Unknown(fault)) => return Err(fault.context("etcd doesn't answer")),
+                Err(refused) => return Err(refused.into()),
+            }
+        }
+        bail!("others take numbers meanwhile")
     }
 }
 
@@ -189,6 +270,9 @@ fn digest(key: &[u8; 16], message: &[u8]) -> u64 {
 #[cfg(test)]
 mod tests {
     use super::*;
+    use crate::etcd::mastership::{Mastership, Seat};
+    use crate::etcd::pretended::{Pretended, Way};
+    use std::thread;
     use tempfile::TempDir;
 
     const KEY: &str = "000102030405060708090a0b0c0d0e0f";
@@ -265,6 +349,30 @@ mod tests {
         }
         let mut last = Numbers::read(Path::new("n"), &format!("{OLD_TITLE}\nnext 9007199254740992\nkey {KEY}\n")).unwrap();
         assert!(last.allot().is_err());
+    }
+
+    // A write of an earlier server is on its way while others give numbers, and is done late.
+    #[test]
+    fn a_number_is_given_once_beside_rows() {
+        let etcd = Pretended::start();
+        let mastership = Mastership::wait(&etcd.gateway(), "c/", &Seat { address: String::new(), server: "first".to_owned() }, 60, |_| {});
+        let rows = Rows { gateway: etcd.gateway(), prefix: "c/".to_owned(), mastership };
+        let numbers = || Numbers::beside(&rows, 1).unwrap();
+        let mut given = vec![numbers().allot().unwrap()];
+        etcd.go(&[Way::Held]);
+        let mut first = numbers();
+        let late = thread::spawn(move || first.allot());
+        etcd.wait_for_held(1);
+        let mut second = numbers();
+        given.extend((0..400).map(|_| second.allot().unwrap()));
+        etcd.let_through();
+        given.extend(late.join().unwrap());
+        given.push(numbers().allot().unwrap());
+        let all = given.len();
+        let last = given.last().copied();
+        given.sort_unstable();
+        given.dedup();
+        assert_eq!(given.len(), all, "{last:?} was given twice");
     }
 
     // The first, ninth and sixteenth of the vectors that its authors give: key 00 to 0f, messages 00, 00 01, ..

@@ -157,6 +157,12 @@ impl Picture {
         self.is_up && !self.is_recovering && !self.is_refused
     }
 
+    /// Whether a client may act for this principal: it has no session, as far as is known, or one of that.
+    #[must_use]
+    pub fn is_of(&self, client: u64, principal: &str) -> bool {
+        self.sessions.get(&client).is_none_or(|session| session.principal.is_empty() || *session.principal == *principal)
+    }
+
     /// The name of the node of an instance.
     #[must_use]
     pub fn name(&self, instance: u64) -> Option<&str> {

@@ -290,6 +290,9 @@ impl Hall {
             let Some(asked) = Asked::read(&block).filter(|asked| asked.is_from(bound.client, &bound.principal)) else {
                 return Some("a message that isn't the client's");
             };
+            if !self.picture().is_of(bound.client, &bound.principal) {
+                return Some("its session is another principal's");
+            }
             self.wait(&mut rate, bound).await;
             let units = (block.len() / UNIT + 1) as u32;
             let place = (places.clone().acquire_owned().await.ok(), self.room.clone().acquire_many_owned(units).await.ok());
