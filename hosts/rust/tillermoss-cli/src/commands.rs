@@ -1,12 +1,13 @@
 //! What the verbs do.
 
-use crate::faults::Fault;
-use crate::holding::{elect, lock, register};
+use crate::faults::{Fault, at_making};
+use crate::holding::{check, elect, lock, register};
 use crate::operating::{answers, backup, locks, sessions, status_of};
 use crate::output::{print, print_content, print_json, print_names, print_stat, shown, write};
 use crate::watching::watch;
-use crate::words::{Output, Put, Reach, Verb, Words, is_name};
+use crate::words::{Output, Put, Reach, Verb, Words};
 use clap::CommandFactory;
+use host_wire::is_name;
 use serde_json::json;
 use std::io::{self, Read};
 use std::os::unix::ffi::OsStrExt;
@@ -29,9 +30,10 @@ pub fn run(words: &Words) -> Result<u8, Fault> {
         Verb::Rm { name } => remove(&connect(reach)?, &reach.whole(name))?,
         Verb::Stat { name } => stat(reach, *output, &reach.whole(name))?,
         Verb::Lock(asked) => return lock(&connect(reach)?, &reach.whole(&asked.name), asked),
-        Verb::Elect(asked) => return elect(&connect(reach)?, *output, &reach.whole(&asked.name), asked),
+        Verb::Elect(asked) => return elect(&connect(reach)?, *output, &reach.whole(&asked.hold.name), asked),
         Verb::Register(asked) => return register(&connect(reach)?, *output, &reach.whole(&asked.name), asked),
         Verb::Watch { name, prev, count } => watch(&connect(reach)?, *output, &reach.whole(name), *prev, *count)?,
+        Verb::Check { sequencer } => check(reach, *output, sequencer)?,
         Verb::Status => match &reach.admin {
             Some(admin) => status_of(admin, *output)?,
             None => answers(reach, *output)?,
@@ -72,7 +74,7 @@ fn list(reach: &Reach, output: Output, name: Option<&str>) -> Result<(), Fault> 
 
 fn make_directory(client: &Client, name: &str) -> Result<(), Fault> {
     let create = Create { must: true, ..Create::default() };
-    client.open_with(&Opening { create: Some(create), ..Opening::new(name, Mode::READ) })?;
+    client.open_with(&Opening { create: Some(create), ..Opening::new(name, Mode::READ) }).map_err(|error| at_making(name, error))?;
     Ok(())
 }
 
@@ -105,21 +107,21 @@ fn put(reach: &Reach, output: Output, asked: &Put) -> Result<(), Fault> {
 }
 
 // Writes a file, or makes it; either way the whole content comes in one change. Gives what it replaced, where that was asked for.
-fn write_file(client: &Client, name: &str, content: &[u8], asked: &Put) -> Result<Option<View>, Error> {
+fn write_file(client: &Client, name: &str, content: &[u8], asked: &Put) -> Result<Option<View>, Fault> {
     let mut last = Refusal::NotFound;
     for _ in 0..TRIES {
         let result = match asked.if_generation {
-            Some(0) => return create(client, name, content).map(|_| None),
-            Some(wanted) => return replace(client, name, content, Some(wanted), asked.prev),
+            Some(0) => return create(client, name, content).map(|_| None).map_err(|error| at_making(name, error)),
+            Some(wanted) => return Ok(replace(client, name, content, Some(wanted), asked.prev)?),
             None => replace(client, name, content, None, asked.prev),
         };
         last = match result {
             Err(Error::Refused(Refusal::NotFound)) => match create(client, name, content) {
                 Err(Error::Refused(refusal @ Refusal::Exists)) => refusal,
-                result => return result.map(|_| None),
+                result => return result.map(|_| None).map_err(|error| at_making(name, error)),
             },
             Err(Error::Refused(refusal @ (Refusal::StaleInstance | Refusal::WrongGeneration(_)))) => refusal,
-            result => return result,
+            result => return Ok(result?),
         };
     }
     Err(last.into())

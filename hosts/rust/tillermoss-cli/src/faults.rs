@@ -1,6 +1,7 @@
 //! Why the program ends as it does.
 
 use std::io;
+use std::path::PathBuf;
 use tillermoss::{Error, Refusal};
 
 /// Why nothing came of a command.
@@ -14,8 +15,16 @@ pub enum Fault {
     Command(String, io::Error),
     /// This signal ended a wait.
     Signal(i32),
+    /// There is no directory of this name, in which a node was to be made.
+    Parent(String),
+    /// The file for a copy can't be made.
+    Copy(PathBuf, &'static str),
+    /// The lease ended while a command ran under a lock.
+    Lease,
     /// The word is no name.
     Name,
+    /// The word is no sequencer.
+    Sequencer,
     /// Nobody says where the server listens to operators.
     Admin,
 }
@@ -38,6 +47,14 @@ impl From<io::Error> for Fault {
     }
 }
 
+/// Why the node of this name couldn't be made.
+pub fn at_making(name: &str, error: Error) -> Fault {
+    match error {
+        Error::Refused(Refusal::NotFound) => Fault::Parent(name.rsplit_once('/').map_or("", |(parent, _)| parent).to_owned()),
+        error => Fault::Cell(error),
+    }
+}
+
 impl Fault {
     /// The exit status, as the help lists them.
     pub fn status(&self) -> u8 {
@@ -48,7 +65,10 @@ impl Fault {
             Fault::Cell(_) => 5,
             Fault::Stream(error) if error.kind() == io::ErrorKind::BrokenPipe => 141,
             Fault::Stream(_) | Fault::Command(..) => 6,
-            Fault::Name | Fault::Admin => 2,
+            Fault::Lease => 5,
+            Fault::Parent(_) => 1,
+            Fault::Copy(..) => 6,
+            Fault::Name | Fault::Sequencer | Fault::Admin => 2,
             Fault::Signal(signal) => u8::try_from(128 + signal).unwrap_or(u8::MAX),
         }
     }
@@ -57,6 +77,10 @@ impl Fault {
     pub fn cure(&self) -> Option<&'static str> {
         match self {
             Fault::Name => Some("a name is /ls/CELL and components of 1 to 64 of a-z 0-9 . _ -, 512 bytes in all"),
+            Fault::Parent(_) => Some("tillermoss mkdir -p makes a directory, and those above it"),
+            Fault::Copy(..) => Some("a copy is a new file: name another, or move that one away"),
+            Fault::Lease => Some("--keep-running lets it run on, where who it writes to tests its sequencer or its fencing number"),
+            Fault::Sequencer => Some("TILLERMOSS_SEQUENCER has one in the environment of a command under lock or elect"),
             Fault::Admin => Some("--admin or TILLERMOSS_ADMIN names the one that tillermossd --admin listens at"),
             Fault::Cell(Error::Refused(refusal)) => refusal_cure(*refusal),
             Fault::Cell(Error::Io(_)) => Some("is tillermossd running there? --server or TILLERMOSS_SERVER names another address"),
@@ -68,11 +92,16 @@ impl Fault {
     /// The reason in words.
     pub fn reason(&self) -> String {
         match self {
+            Fault::Cell(Error::Refused(Refusal::NotFound)) => "NotFound: no such node".to_owned(),
             Fault::Cell(error) => error.to_string(),
+            Fault::Parent(name) => format!("NotFound: no such directory: {name}"),
+            Fault::Copy(file, reason) => format!("{}: {reason}", file.display()),
             Fault::Stream(error) => error.to_string(),
             Fault::Command(command, error) => format!("{command}: {error}"),
             Fault::Signal(_) => "a signal ended the wait".to_owned(),
+            Fault::Lease => "the lease has ended".to_owned(),
             Fault::Name => "not a name".to_owned(),
+            Fault::Sequencer => "not a sequencer".to_owned(),
             Fault::Admin => "no address for operators".to_owned(),
         }
     }
@@ -92,6 +121,7 @@ fn refusal_cure(refusal: Refusal) -> Option<&'static str> {
         Refusal::OtherCell => Some("--cell names the cell"),
         Refusal::BadPrincipal => Some("--as takes 1 to 64 of a-z 0-9 . _ -"),
         Refusal::Denied(_) => Some("who may is said by the ACLs that stat shows; --as acts for another principal"),
+        Refusal::TooLarge => Some("a file has 262,144 bytes at most: what is larger stands elsewhere, and a file here says where"),
         Refusal::WrongGeneration(_) => Some("it was written meanwhile: read it again"),
         Refusal::SessionExpired => Some("what it held is lost"),
         _ => None,
@@ -105,7 +135,7 @@ mod tests {
 
     #[test]
     fn each_fault_has_its_status() {
-        let rows: [(Fault, u8); 13] = [
+        let rows: [(Fault, u8); 18] = [
             (Refusal::NotFound.into(), 1),
             (Refusal::StaleInstance.into(), 1),
             (Refusal::Denied(Right::Read).into(), 3),
@@ -119,9 +149,20 @@ mod tests {
             (Fault::Command("none".to_owned(), io::ErrorKind::NotFound.into()), 6),
             (Fault::Signal(15), 143),
             (Fault::Name, 2),
+            (Fault::Sequencer, 2),
+            (Fault::Lease, 5),
+            (Fault::Copy("copy".into(), "is there"), 6),
+            (at_making("/ls/c/d/f", Refusal::NotFound.into()), 1),
+            (at_making("/ls/c/d/f", Refusal::Exists.into()), 3),
         ];
         for (fault, status) in rows {
             assert_eq!(fault.status(), status, "{fault:?}");
         }
+    }
+
+    #[test]
+    fn what_is_not_there_is_named() {
+        assert_eq!(at_making("/ls/c/d/f", Refusal::NotFound.into()).reason(), "NotFound: no such directory: /ls/c/d");
+        assert_eq!(Fault::from(Refusal::NotFound).reason(), "NotFound: no such node");
     }
 }

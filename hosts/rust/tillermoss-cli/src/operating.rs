@@ -99,6 +99,13 @@ fn listed(clients: &[u64]) -> String {
 
 /// Takes a copy of the store.
 pub fn backup(admin: &str, output: Output, file: &Path) -> Result<(), Fault> {
+    let folder = file.parent().filter(|folder| !folder.as_os_str().is_empty()).unwrap_or(Path::new("."));
+    if file.symlink_metadata().is_ok() {
+        return Err(Fault::Copy(file.to_owned(), "is there already"));
+    }
+    if !folder.is_dir() {
+        return Err(Fault::Copy(file.to_owned(), "its folder isn't there"));
+    }
     let bytes = Admin::new(admin)?.backup(file)?;
     match output {
         Output::Text => print(format!("{bytes} bytes").as_bytes())?,

@@ -1,7 +1,6 @@
 //! The words of the command line.
 
 use clap::{Args, Parser, Subcommand, ValueEnum};
-use host_wire::is_component;
 use std::ffi::OsString;
 use std::path::PathBuf;
 use std::time::Duration;
@@ -21,6 +20,21 @@ Exit status:
   6    the input can't be read, the output can't be written, or a command can't be started
   141  what reads the output has closed it
 A command that ran under lock, elect or register ends with the command's status, 128 and its number where a signal ended it.";
+
+/// What stands behind the options of lock.
+const LOCKING: &str = "\
+Where there is no file it is made, and stays. The command has in its environment
+  TILLERMOSS_SEQUENCER        the sequencer in hexadecimal, by which others test that the lock is held (tillermoss check)
+  TILLERMOSS_FENCING_NUMBER   a number of up to 128 bits that rises from one holder of this name to the next, whatever becomes of the file
+  TILLERMOSS_LOCK_GENERATION  one of 64 bits, which does so as long as the file is permanent and isn't deleted
+SIGTERM, SIGINT and SIGHUP are passed on to the command; one that comes while the lock is waited for ends the wait, which the cell
+forgets when the lease has run out.
+Where this client's lease ends the lock may soon be another's: then the command is ended, by SIGTERM, and by SIGKILL once --grace is
+over, and the status is 5. Where the standard input is no terminal these go to all processes of the command. The lock stays closed
+for as long (--delay). So the next holder begins after this command's end, unless this program itself is stopped or killed.";
+
+/// The longest grace in seconds that a lock-delay of 60 s covers.
+const LONGEST_GRACE: u64 = 55;
 
 /// Asks a cell that tillermossd serves.
 #[derive(Debug, Parser)]
@@ -93,11 +107,6 @@ impl Reach {
     }
 }
 
-/// Whether it is a name: `/ls` and components of 1 to 64 of `a-z 0-9 . _ -`, neither `.` nor `..`, with 512 bytes at most.
-pub fn is_name(name: &str) -> bool {
-    name.len() <= 512 && name.strip_prefix("/ls/").is_some_and(|rest| rest.split('/').all(is_component))
-}
-
 /// How answers are printed.
 #[derive(Clone, Copy, Debug, PartialEq, Eq, ValueEnum)]
 pub enum Output {
@@ -143,22 +152,28 @@ pub enum Verb {
         name: String,
     },
     /// Runs a command while it holds the lock of a file
-    #[command(after_help = "\
-The file is made where there is none, and goes with its last user. The command has TILLERMOSS_SEQUENCER in its environment: the
-sequencer in hexadecimal, by which others can test that the lock is held. SIGTERM, SIGINT and SIGHUP are passed on to the command;
-one that comes while the lock is waited for ends the wait, which the cell forgets when the lease has run out. Where the session is
-lost the lock may be another's: then the command is ended, by SIGTERM and two seconds later by SIGKILL, and the status is 5.")]
+    #[command(after_help = LOCKING)]
     Lock(Lock),
     /// Waits to be elected, writes a value into the file, and runs a command while it is elected
     #[command(after_help = "\
 The candidates of an election name the same file, whose lock the elected one holds and whose content it writes; who asks for the
-elected one reads or watches the file. Behind the command the file is emptied. Signals and a lost session: as lock has them.")]
-    Elect(Hold),
+elected one reads or watches the file. After the command the file is emptied. The file, the environment, signals and a lease that
+ends: as lock has them.")]
+    Elect(Elect),
     /// Makes a file that is there as long as a command runs
     #[command(after_help = "\
 The file is ephemeral: it goes when the command has ended; where this program is killed or cut off, when its lease has run out. A
-file of the name that is there is waited for. Signals and a lost session: as lock has them.")]
+file of the name that is there is waited for. Signals are passed on to the command. Where the session is lost the command is ended,
+by SIGTERM and two seconds later by SIGKILL, and the status is 5.")]
     Register(Hold),
+    /// Asks the cell whether the lock of a sequencer is held still, and prints what the sequencer says
+    #[command(after_help = "\
+It prints the lock's name, how it is held, and its fencing number, which rises from one holder of a name to the next. Where the lock is
+held no more the status is 3.")]
+    Check {
+        /// The sequencer in hexadecimal, as TILLERMOSS_SEQUENCER has it
+        sequencer: String,
+    },
     /// Prints what happens to a file or a directory from then on, until it is deleted
     #[command(after_help = "\
 It first says on the standard error that it watches. Where two writes come close together the later content may stand for both.")]
@@ -216,12 +231,49 @@ pub struct Lock {
     /// Holds it beside others that share it
     #[arg(long)]
     pub shared: bool,
-    /// So many milliseconds the lock stays closed where this program is lost while it holds it, at most 60000
-    #[arg(long, default_value_t = 0, value_name = "MILLISECONDS")]
-    pub delay: u64,
+    /// What becomes of the command where the lease ends.
+    #[command(flatten)]
+    pub ending: Ending,
     /// The command, with its words
     #[arg(required = true, last = true)]
     pub command: Vec<OsString>,
+}
+
+/// What becomes of a command under a lock where the lease ends.
+#[derive(Clone, Copy, Debug, Args)]
+pub struct Ending {
+    /// So many seconds the command has after SIGTERM to end, before SIGKILL
+    #[arg(long, default_value_t = 5, value_name = "SECONDS", value_parser = clap::value_parser!(u64).range(..=LONGEST_GRACE))]
+    pub grace: u64,
+    /// So many milliseconds the lock stays closed where this program is lost while it holds it, at most 60000; by default as long as the
+    /// command may take to its end
+    #[arg(long, value_name = "MILLISECONDS")]
+    pub delay: Option<u64>,
+    /// Lets the command run on where the lease has ended: for work that is fenced by its sequencer or its fencing number
+    #[arg(long)]
+    pub keep_running: bool,
+    /// Makes a file that goes with its last user
+    #[arg(long)]
+    pub ephemeral: bool,
+}
+
+impl Ending {
+    /// So many milliseconds the lock stays closed. A client's lease ends before the master's view of it does; the grace is counted by the
+    /// client's clock, which may go slower than the master's, 16 to 17; and a second is for what SIGKILL takes.
+    pub fn lock_delay(&self) -> u64 {
+        self.delay.unwrap_or(if self.keep_running { 0 } else { (1000 * self.grace * 17).div_ceil(16) + 1000 })
+    }
+}
+
+/// The words of an election.
+#[derive(Debug, Args)]
+pub struct Elect {
+    /// The file, what it says, and the command.
+    #[command(flatten)]
+    pub hold: Hold,
+    /// What becomes of the command where the lease ends.
+    #[command(flatten)]
+    pub ending: Ending,
 }
 
 /// The words of what is held while a command runs.
@@ -250,9 +302,10 @@ impl Verb {
             Verb::Rm { name } => ("rm", Some(name)),
             Verb::Stat { name } => ("stat", Some(name)),
             Verb::Lock(lock) => ("lock", Some(&lock.name)),
-            Verb::Elect(hold) => ("elect", Some(&hold.name)),
+            Verb::Elect(elect) => ("elect", Some(&elect.hold.name)),
             Verb::Register(hold) => ("register", Some(&hold.name)),
             Verb::Watch { name, .. } => ("watch", Some(name)),
+            Verb::Check { .. } => ("check", None),
             Verb::Status => ("status", None),
             Verb::Sessions => ("sessions", None),
             Verb::Locks => ("locks", None),
@@ -297,25 +350,23 @@ mod tests {
     }
 
     #[test]
+    fn a_lock_stays_closed_for_as_long_as_its_command_may_take_to_end() {
+        let rows = [("", 6313), ("--grace 0", 1000), ("--grace 55", 59_438), ("--delay 7", 7), ("--keep-running", 0)];
+        for (options, wanted) in rows {
+            let line = format!("tillermoss elect {options} f v");
+            let words = Words::try_parse_from(line.split_whitespace()).unwrap();
+            let Verb::Elect(elect) = words.verb else { panic!("another verb") };
+            assert_eq!(elect.ending.lock_delay(), wanted, "{options}");
+        }
+        assert!(Words::try_parse_from("tillermoss lock --grace 56 f -- true".split(' ')).is_err());
+    }
+
+    #[test]
     fn names_are_made_whole() {
         let words = Words::try_parse_from(["tillermoss", "--cell", "k", "ls"]).unwrap();
         for (name, wanted) in [("f", "/ls/k/f"), ("d/f", "/ls/k/d/f"), ("/ls/d/f", "/ls/d/f")] {
             assert_eq!(words.reach.whole(name), wanted);
         }
-    }
-
-    #[test]
-    fn names_are_told_from_other_words() {
-        let long = format!("/ls/c/{}", "a".repeat(64));
-        for name in ["/ls/c", "/ls/c/f", "/ls/c/d/a.b_c-9", "/ls/c/...", &long] {
-            assert!(is_name(name), "{name}");
-        }
-        let longer = format!("{long}a");
-        for word in ["", "/", "/ls", "/ls/", "/ls/c/", "/ls//f", "/ls/c/F", "/ls/c/a b", "/ls/c/..", "/ls/c/.", "/etc/c/f", &longer] {
-            assert!(!is_name(word), "{word}");
-        }
-        let names = |count| format!("/ls{}", format!("/{}", "a".repeat(63)).repeat(count));
-        assert!(is_name(&format!("{}/{}", names(7), "a".repeat(60))) && !is_name(&format!("{}/{}", names(7), "a".repeat(61))));
     }
 
     #[test]

@@ -33,6 +33,7 @@ mod nodes;
 mod outgoing;
 mod reaching;
 mod refusals;
+mod sequencers;
 mod viewer;
 
 pub use admin::Admin;
@@ -91,6 +92,7 @@ pub use host_wire::TurnedAway;
 pub use nodes::{Kind, LockMode, Mode, Right, Stat, View};
 pub use reaching::own_principal;
 pub use refusals::Refusal;
+pub use sequencers::Sequencer;
 pub use viewer::Viewer;
 
 /// The version of this crate, and whether its client library was built without proof.

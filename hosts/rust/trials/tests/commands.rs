@@ -9,7 +9,7 @@ use std::process::{Child, ChildStdout, Command, Stdio};
 use std::thread;
 use std::time::{Duration, Instant};
 use tillermoss::{Client, Error, Options};
-use trials::{Kill, Server, folder, program};
+use trials::{Kill, Passing, Relay, Server, folder, program};
 
 fn command(server: &Server, words: &[&str]) -> Command {
     let mut command = Command::new(program("tillermoss"));
@@ -214,7 +214,11 @@ fn errors_say_what_was_refused_and_why() {
     let server = Server::start(&folder.join("store.db")).unwrap();
     assert_eq!(run(&server, &["put", "f", "x"]).1, Some(0));
     let rows: &[(&[&str], &str, i32)] = &[
-        (&["get", "g"], "get /ls/c/g at ADDRESS: NotFound: ", 1),
+        (&["get", "g"], "get /ls/c/g at ADDRESS: NotFound: no such node\n", 1),
+        (&["put", "d/f", "x"], "put /ls/c/d/f at ADDRESS: NotFound: no such directory: /ls/c/d\n", 1),
+        (&["mkdir", "d/e"], "mkdir /ls/c/d/e at ADDRESS: NotFound: no such directory: /ls/c/d\n", 1),
+        (&["lock", "d/l", "--", "true"], "lock /ls/c/d/l at ADDRESS: NotFound: no such directory: /ls/c/d\n", 1),
+        (&["register", "d/w", "x", "--", "true"], "register /ls/c/d/w at ADDRESS: NotFound: no such directory: /ls/c/d\n", 1),
         (&["ls", "f"], "ls /ls/c/f at ADDRESS: WrongKind file: ", 3),
         (&["get", "F"], "get /ls/c/F at ADDRESS: not a name", 2),
         (&["get", "/ls/d/f"], "get /ls/d/f at ADDRESS: OtherCell: ", 3),
@@ -223,6 +227,13 @@ fn errors_say_what_was_refused_and_why() {
         (&["lock", "f", "--", "/no/such/program"], "lock /ls/c/f at ADDRESS: /no/such/program: ", 6),
         (&["lock", "l", "--delay", "60001", "--", "true"], "lock /ls/c/l at ADDRESS: DelayTooLong: ", 3),
     ];
+    let begun = Instant::now();
+    let mut put = command(&server, &["put", "large"]).stdin(Stdio::piped()).stderr(Stdio::piped()).spawn().unwrap();
+    put.stdin.take().unwrap().write_all(&[b'a'; 1 << 20]).unwrap();
+    let output = put.wait_with_output().unwrap();
+    let told = String::from_utf8(output.stderr).unwrap();
+    assert!(told.contains("TooLarge") && output.status.code() == Some(3), "{told}");
+    assert!(begun.elapsed() < Duration::from_secs(5), "{:?}", begun.elapsed());
     for (words, wanted, status) in rows {
         let output = command(&server, words).output().unwrap();
         let told = String::from_utf8(output.stderr).unwrap();
@@ -274,9 +285,150 @@ fn a_command_is_ended_where_the_session_is_lost() {
     signal(&first, Signal::SIGCONT);
     let output = first.wait_with_output().unwrap();
     let told = String::from_utf8(output.stderr).unwrap();
-    assert!(told.contains("the session is lost: the command was ended"), "{told}");
+    assert!(told.contains("the lease has ended: the command was ended"), "{told}");
     assert_eq!(output.status.code(), Some(5));
     assert!(ended.exists());
+    fs::remove_dir_all(folder).unwrap();
+}
+
+// Two who stand for one lock, the first of them over a network that is cut off while its command runs: when the first command did
+// something last, and when the second one began, in milliseconds behind the cut; and how the first program ended. Each command writes the time into a file, the
+// first one again and again.
+fn cut_off(words: &[&str], script: &str) -> (i64, i64, Option<i32>) {
+    let folder = folder("cut-off");
+    let (settings, stamps, second) = (folder.join("cell.toml"), folder.join("stamps"), folder.join("second"));
+    fs::write(&settings, "lease = 1000\n").unwrap();
+    let server = Server::start_with(&folder.join("store.db"), Some(&settings)).unwrap();
+    let relay = Relay::start(server.place().parse().unwrap()).unwrap();
+    let place = relay.address().to_string();
+    let stamp = |file: &Path| format!("date +%s%3N >>{}", file.display());
+    let script = script.replace("WORK", &format!("while :; do {}; sleep 0.02; done", stamp(&stamps)));
+    let first = Command::new(program("tillermoss"))
+        .args(["--server", &place])
+        .args(words)
+        .args(["--", "sh", "-c", &script])
+        .stdin(Stdio::null())
+        .stderr(Stdio::null())
+        .spawn();
+    let mut first = first.unwrap();
+    wait_for(&stamps);
+    let mut other = start(&server, &["lock", "l", "--", "sh", "-c", &stamp(&second)]);
+    thread::sleep(Duration::from_millis(300));
+    relay.set(Passing::Nothing);
+    let cut = milliseconds(&run_plainly("date", &["+%s%3N"]));
+    assert!(other.wait().unwrap().success());
+    let began = milliseconds(&fs::read_to_string(&second).unwrap()) - cut;
+    // (one that runs on does something meanwhile)
+    thread::sleep(Duration::from_millis(500));
+    let last = fs::read_to_string(&stamps).unwrap().lines().last().map(milliseconds).unwrap() - cut;
+    let status = ends_within(&mut first, if last > began { Duration::ZERO } else { Duration::from_secs(10) });
+    relay.set(Passing::All);
+    if status.is_none() {
+        signal(&first, Signal::SIGTERM);
+        first.wait().unwrap();
+    }
+    fs::remove_dir_all(folder).unwrap();
+    (last, began, status)
+}
+
+fn ends_within(child: &mut Child, most: Duration) -> Option<i32> {
+    let begun = Instant::now();
+    loop {
+        match child.try_wait().unwrap() {
+            Some(status) => return status.code(),
+            None if begun.elapsed() >= most => return None,
+            None => thread::sleep(Duration::from_millis(20)),
+        }
+    }
+}
+
+fn milliseconds(text: &str) -> i64 {
+    text.trim().parse().unwrap()
+}
+
+fn run_plainly(program: &str, words: &[&str]) -> String {
+    String::from_utf8(Command::new(program).args(words).output().unwrap().stdout).unwrap()
+}
+
+// The commands: one that heeds SIGTERM, one that doesn't, and one that leaves a process of its own which doesn't.
+#[test]
+fn a_command_that_is_cut_off_ends_before_its_successor_begins() {
+    let rows: &[(&[&str], &str)] = &[
+        (&["lock", "l", "--grace", "1"], "WORK"),
+        (&["lock", "l", "--grace", "1"], "trap '' TERM; WORK"),
+        (&["lock", "l", "--grace", "1"], "(trap '' TERM; WORK) & trap exit TERM; wait"),
+        (&["elect", "l", "a", "--grace", "1"], "trap '' TERM; WORK"),
+    ];
+    for (words, script) in rows {
+        let (last, began, status) = cut_off(words, script);
+        println!("commands: cut off, {} {script:?} did something last behind {last} ms; the next began behind {began} ms", words[0]);
+        assert!(last < began, "{words:?} {script}: {last} {began}");
+        assert_eq!(status, Some(5), "{words:?} {script}");
+    }
+}
+
+#[test]
+fn a_command_runs_on_where_that_is_asked_for() {
+    let (last, began, status) = cut_off(&["lock", "l", "--keep-running"], "WORK");
+    assert!(last > began, "{last} {began}");
+    assert_eq!(status, None);
+}
+
+// What a command under a lock is told: its fencing number, its lock's generation, and its sequencer.
+fn numbers(server: &Server, words: &[&str]) -> (u128, u64, String) {
+    let script = "echo $TILLERMOSS_FENCING_NUMBER $TILLERMOSS_LOCK_GENERATION $TILLERMOSS_SEQUENCER";
+    let (printed, status) = run(server, &[words, &["--", "sh", "-c", script]].concat());
+    assert_eq!(status, Some(0), "{words:?}");
+    let words: Vec<_> = printed.split_whitespace().collect();
+    (words[0].parse().unwrap(), words[1].parse().unwrap(), words[2].to_owned())
+}
+
+// (where the file stays the generation rises too; where it is made anew the fencing number alone. For a minute behind its start a server
+// lets no ephemeral file go by itself)
+#[test]
+fn each_holder_of_a_name_has_a_greater_number() {
+    let folder = folder("fencing");
+    let server = Server::start(&folder.join("store.db")).unwrap();
+    let rows: &[(&[&str], u64)] = &[
+        (&["lock", "l", "--ephemeral"], 1),
+        (&["rm", "l"], 0),
+        (&["elect", "l", "a", "--ephemeral"], 1),
+        (&["rm", "l"], 0),
+        (&["elect", "l", "b"], 1),
+        (&["elect", "l", "c"], 2),
+        (&["lock", "l"], 3),
+        (&["lock", "l", "--shared", "--ephemeral"], 4),
+        (&["rm", "l"], 0),
+        (&["lock", "l"], 1),
+    ];
+    let mut before = 0;
+    for (words, generation) in rows {
+        if *generation == 0 {
+            assert_eq!(run(&server, words).1, Some(0), "{words:?}");
+            continue;
+        }
+        let (number, present, _) = numbers(&server, words);
+        assert_eq!(present, *generation, "{words:?}");
+        assert!(number > before && number % (1 << 64) == u128::from(present), "{words:?}: {number} {before}");
+        before = number;
+    }
+    fs::remove_dir_all(folder).unwrap();
+}
+
+#[test]
+fn a_sequencer_is_checked_by_whoever_has_it() {
+    let folder = folder("checking");
+    let server = Server::start(&folder.join("store.db")).unwrap();
+    let script = format!("{} --server {} check $TILLERMOSS_SEQUENCER", program("tillermoss").display(), server.address);
+    let (printed, status) = run(&server, &["lock", "l", "--", "sh", "-c", &script]);
+    assert_eq!(status, Some(0));
+    let wanted = "name /ls/c/l\nmode exclusive\ninstance 4\nlock-generation 1\nfencing-number 73786976294838206465\n";
+    assert_eq!(printed, wanted);
+    let (_, _, sequencer) = numbers(&server, &["lock", "l"]);
+    assert_eq!(run(&server, &["check", &sequencer]), (String::new(), Some(3)));
+    for text in ["", "0", "xy", "00", &sequencer[2..]] {
+        assert_eq!(run(&server, &["check", text]), (String::new(), Some(2)), "{text}");
+    }
     fs::remove_dir_all(folder).unwrap();
 }
 
