@@ -1,26 +1,31 @@
 //! What is held while a command runs: a lock, an election, a file that says that somebody is there.
 
-use crate::commands::connect;
+use crate::commands::Asker;
 use crate::faults::{Fault, at_making};
 use crate::output::{print, print_json, print_sequencer, say};
 use crate::running::{Command, Until, run, signals, wait_for};
-use crate::words::{Elect, Ending, Hold, Lock, Output, Reach};
+use crate::words::{Elect, Ending, Hold, Lock, Output};
 use serde_json::json;
 use signal_hook::iterator::Signals;
 use std::os::unix::ffi::OsStrExt;
-use std::time::Duration;
+use std::thread;
+use std::time::{Duration, Instant};
 use tillermoss::{Client, Create, Error, Events, Handle, Life, LockMode, Mode, Opening, Refusal, Sequencer, Watch};
 
 /// So long until a file that is there is tried again to be made, where nothing was told of it.
 const AGAIN: Duration = Duration::from_secs(1);
 
+/// So long until a lock is asked for again, by one who waits for a time.
+const ASKING: Duration = Duration::from_millis(100);
+
 /// Waits for the lock of a file, runs the command, and lets the lock go; gives the command's status.
-pub fn lock(client: &Client, name: &str, asked: &Lock) -> Result<u8, Fault> {
+pub fn lock(asker: &Asker<'_>, name: &str, asked: &Lock) -> Result<u8, Fault> {
+    let client = &asker.connect()?;
     let mut signals = signals()?;
     let mode = if asked.shared { LockMode::Shared } else { LockMode::Exclusive };
-    let watch = client.watch_with(&candidate(name, asked.ending)).map_err(|error| at_making(name, error))?;
+    let watch = candidate(asker, client, name, asked.ending)?;
     let held = watch.handle;
-    let ended = take(client, held, mode, asked.no_wait, &mut signals).and_then(|()| {
+    let ended = take(asker, client, held, mode, Patience::of(asked.no_wait, asked.ending), &mut signals).and_then(|()| {
         let environment = environment(&client.sequencer(held)?)?;
         let command = Command { words: &asked.command, environment, until: until(asked.ending) };
         run(client, &command, &watch, &mut signals)
@@ -31,14 +36,16 @@ pub fn lock(client: &Client, name: &str, asked: &Lock) -> Result<u8, Fault> {
 
 /// Waits for the lock of a file, writes the value into it, runs the command, empties the file and lets the lock go; gives the
 /// command's status.
-pub fn elect(client: &Client, output: Output, name: &str, asked: &Elect) -> Result<u8, Fault> {
+pub fn elect(asker: &Asker<'_>, name: &str, asked: &Elect) -> Result<u8, Fault> {
+    let client = &asker.connect()?;
     let mut signals = signals()?;
-    let watch = client.watch_with(&candidate(name, asked.ending)).map_err(|error| at_making(name, error))?;
+    let watch = candidate(asker, client, name, asked.ending)?;
     let held = watch.handle;
-    let ended = take(client, held, LockMode::Exclusive, asked.hold.no_wait, &mut signals).and_then(|()| {
+    let patience = Patience::of(asked.hold.no_wait, asked.ending);
+    let ended = take(asker, client, held, LockMode::Exclusive, patience, &mut signals).and_then(|()| {
         client.set(held, asked.hold.value.as_bytes(), None)?;
         let environment = environment(&client.sequencer(held)?)?;
-        announce(output, &asked.hold, "elected", name)?;
+        announce(asker.output, &asked.hold, "elected", name)?;
         let command = Command { words: &asked.hold.command, environment, until: until(asked.ending) };
         let ended = run(client, &command, &watch, &mut signals);
         if !client.lease_left().is_zero() {
@@ -51,10 +58,13 @@ pub fn elect(client: &Client, output: Output, name: &str, asked: &Elect) -> Resu
 }
 
 /// Makes a file that goes with this program, runs the command, and deletes the file; gives the command's status.
-pub fn register(client: &Client, output: Output, name: &str, asked: &Hold) -> Result<u8, Fault> {
+pub fn register(asker: &Asker<'_>, name: &str, asked: &Hold) -> Result<u8, Fault> {
+    let client = &asker.connect()?;
     let mut signals = signals()?;
+    let waiting = asker.wait_by(client);
     let watch = make(client, name, asked, &mut signals)?;
-    announce(output, asked, "registered", name)?;
+    drop(waiting);
+    announce(asker.output, asked, "registered", name)?;
     let command = Command { words: &asked.command, environment: Vec::new(), until: Until::Session };
     let ended = run(client, &command, &watch, &mut signals);
     if !client.is_lost() {
@@ -66,18 +76,20 @@ pub fn register(client: &Client, output: Output, name: &str, asked: &Hold) -> Re
 }
 
 /// Asks whether the lock of a sequencer is held still, and prints what the sequencer says.
-pub fn check(reach: &Reach, output: Output, text: &str) -> Result<(), Fault> {
+pub fn check(asker: &Asker<'_>, text: &str) -> Result<(), Fault> {
     let bytes = hex::decode(text.trim()).map_err(|_| Fault::Sequencer)?;
     let sequencer = Sequencer::read(&bytes).ok_or(Fault::Sequencer)?;
-    connect(reach)?.check_sequencer(&bytes)?;
-    Ok(print_sequencer(output, &sequencer)?)
+    asker.connect()?.check_sequencer(&bytes)?;
+    Ok(print_sequencer(asker.output, &sequencer)?)
 }
 
 // A file that is made where there is none. It stays unless that is asked for: then the generation of its lock goes on.
-fn candidate(name: &str, ending: Ending) -> Opening {
+fn candidate(asker: &Asker<'_>, client: &Client, name: &str, ending: Ending) -> Result<Watch, Fault> {
+    let _waiting = asker.wait_by(client);
     let life = if ending.ephemeral { Life::Ephemeral } else { Life::Permanent };
     let file = Create { content: Some(Vec::new()), life, ..Create::default() };
-    Opening { create: Some(file), lock_delay: ending.lock_delay(), ..Opening::new(name, Mode::WRITE) }
+    let opening = Opening { create: Some(file), lock_delay: ending.lock_delay(), ..Opening::new(name, Mode::WRITE) };
+    client.watch_with(&opening).map_err(|error| at_making(name, error))
 }
 
 fn until(ending: Ending) -> Until {
@@ -104,11 +116,49 @@ fn announce(output: Output, asked: &Hold, word: &str, name: &str) -> Result<(), 
     Ok(())
 }
 
-fn take(client: &Client, held: Handle, mode: LockMode, no_wait: bool, signals: &mut Signals) -> Result<(), Fault> {
-    if no_wait {
-        return Ok(client.try_acquire(held, mode)?);
+/// How long a lock is waited for.
+#[derive(Clone, Copy)]
+enum Patience {
+    /// Not at all.
+    None,
+    /// So long.
+    For(Duration),
+    /// As long as it takes.
+    Any,
+}
+
+impl Patience {
+    fn of(no_wait: bool, ending: Ending) -> Patience {
+        match ending.timeout {
+            _ if no_wait => Patience::None,
+            Some(seconds) => Patience::For(Duration::from_secs(seconds)),
+            None => Patience::Any,
+        }
     }
-    wait_for(client, held, signals, || acquire(client, held, mode))
+}
+
+fn take(asker: &Asker<'_>, client: &Client, held: Handle, mode: LockMode, patience: Patience, signals: &mut Signals) -> Result<(), Fault> {
+    let _waiting = asker.wait_by(client);
+    match patience {
+        Patience::None => Ok(client.try_acquire(held, mode)?),
+        Patience::For(most) => take_in_time(client, held, mode, most, signals),
+        Patience::Any => wait_for(client, held, signals, || acquire(client, held, mode)),
+    }
+}
+
+// Asks for the lock again and again: a call that waits couldn't be taken back, and the client couldn't leave with it.
+fn take_in_time(client: &Client, held: Handle, mode: LockMode, most: Duration, signals: &mut Signals) -> Result<(), Fault> {
+    let begun = Instant::now();
+    loop {
+        match client.try_acquire(held, mode) {
+            Err(Error::Refused(Refusal::Held(_) | Refusal::Delayed(_))) if begun.elapsed() < most => {}
+            result => return Ok(result?),
+        }
+        if let Some(signal) = signals.pending().next() {
+            return Err(Fault::Given(signal));
+        }
+        thread::sleep(ASKING);
+    }
 }
 
 // Where another master came up meanwhile the lock may be held already: then it is let go, and waited for again.

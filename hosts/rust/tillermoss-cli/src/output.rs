@@ -96,6 +96,17 @@ pub fn print_stat(output: Output, name: &str, stat: &Stat) -> io::Result<()> {
     }
 }
 
+/// By which ACLs a node is read, written, and its ACLs changed.
+pub fn print_acl(output: Output, name: &str, stat: &Stat) -> io::Result<()> {
+    let [read, write, change] = &stat.acl;
+    match output {
+        Output::Text => print(format!("read {read}\nwrite {write}\nchange {change}").as_bytes()),
+        Output::Json => print_json(&json!({
+            "name": name, "read": read, "write": write, "change": change, "acl_generation": stat.acl_generation,
+        })),
+    }
+}
+
 /// What a sequencer says.
 pub fn print_sequencer(output: Output, sequencer: &Sequencer) -> io::Result<()> {
     let mode = match sequencer.mode {

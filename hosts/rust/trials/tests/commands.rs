@@ -9,7 +9,7 @@ use std::process::{Child, ChildStdout, Command, Stdio};
 use std::thread;
 use std::time::{Duration, Instant};
 use tillermoss::{Client, Error, Options};
-use trials::{Kill, Passing, Relay, Server, folder, program};
+use trials::{Kill, Passing, Relay, Server, Start, folder, program};
 
 fn command(server: &Server, words: &[&str]) -> Command {
     let mut command = Command::new(program("tillermoss"));
@@ -99,6 +99,163 @@ fn files_are_made_read_and_deleted() {
     let mut left: Vec<_> = fs::read_dir(&folder).unwrap().map(|entry| entry.unwrap().file_name()).collect();
     left.sort();
     assert_eq!(left, ["store.db", "store.db-lock", "store.db-numbers", "store.db.log"]);
+    fs::remove_dir_all(folder).unwrap();
+}
+
+#[test]
+fn verbs_take_several_names_and_whole_trees() {
+    let folder = folder("trees");
+    let server = Server::start(&folder.join("store.db")).unwrap();
+    let rows: &[(&[&str], &str, i32)] = &[
+        (&["mkdir", "-p", "d/e/f", "g"], "", 0),
+        (&["mkdir", "--parents", "d/e/f"], "", 0),
+        (&["put", "d/e/a", "one"], "", 0),
+        (&["put", "b", "two"], "", 0),
+        (&["mkdir", "-p", "b"], "", 3),
+        (&["mkdir", "-p", "b/c"], "", 3),
+        (&["get", "d/e/a", "b"], "one\ntwo\n", 0),
+        (&["get", "d/e/a", "none", "b"], "one\ntwo\n", 1),
+        (&["ls", "-r", "d"], "e\ne/a\ne/f\n", 0),
+        (&["ls", "-r", "b"], "", 3),
+        (&["ls", "d", "g", "d/e"], "/ls/c/d:\ne\n/ls/c/g:\n/ls/c/d/e:\na\nf\n", 0),
+        (&["ls", "-r", "d", "--json"], "{\"children\":[\"e\",\"e/a\",\"e/f\"],\"name\":\"/ls/c/d\"}\n", 0),
+        (&["rm", "d"], "", 3),
+        (&["rm", "-r", "d", "b"], "", 0),
+        (&["rm", "none", "g"], "", 1),
+        (&["rm", "-r", "/ls/c"], "", 3),
+        (&["rm", "-r", "acl"], "", 3),
+        (&["ls", "-r"], "acl\nacl/base\n", 0),
+        (&["stat", "F", "acl"], "", 2),
+    ];
+    for (words, printed, status) in rows {
+        assert_eq!(run(&server, words), ((*printed).to_owned(), Some(*status)), "{words:?}");
+    }
+    fs::remove_dir_all(folder).unwrap();
+}
+
+#[test]
+fn the_acls_of_a_node_are_read_and_changed() {
+    let folder = folder("acls");
+    let server = Server::start(&folder.join("store.db")).unwrap();
+    let json = "{\"acl_generation\":2,\"change\":\"base\",\"name\":\"/ls/c/f\",\"read\":\"readers\",\"write\":\"base\"}\n";
+    let rows: &[(&[&str], &str, i32)] = &[
+        (&["put", "f", "x"], "", 0),
+        (&["put", "acl/readers", "ann\nbob\neve\n"], "", 0),
+        (&["acl", "get", "f"], "read base\nwrite base\nchange base\n", 0),
+        (&["get", "f", "--as", "eve"], "", 3),
+        (&["acl", "set", "f", "--read", "readers"], "", 0),
+        (&["get", "f", "--as", "eve"], "x\n", 0),
+        (&["acl", "get", "f", "--json"], json, 0),
+        (&["acl", "set", "f", "--write", "readers", "--change", "readers", "--if-generation", "1"], "", 3),
+        (&["acl", "set", "f", "--write", "readers", "--if-generation", "2"], "", 0),
+        (&["acl", "get", "f"], "read readers\nwrite readers\nchange base\n", 0),
+        (&["acl", "set", "f", "--read", "base", "--as", "eve"], "", 3),
+        (&["acl", "set", "f", "--read", "R"], "", 3),
+        (&["acl", "set", "f"], "", 2),
+        (&["acl", "get", "g"], "", 1),
+    ];
+    for (words, printed, status) in rows {
+        assert_eq!(run(&server, words), ((*printed).to_owned(), Some(*status)), "{words:?}");
+    }
+    fs::remove_dir_all(folder).unwrap();
+}
+
+// By a shell, which can close the standard input.
+fn by_shell(server: &Server, line: &str) -> (String, Option<i32>) {
+    let line = line.replace("tillermoss ", &format!("{} --server {} ", program("tillermoss").display(), server.address));
+    let output = Command::new("sh").arg("-c").arg(line).output().unwrap();
+    (String::from_utf8([output.stdout, output.stderr].concat()).unwrap(), output.status.code())
+}
+
+#[test]
+fn a_content_comes_from_where_users_expect() {
+    let folder = folder("inputs");
+    let server = Server::start(&folder.join("store.db")).unwrap();
+    let file = folder.join("content");
+    fs::write(&file, "of a file\n").unwrap();
+    let put = |line: &str| by_shell(&server, line);
+    let done = (String::new(), Some(0));
+    assert_eq!(put("echo piped | tillermoss put f -"), done);
+    assert_eq!(put("tillermoss get f"), ("piped\n".to_owned(), Some(0)));
+    assert_eq!(put(&format!("tillermoss put f @{}", file.display())), done);
+    assert_eq!(put("tillermoss get f"), ("of a file\n".to_owned(), Some(0)));
+    for line in ["tillermoss put f <&-", "tillermoss put f - <&-"] {
+        let (told, status) = put(line);
+        assert!(told.contains("the standard input is closed") && status == Some(6), "{line}: {told}");
+    }
+    let (told, status) = put("tillermoss put f @/no/such/file");
+    assert!(told.contains("/no/such/file: No such file") && status == Some(6), "{told}");
+    assert_eq!(put("tillermoss get f"), ("of a file\n".to_owned(), Some(0)));
+    assert_eq!(put("tillermoss put f </dev/null"), done);
+    assert_eq!(put("tillermoss get f --raw"), done);
+    fs::remove_dir_all(folder).unwrap();
+}
+
+#[test]
+fn a_put_tells_the_generation_that_it_made() {
+    let folder = folder("generations");
+    let server = Server::start(&folder.join("store.db")).unwrap();
+    let told =
+        |generation, previous: &str| format!("{{\"content_generation\":{generation},\"instance\":4,\"name\":\"/ls/c/f\"{previous}}}\n");
+    let before = ",\"previous\":{\"content\":\"c\",\"content_generation\":3,\"instance\":4,\"name\":\"/ls/c/f\"}";
+    let rows: &[(&[&str], String)] = &[
+        (&["put", "f", "a", "--json"], told(1, "")),
+        (&["put", "f", "b", "--json"], told(2, "")),
+        (&["put", "f", "c", "-o", "json", "--if-generation", "2"], told(3, "")),
+        (&["put", "f", "d", "--json", "--prev"], told(4, before)),
+    ];
+    for (words, printed) in rows {
+        assert_eq!(run(&server, words), (printed.clone(), Some(0)), "{words:?}");
+    }
+    fs::remove_dir_all(folder).unwrap();
+}
+
+// (who waits for a time leaves at once when that is over: the next one isn't kept from the lock)
+#[test]
+fn a_lock_is_waited_for_no_longer_than_asked() {
+    let folder = folder("timeout");
+    let server = Server::start(&folder.join("store.db")).unwrap();
+    let begun_file = folder.join("begun");
+    let mut first = start(&server, &["lock", "l", "--", "sh", "-c", &format!("touch {}; read line", begun_file.display())]);
+    wait_for(&begun_file);
+    let begun = Instant::now();
+    assert_eq!(run(&server, &["lock", "l", "--timeout", "1", "--", "true"]).1, Some(3));
+    assert!((1000..2500).contains(&begun.elapsed().as_millis()), "{:?}", begun.elapsed());
+    let waiter = start(&server, &["elect", "l", "a", "--timeout", "60", "--", "true"]);
+    let mut stopped = start(&server, &["lock", "l", "--timeout", "60", "--", "true"]);
+    thread::sleep(Duration::from_millis(500));
+    let begun = Instant::now();
+    signal(&stopped, Signal::SIGTERM);
+    assert_eq!(stopped.wait().unwrap().code(), Some(143));
+    first.stdin.take().unwrap().write_all(b"go\n").unwrap();
+    assert!(first.wait().unwrap().success());
+    assert_eq!(waiter.wait_with_output().unwrap().status.code(), Some(0));
+    assert!(begun.elapsed() < Duration::from_secs(3), "{:?}", begun.elapsed());
+    fs::remove_dir_all(folder).unwrap();
+}
+
+#[test]
+fn a_long_wait_says_for_whom() {
+    let folder = folder("waiting");
+    let admin = format!("unix:{}", folder.join("admin").display());
+    let server = Start::new(&folder.join("store.db")).with(&["--admin", &admin]).start().unwrap();
+    let begun = folder.join("begun");
+    let holding = ["lock", "l", "--as", "bob", "--", "sh", "-c", &format!("touch {}; read line", begun.display())];
+    let mut first = start(&server, &holding);
+    wait_for(&begun);
+    for (words, wanted) in [
+        (&["lock", "l"][..], "tillermoss: lock /ls/c/l waits: for others, who hold the lock"),
+        (&["--admin", &admin, "lock", "l"], "tillermoss: lock /ls/c/l waits: for client 1 (bob)\n"),
+    ] {
+        let words = [words, &["--", "true"]].concat();
+        let waiting = command(&server, &words).stderr(Stdio::piped()).spawn().unwrap();
+        thread::sleep(Duration::from_millis(3500));
+        signal(&waiting, Signal::SIGTERM);
+        let told = String::from_utf8(waiting.wait_with_output().unwrap().stderr).unwrap();
+        assert!(told.starts_with(wanted), "{told}");
+    }
+    first.stdin.take().unwrap().write_all(b"go\n").unwrap();
+    assert!(first.wait().unwrap().success());
     fs::remove_dir_all(folder).unwrap();
 }
 
