@@ -13,7 +13,8 @@ def main(server: str, name: str, own_name: str) -> None:
     with Client(server, "ann") as client:
         file = client.open(name, "rw", make=b"")
         client.acquire(file)
-        # Whoever gets this along with a request asks the cell whether it still holds: check_sequencer.
+        # Whoever gets this along with a request asks the cell whether it still holds: check_sequencer. Who can only compare numbers
+        # takes client.fencing_number(file), which is greater with each primary.
         sequencer = client.sequencer(file)
         client.set(file, own_name.encode())
         print(f"{own_name} is primary, by {sequencer.hex()}", flush=True)

@@ -88,6 +88,13 @@ ROWS = [
 
 
 class Read(unittest.TestCase):
+    def test_the_fencing_number_of_a_sequencer(self):
+        sequencer = bytes.fromhex("01010000000000000004000000000000000100072f6c732f632f66")
+        self.assertEqual(codec.fencing_number(sequencer), (4 << 64) + 1)
+        for wrong in (b"", sequencer[:-1], sequencer + b"f", b"\2" + sequencer[1:]):
+            with self.assertRaises(codec.Malformed):
+                codec.fencing_number(wrong)
+
     def test_messages(self):
         for block, fields in ROWS:
             wanted = codec.Message(**{"client": 1, "epoch": 2, "number": 3, **fields})

@@ -179,6 +179,23 @@ class Restarts(WithServer):
         self.server.start()
 
 
+class NotSent(WithServer):
+    def test_what_no_server_takes_is_refused_at_once(self):
+        client, large = self.client(), bytes(1 << 20)
+        file = client.open("/ls/c/f", "rw", make=b"first")
+        begun = time.monotonic()
+        for name in ("f", "/ls/c/F", "/ls/c/", "/ls/c/\u00e9", "/ls/c/f\n", "/ls/" + "/".join(["a" * 60] * 9)):
+            self.assertEqual(self.refusal(client.open, name), "BadName")
+        self.assertEqual(self.refusal(client.open, "/ls/c/g", "r", None, True, False, False, ("a", "B", "c")), "BadName")
+        self.assertEqual(self.refusal(client.open, "/ls/c/g", "r", large), "TooLarge")
+        self.assertEqual(self.refusal(client.set, file, large), "TooLarge")
+        self.assertEqual(self.refusal(client.check_sequencer, large), "BadSequencer")
+        self.assertEqual(self.refusal(client.set_sequencer, file, large), "BadSequencer")
+        self.assertLess(time.monotonic() - begun, 2)
+        self.assertEqual(client.read(file).content, b"first")
+        client.set(file, bytes(262_144))
+
+
 class Locks(WithServer):
     def test_one_holder_and_one_who_waits(self):
         first, second = self.client(), self.client("bob")
@@ -200,6 +217,19 @@ class Locks(WithServer):
         first.set(file, b"under a sequencer")
         second.release(other)
         self.assertEqual(self.refusal(first.set, file, b"late"), "SequencerStale")
+
+    def test_each_holder_has_a_greater_number(self):
+        client, numbers = self.client(), []
+        for deletes in (False, True, False, False):
+            file = client.open("/ls/c/fenced", "rw", make=b"")
+            client.acquire(file)
+            numbers.append(client.fencing_number(file))
+            if deletes:
+                client.delete(file)
+            else:
+                client.release(file)
+        self.assertEqual([number % (1 << 64) for number in numbers], [1, 2, 1, 2])
+        self.assertEqual(numbers, sorted(set(numbers)))
 
 
 class Examples(WithServer):

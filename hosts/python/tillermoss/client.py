@@ -14,7 +14,7 @@ from .session import EXPIRED, NO_SESSION, NOT_FOUND, UNKNOWN, Session, leased_un
 
 MODES = {"r": 1, "w": 2, "c": 4}
 EVENT_LETTERS = {"m": 1, "d": 2, "l": 4, "x": 8}
-STALE_INSTANCE, BUSY, RECOVERING, IN_JEOPARDY = 14, 22, 29, 30
+BAD_NAME, TOO_LARGE, STALE_INSTANCE, BAD_SEQUENCER, BUSY, RECOVERING, IN_JEOPARDY = 2, 12, 14, 18, 22, 29, 30
 # Between two tries to connect, at first and at most, in seconds.
 PAUSES = 0.02, 0.5
 # Between two tries of a call that is refused for now.
@@ -233,6 +233,12 @@ class Client:
         if self.session.jeopardy is not None:
             raise Refused(Refusal(IN_JEOPARDY))
 
+    @staticmethod
+    def refuse(number: int, is_refused: bool) -> None:
+        """Refuses what no server takes before it is sent: each such message would end the connection, until the session is lost."""
+        if is_refused:
+            raise Refused(Refusal(number))
+
     def call(self, body: bytes, only_reads: bool = False, handle: Optional[Handle] = None, name: Optional[str] = None, sequencer: Optional[bytes] = None) -> object:
         """Makes a call, again while it is refused for now; one that only reads also where its outcome got lost."""
         ends = time.monotonic() + self.patience
@@ -262,6 +268,8 @@ class Client:
     def open(self, name: str, mode: str = "r", make: Optional[bytes] = None, directory: bool = False, must: bool = False,
              ephemeral: bool = False, acls: Optional[tuple] = None, events: str = "", delay: int = 0) -> Handle:
         """Opens a node; one that isn't there is made with the content `make`, or as a `directory`. With `must` it may not be there."""
+        self.refuse(BAD_NAME, not codec.is_name(name) or not all(map(codec.is_component, acls or ())))
+        self.refuse(TOO_LARGE, len(make or b"") > codec.CONTENT_LIMIT)
         letters = sum(MODES[letter] for letter in mode)
         told = sum(EVENT_LETTERS[letter] for letter in events)
         makes = make is not None or directory
@@ -309,6 +317,7 @@ class Client:
 
     def set(self, handle: Handle, content: bytes, generation: Optional[int] = None) -> None:
         """A new content; with a generation only where the node has that one."""
+        self.refuse(TOO_LARGE, len(content) > codec.CONTENT_LIMIT)
         rest = codec.sized(content) + codec.optional(None if generation is None else codec.word(generation))
         self.call(codec.on_handle(codec.SET, handle.content, rest), handle=handle)
 
@@ -330,11 +339,18 @@ class Client:
         """Bytes by which another program can test that the lock is still held."""
         return self.call(codec.on_handle(codec.GET_SEQUENCER, handle.content), True, handle)
 
+    def fencing_number(self, handle: Handle) -> int:
+        """A number of up to 128 bits that rises from one holder of the node's name to the next, also where the node was deleted and made
+        again. Who keeps the greatest that it has seen, and refuses a smaller one, is written to by no holder of before."""
+        return codec.fencing_number(self.sequencer(handle))
+
     def set_sequencer(self, handle: Handle, sequencer: bytes) -> None:
         """The handle's later calls stand under this sequencer, and the cache answers none of them."""
+        self.refuse(BAD_SEQUENCER, len(sequencer) > codec.SEQUENCER_LIMIT)
         self.call(codec.on_handle(codec.SET_SEQUENCER, handle.content), handle=handle, sequencer=sequencer)
         handle.sequencer = sequencer
 
     def check_sequencer(self, sequencer: bytes) -> None:
         """Refused as SequencerStale where it isn't valid any more."""
+        self.refuse(BAD_SEQUENCER, len(sequencer) > codec.SEQUENCER_LIMIT)
         self.call(bytes([codec.CHECK_SEQUENCER]) + codec.sized(sequencer), True)

@@ -1,5 +1,6 @@
 """The bytes of messages, as docs/PROTOCOL.md and docs/FORMATS.md give them."""
 
+import re
 import struct
 from dataclasses import dataclass, field
 from typing import NamedTuple, Optional
@@ -208,6 +209,32 @@ def opening(name: str, mode: int, made: Optional[bytes], delay: int, events: int
 
 def on_handle(kind: int, handle: bytes, rest: bytes = b"") -> bytes:
     return bytes([kind]) + sized(handle) + rest
+
+
+# ---- what no server takes
+
+CONTENT_LIMIT, SEQUENCER_LIMIT = 262_144, 532
+COMPONENT = re.compile(r"[a-z0-9._-]{1,64}")
+
+
+def is_component(text: str) -> bool:
+    """Whether it may stand between the slashes of a name, or be a principal."""
+    return bool(COMPONENT.fullmatch(text)) and text not in (".", "..")
+
+
+def is_name(text: str) -> bool:
+    """Whether it is the whole name of a node."""
+    return text.startswith("/ls/") and len(text) <= 512 and all(map(is_component, text[4:].split("/")))
+
+
+# ---- what a sequencer says
+
+
+def fencing_number(sequencer: bytes) -> int:
+    """A number that rises from one holder of a name to the next: the instance and the lock's generation in order, in 64 bits each."""
+    if len(sequencer) < 20 or sequencer[0] != 1 or len(sequencer) != 20 + int.from_bytes(sequencer[18:20], "big"):
+        raise Malformed("not a sequencer")
+    return int.from_bytes(sequencer[2:18], "big")
 
 
 # ---- what a server sends

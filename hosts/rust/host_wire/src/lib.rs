@@ -22,7 +22,7 @@ mod shown;
 pub use addresses::{Address, NoAddress};
 pub use asked::{Act, Asked, Deed};
 pub use blocks::{Blocks, framed, put_block, write_block};
-pub use components::is_component;
+pub use components::{is_component, is_name};
 pub use fields::Fields;
 pub use greetings::{GREETING_LIMIT, Hello, Malformed, TurnedAway, Welcome};
 pub use heard::{Frame, Heard, Locked, Printed, Put, Text, Told};

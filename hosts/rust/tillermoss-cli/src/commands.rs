@@ -1,145 +1,109 @@
 //! What the verbs do.
 
-use crate::faults::Fault;
-use crate::holding::{elect, lock, register};
+use crate::faults::{Fault, tell};
+use crate::files::{acl, get, list, make_directory, put, remove, stat};
+use crate::holding::{check, elect, lock, register};
 use crate::operating::{answers, backup, locks, sessions, status_of};
-use crate::output::{print, print_content, print_json, print_names, print_stat, shown, write};
+use crate::output::write;
+use crate::waiting::Waiting;
 use crate::watching::watch;
-use crate::words::{Output, Put, Reach, Verb, Words, is_name};
+use crate::words::{Output, Reach, Verb, Words};
 use clap::CommandFactory;
-use serde_json::json;
-use std::io::{self, Read};
-use std::os::unix::ffi::OsStrExt;
-use tillermoss::{Client, Create, Error, Handle, Kind, Mode, Opening, Refusal, View};
+use host_wire::is_name;
+use tillermoss::{Client, Error};
 
-/// So often a file that comes, goes or is written meanwhile is tried to be written.
-const TRIES: u32 = 10;
+/// Who asks: where, and how answers are printed.
+pub struct Asker<'a> {
+    words: &'a Words,
+    /// Where the server is, for whom it is asked, and whose names are short.
+    pub reach: &'a Reach,
+    /// How answers are printed.
+    pub output: Output,
+}
+
+impl Asker<'_> {
+    /// Connects, and begins a session.
+    pub fn connect(&self) -> Result<Client, Error> {
+        let _waiting = self.wait();
+        Client::connect(&self.reach.options())
+    }
+
+    /// From now on something is waited for.
+    pub fn wait(&self) -> Waiting {
+        let (verb, names) = self.words.verb.words();
+        let names: String = names.iter().map(|name| format!(" {}", self.reach.whole(name))).collect();
+        Waiting::begin(self.reach, &format!("{verb}{names}"))
+    }
+
+    /// The same for what this client asks.
+    pub fn wait_by(&self, client: &Client) -> Waiting {
+        let waiting = self.wait();
+        waiting.by(client);
+        waiting
+    }
+
+    // Does it for each name, also where it fails for one of several: that is told then. The status is that of the last fault.
+    fn each(&self, names: &[String], mut act: impl FnMut(&Client, &str) -> Result<(), Fault>) -> Result<u8, Fault> {
+        let client = self.connect()?;
+        let _waiting = self.wait_by(&client);
+        let mut status = 0;
+        for name in names.iter().map(|name| self.reach.whole(name)) {
+            if let Err(fault) = act(&client, &name) {
+                if names.len() == 1 || fault.is_of_all() {
+                    return Err(fault);
+                }
+                tell(self.words, Some(&name), &fault);
+                status = fault.status();
+            }
+        }
+        Ok(status)
+    }
+
+    fn wanted_admin(&self) -> Result<String, Fault> {
+        self.reach.admin().ok_or(Fault::Admin)
+    }
+}
 
 /// Does what the words ask for; gives the status.
 pub fn run(words: &Words) -> Result<u8, Fault> {
-    let Words { reach, output, verb } = words;
-    if verb.words().1.is_some_and(|name| !is_name(&reach.whole(name))) {
-        return Err(Fault::Name);
+    let asker = Asker { words, reach: &words.reach, output: words.output() };
+    let Asker { reach, output, .. } = asker;
+    if let Some(name) = words.verb.words().1.into_iter().find(|name| !is_name(&reach.whole(name))) {
+        return Err(Fault::Name(reach.whole(name)));
     }
-    match verb {
-        Verb::Get { name, raw } => get(reach, *output, &reach.whole(name), *raw)?,
-        Verb::Put(asked) => put(reach, *output, asked)?,
-        Verb::Ls { name } => list(reach, *output, name.as_deref())?,
-        Verb::Mkdir { name } => make_directory(&connect(reach)?, &reach.whole(name))?,
-        Verb::Rm { name } => remove(&connect(reach)?, &reach.whole(name))?,
-        Verb::Stat { name } => stat(reach, *output, &reach.whole(name))?,
-        Verb::Lock(asked) => return lock(&connect(reach)?, &reach.whole(&asked.name), asked),
-        Verb::Elect(asked) => return elect(&connect(reach)?, *output, &reach.whole(&asked.name), asked),
-        Verb::Register(asked) => return register(&connect(reach)?, *output, &reach.whole(&asked.name), asked),
-        Verb::Watch { name, prev, count } => watch(&connect(reach)?, *output, &reach.whole(name), *prev, *count)?,
-        Verb::Status => match &reach.admin {
-            Some(admin) => status_of(admin, *output)?,
-            None => answers(reach, *output)?,
-        },
-        Verb::Sessions => sessions(wanted_admin(reach)?, *output)?,
-        Verb::Locks => locks(wanted_admin(reach)?, *output)?,
-        Verb::Backup { file } => backup(wanted_admin(reach)?, *output, file)?,
+    match &words.verb {
+        Verb::Get { names, raw } => return asker.each(names, |client, name| get(client, output, name, *raw)),
+        Verb::Put(asked) => put(&asker, asked)?,
+        Verb::Ls { names, recursive } => {
+            let root = [format!("/ls/{}", reach.cell)];
+            let names = if names.is_empty() { &root[..] } else { names };
+            return asker.each(names, |client, name| list(client, output, name, *recursive, names.len() > 1));
+        }
+        Verb::Mkdir { names, parents } => return asker.each(names, |client, name| make_directory(client, name, *parents)),
+        Verb::Rm { names, recursive } => return asker.each(names, |client, name| remove(client, name, *recursive)),
+        Verb::Stat { names } => return asker.each(names, |client, name| stat(client, output, name)),
+        Verb::Acl { act } => acl(&asker, act)?,
+        Verb::Lock(asked) => return lock(&asker, &reach.whole(&asked.name), asked),
+        Verb::Elect(asked) => return elect(&asker, &reach.whole(&asked.hold.name), asked),
+        Verb::Register(asked) => return register(&asker, &reach.whole(&asked.name), asked),
+        Verb::Watch { name, prev, count } => watch(&asker.connect()?, output, &reach.whole(name), *prev, *count)?,
+        Verb::Check { sequencer } => check(&asker, sequencer)?,
         Verb::Completions { shell } => completions(*shell)?,
+        verb => operate(&asker, verb)?,
     }
     Ok(0)
 }
 
-fn wanted_admin(reach: &Reach) -> Result<&str, Fault> {
-    reach.admin.as_deref().ok_or(Fault::Admin)
-}
-
-/// Connects, and begins a session.
-pub fn connect(reach: &Reach) -> Result<Client, Error> {
-    Client::connect(&reach.options())
-}
-
-fn get(reach: &Reach, output: Output, name: &str, raw: bool) -> Result<(), Fault> {
-    let client = connect(reach)?;
-    let view = client.read(client.open(name, Mode::READ)?)?;
-    match view.stat.kind {
-        Kind::Directory => Err(Refusal::WrongKind(Kind::Directory).into()),
-        Kind::File if raw => Ok(write(&view.content)?),
-        Kind::File => Ok(print_content(output, name, &view)?),
+fn operate(asker: &Asker<'_>, verb: &Verb) -> Result<(), Fault> {
+    match verb {
+        Verb::Sessions => sessions(&asker.wanted_admin()?, asker.output),
+        Verb::Locks => locks(&asker.wanted_admin()?, asker.output),
+        Verb::Backup { file } => backup(&asker.wanted_admin()?, asker.output, file),
+        _ => match asker.reach.admin() {
+            Some(admin) => status_of(&admin, asker.output),
+            None => answers(asker),
+        },
     }
-}
-
-fn list(reach: &Reach, output: Output, name: Option<&str>) -> Result<(), Fault> {
-    let name = name.map_or_else(|| format!("/ls/{}", reach.cell), |name| reach.whole(name));
-    let client = connect(reach)?;
-    let names = client.list(client.open(&name, Mode::READ)?)?;
-    Ok(print_names(output, &name, &names)?)
-}
-
-fn make_directory(client: &Client, name: &str) -> Result<(), Fault> {
-    let create = Create { must: true, ..Create::default() };
-    client.open_with(&Opening { create: Some(create), ..Opening::new(name, Mode::READ) })?;
-    Ok(())
-}
-
-fn remove(client: &Client, name: &str) -> Result<(), Fault> {
-    Ok(client.delete(client.open(name, Mode::WRITE)?)?)
-}
-
-fn stat(reach: &Reach, output: Output, name: &str) -> Result<(), Fault> {
-    let client = connect(reach)?;
-    let stat = client.stat(client.open(name, Mode::READ)?)?;
-    Ok(print_stat(output, name, &stat)?)
-}
-
-fn put(reach: &Reach, output: Output, asked: &Put) -> Result<(), Fault> {
-    let mut content = Vec::new();
-    match &asked.content {
-        Some(words) => content.extend_from_slice(words.as_bytes()),
-        None => _ = io::stdin().read_to_end(&mut content)?,
-    }
-    let name = reach.whole(&asked.name);
-    let before = write_file(&connect(reach)?, &name, &content, asked)?;
-    match (output, asked.prev, before) {
-        (Output::Text, true, Some(view)) => Ok(print(&view.content)?),
-        (Output::Json, true, before) => {
-            let before = before.map(|view| shown(&name, &view));
-            Ok(print_json(&json!({ "name": name, "previous": before }))?)
-        }
-        _ => Ok(()),
-    }
-}
-
-// Writes a file, or makes it; either way the whole content comes in one change. Gives what it replaced, where that was asked for.
-fn write_file(client: &Client, name: &str, content: &[u8], asked: &Put) -> Result<Option<View>, Error> {
-    let mut last = Refusal::NotFound;
-    for _ in 0..TRIES {
-        let result = match asked.if_generation {
-            Some(0) => return create(client, name, content).map(|_| None),
-            Some(wanted) => return replace(client, name, content, Some(wanted), asked.prev),
-            None => replace(client, name, content, None, asked.prev),
-        };
-        last = match result {
-            Err(Error::Refused(Refusal::NotFound)) => match create(client, name, content) {
-                Err(Error::Refused(refusal @ Refusal::Exists)) => refusal,
-                result => return result.map(|_| None),
-            },
-            Err(Error::Refused(refusal @ (Refusal::StaleInstance | Refusal::WrongGeneration(_)))) => refusal,
-            result => return result,
-        };
-    }
-    Err(last.into())
-}
-
-fn create(client: &Client, name: &str, content: &[u8]) -> Result<Handle, Error> {
-    let create = Create { must: true, content: Some(content.to_vec()), ..Create::default() };
-    client.open_with(&Opening { create: Some(create), ..Opening::new(name, Mode::WRITE) })
-}
-
-// What is told to be replaced is what was: it is written only where it still has the generation that was read.
-fn replace(client: &Client, name: &str, content: &[u8], wanted: Option<u64>, is_read: bool) -> Result<Option<View>, Error> {
-    if !is_read {
-        client.set(client.open(name, Mode::WRITE)?, content, wanted)?;
-        return Ok(None);
-    }
-    let file = client.open(name, Mode::READ.and(Mode::WRITE))?;
-    let view = client.read(file)?;
-    client.set(file, content, Some(wanted.unwrap_or(view.stat.content_generation)))?;
-    Ok(Some(view))
 }
 
 fn completions(shell: clap_complete::Shell) -> Result<(), Fault> {

@@ -1,27 +1,34 @@
 //! What is held while a command runs: a lock, an election, a file that says that somebody is there.
 
-use crate::faults::Fault;
-use crate::output::{print, print_json, say};
-use crate::running::{run, signals, wait_for};
-use crate::words::{Hold, Lock, Output};
+use crate::commands::Asker;
+use crate::faults::{Fault, at_making};
+use crate::output::{print, print_json, print_sequencer, say};
+use crate::running::{Command, Until, run, signals, wait_for};
+use crate::words::{Elect, Ending, Hold, Lock, Output};
 use serde_json::json;
 use signal_hook::iterator::Signals;
 use std::os::unix::ffi::OsStrExt;
-use std::time::Duration;
-use tillermoss::{Client, Create, Error, Events, Handle, Life, LockMode, Mode, Opening, Refusal, Watch};
+use std::thread;
+use std::time::{Duration, Instant};
+use tillermoss::{Client, Create, Error, Events, Handle, Life, LockMode, Mode, Opening, Refusal, Sequencer, Watch};
 
 /// So long until a file that is there is tried again to be made, where nothing was told of it.
 const AGAIN: Duration = Duration::from_secs(1);
 
+/// So long until a lock is asked for again, by one who waits for a time.
+const ASKING: Duration = Duration::from_millis(100);
+
 /// Waits for the lock of a file, runs the command, and lets the lock go; gives the command's status.
-pub fn lock(client: &Client, name: &str, asked: &Lock) -> Result<u8, Fault> {
+pub fn lock(asker: &Asker<'_>, name: &str, asked: &Lock) -> Result<u8, Fault> {
+    let client = &asker.connect()?;
     let mut signals = signals()?;
     let mode = if asked.shared { LockMode::Shared } else { LockMode::Exclusive };
-    let watch = client.watch_with(&Opening { lock_delay: asked.delay, ..candidate(name) })?;
+    let watch = candidate(asker, client, name, asked.ending)?;
     let held = watch.handle;
-    let ended = take(client, held, mode, asked.no_wait, &mut signals).and_then(|()| {
-        let sequencer = client.sequencer(held)?;
-        run(&asked.command, Some(&sequencer), &watch, &mut signals)
+    let ended = take(asker, client, held, mode, Patience::of(asked.no_wait, asked.ending), &mut signals).and_then(|()| {
+        let environment = environment(&client.sequencer(held)?)?;
+        let command = Command { words: &asked.command, environment, until: until(asked.ending) };
+        run(client, &command, &watch, &mut signals)
     });
     close(client, held, &ended);
     ended
@@ -29,16 +36,19 @@ pub fn lock(client: &Client, name: &str, asked: &Lock) -> Result<u8, Fault> {
 
 /// Waits for the lock of a file, writes the value into it, runs the command, empties the file and lets the lock go; gives the
 /// command's status.
-pub fn elect(client: &Client, output: Output, name: &str, asked: &Hold) -> Result<u8, Fault> {
+pub fn elect(asker: &Asker<'_>, name: &str, asked: &Elect) -> Result<u8, Fault> {
+    let client = &asker.connect()?;
     let mut signals = signals()?;
-    let watch = client.watch_with(&candidate(name))?;
+    let watch = candidate(asker, client, name, asked.ending)?;
     let held = watch.handle;
-    let ended = take(client, held, LockMode::Exclusive, asked.no_wait, &mut signals).and_then(|()| {
-        client.set(held, asked.value.as_bytes(), None)?;
-        let sequencer = client.sequencer(held)?;
-        announce(output, asked, "elected", name)?;
-        let ended = run(&asked.command, Some(&sequencer), &watch, &mut signals);
-        if !client.is_lost() {
+    let patience = Patience::of(asked.hold.no_wait, asked.ending);
+    let ended = take(asker, client, held, LockMode::Exclusive, patience, &mut signals).and_then(|()| {
+        client.set(held, asked.hold.value.as_bytes(), None)?;
+        let environment = environment(&client.sequencer(held)?)?;
+        announce(asker.output, &asked.hold, "elected", name)?;
+        let command = Command { words: &asked.hold.command, environment, until: until(asked.ending) };
+        let ended = run(client, &command, &watch, &mut signals);
+        if !client.lease_left().is_zero() {
             client.set(held, b"", None)?;
         }
         ended
@@ -48,11 +58,15 @@ pub fn elect(client: &Client, output: Output, name: &str, asked: &Hold) -> Resul
 }
 
 /// Makes a file that goes with this program, runs the command, and deletes the file; gives the command's status.
-pub fn register(client: &Client, output: Output, name: &str, asked: &Hold) -> Result<u8, Fault> {
+pub fn register(asker: &Asker<'_>, name: &str, asked: &Hold) -> Result<u8, Fault> {
+    let client = &asker.connect()?;
     let mut signals = signals()?;
+    let waiting = asker.wait_by(client);
     let watch = make(client, name, asked, &mut signals)?;
-    announce(output, asked, "registered", name)?;
-    let ended = run(&asked.command, None, &watch, &mut signals);
+    drop(waiting);
+    announce(asker.output, asked, "registered", name)?;
+    let command = Command { words: &asked.command, environment: Vec::new(), until: Until::Session };
+    let ended = run(client, &command, &watch, &mut signals);
     if !client.is_lost() {
         // (one that somebody else deleted is gone already)
         let _ = client.delete(watch.handle);
@@ -61,10 +75,35 @@ pub fn register(client: &Client, output: Output, name: &str, asked: &Hold) -> Re
     ended
 }
 
-// A file that is made where there is none, and goes with the last who has it open.
-fn candidate(name: &str) -> Opening {
-    let file = Create { content: Some(Vec::new()), life: Life::Ephemeral, ..Create::default() };
-    Opening { create: Some(file), ..Opening::new(name, Mode::WRITE) }
+/// Asks whether the lock of a sequencer is held still, and prints what the sequencer says.
+pub fn check(asker: &Asker<'_>, text: &str) -> Result<(), Fault> {
+    let bytes = hex::decode(text.trim()).map_err(|_| Fault::Sequencer)?;
+    let sequencer = Sequencer::read(&bytes).ok_or(Fault::Sequencer)?;
+    asker.connect()?.check_sequencer(&bytes)?;
+    Ok(print_sequencer(asker.output, &sequencer)?)
+}
+
+// A file that is made where there is none. It stays unless that is asked for: then the generation of its lock goes on.
+fn candidate(asker: &Asker<'_>, client: &Client, name: &str, ending: Ending) -> Result<Watch, Fault> {
+    let _waiting = asker.wait_by(client);
+    let life = if ending.ephemeral { Life::Ephemeral } else { Life::Permanent };
+    let file = Create { content: Some(Vec::new()), life, ..Create::default() };
+    let opening = Opening { create: Some(file), lock_delay: ending.lock_delay(), ..Opening::new(name, Mode::WRITE) };
+    client.watch_with(&opening).map_err(|error| at_making(name, error))
+}
+
+fn until(ending: Ending) -> Until {
+    if ending.keep_running { Until::Own } else { Until::Lease(Duration::from_secs(ending.grace)) }
+}
+
+// What a command under a lock is told of it.
+fn environment(bytes: &[u8]) -> Result<Vec<(&'static str, String)>, Error> {
+    let sequencer = Sequencer::read(bytes).ok_or_else(|| Error::Malformed("the sequencer".to_owned()))?;
+    Ok(vec![
+        ("TILLERMOSS_SEQUENCER", hex::encode(bytes)),
+        ("TILLERMOSS_FENCING_NUMBER", sequencer.fencing_number().to_string()),
+        ("TILLERMOSS_LOCK_GENERATION", sequencer.generation.to_string()),
+    ])
 }
 
 // Without a command nothing else tells that it begins.
@@ -77,11 +116,49 @@ fn announce(output: Output, asked: &Hold, word: &str, name: &str) -> Result<(), 
     Ok(())
 }
 
-fn take(client: &Client, held: Handle, mode: LockMode, no_wait: bool, signals: &mut Signals) -> Result<(), Fault> {
-    if no_wait {
-        return Ok(client.try_acquire(held, mode)?);
+/// How long a lock is waited for.
+#[derive(Clone, Copy)]
+enum Patience {
+    /// Not at all.
+    None,
+    /// So long.
+    For(Duration),
+    /// As long as it takes.
+    Any,
+}
+
+impl Patience {
+    fn of(no_wait: bool, ending: Ending) -> Patience {
+        match ending.timeout {
+            _ if no_wait => Patience::None,
+            Some(seconds) => Patience::For(Duration::from_secs(seconds)),
+            None => Patience::Any,
+        }
     }
-    wait_for(client, held, signals, || acquire(client, held, mode))
+}
+
+fn take(asker: &Asker<'_>, client: &Client, held: Handle, mode: LockMode, patience: Patience, signals: &mut Signals) -> Result<(), Fault> {
+    let _waiting = asker.wait_by(client);
+    match patience {
+        Patience::None => Ok(client.try_acquire(held, mode)?),
+        Patience::For(most) => take_in_time(client, held, mode, most, signals),
+        Patience::Any => wait_for(client, held, signals, || acquire(client, held, mode)),
+    }
+}
+
+// Asks for the lock again and again: a call that waits couldn't be taken back, and the client couldn't leave with it.
+fn take_in_time(client: &Client, held: Handle, mode: LockMode, most: Duration, signals: &mut Signals) -> Result<(), Fault> {
+    let begun = Instant::now();
+    loop {
+        match client.try_acquire(held, mode) {
+            Err(Error::Refused(Refusal::Held(_) | Refusal::Delayed(_))) if begun.elapsed() < most => {}
+            result => return Ok(result?),
+        }
+        if let Some(signal) = signals.pending().next() {
+            return Err(Fault::Given(signal));
+        }
+        thread::sleep(ASKING);
+    }
 }
 
 // Where another master came up meanwhile the lock may be held already: then it is let go, and waited for again.
@@ -97,10 +174,10 @@ fn acquire(client: &Client, held: Handle, mode: LockMode) -> Result<(), Error> {
     }
 }
 
-// What is closed frees its lock; where the session is lost nothing is held. A wait that a signal ended is still asked for, so nothing
-// else can be: it ends with the lease.
+// What is closed frees its lock; where the lease has ended nobody would hear of that, and where the session is lost nothing is held. A
+// wait that a signal ended is still asked for, so nothing else can be: it ends with the lease.
 fn close(client: &Client, held: Handle, ended: &Result<u8, Fault>) {
-    if client.is_lost() || matches!(ended, Err(Fault::Signal(_))) {
+    if client.lease_left().is_zero() || matches!(ended, Err(Fault::Signal(_))) {
         return;
     }
     if let Err(error) = client.close(held) {
@@ -117,7 +194,7 @@ fn make(client: &Client, name: &str, asked: &Hold, signals: &mut Signals) -> Res
     loop {
         match client.watch_with(&opening) {
             Err(Error::Refused(Refusal::Exists)) if !asked.no_wait => {}
-            result => return Ok(result?),
+            result => return result.map_err(|error| at_making(name, error)),
         }
         if let Some(signal) = signals.pending().next() {
             return Err(Fault::Signal(signal));

@@ -1,26 +1,27 @@
 //! What operators ask for.
 
-use crate::commands::connect;
+use crate::commands::Asker;
 use crate::faults::Fault;
 use crate::output::{print, print_json, write};
-use crate::words::{Output, Reach};
+use crate::words::Output;
 use serde_json::json;
 use std::path::Path;
 use std::time::Instant;
 use tillermoss::{Admin, LockShown, Mode, SessionShown, Status};
 
 /// How long a session takes to begin, and an answer to come.
-pub fn answers(reach: &Reach, output: Output) -> Result<(), Fault> {
+pub fn answers(asker: &Asker<'_>) -> Result<(), Fault> {
+    let reach = asker.reach;
     let begun = Instant::now();
-    let client = connect(reach)?;
+    let client = asker.connect()?;
     let session = u64::try_from(begun.elapsed().as_millis()).unwrap_or(u64::MAX);
     let begun = Instant::now();
     client.stat(client.open(&format!("/ls/{}", reach.cell), Mode::READ)?)?;
     let answer = u64::try_from(begun.elapsed().as_millis()).unwrap_or(u64::MAX);
-    let (server, cell, principal, number) = (&reach.server, &reach.cell, reach.options().principal, client.number());
+    let (server, cell, principal, number) = (reach.server(), &reach.cell, reach.options().principal, client.number());
     let text =
         format!("server {server}\ncell {cell}\nprincipal {principal}\nclient {number}\nsession in {session} ms\nanswer in {answer} ms");
-    match output {
+    match asker.output {
         Output::Text => print(text.as_bytes())?,
         Output::Json => print_json(&json!({
             "server": server, "cell": cell, "principal": principal, "client": number, "session_ms": session, "answer_ms": answer,
@@ -99,6 +100,13 @@ fn listed(clients: &[u64]) -> String {
 
 /// Takes a copy of the store.
 pub fn backup(admin: &str, output: Output, file: &Path) -> Result<(), Fault> {
+    let folder = file.parent().filter(|folder| !folder.as_os_str().is_empty()).unwrap_or(Path::new("."));
+    if file.symlink_metadata().is_ok() {
+        return Err(Fault::Copy(file.to_owned(), "is there already"));
+    }
+    if !folder.is_dir() {
+        return Err(Fault::Copy(file.to_owned(), "its folder isn't there"));
+    }
     let bytes = Admin::new(admin)?.backup(file)?;
     match output {
         Output::Text => print(format!("{bytes} bytes").as_bytes())?,

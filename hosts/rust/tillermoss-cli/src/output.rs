@@ -3,7 +3,7 @@
 use crate::words::Output;
 use serde_json::{Map, Value, json};
 use std::io::{self, Write};
-use tillermoss::{Stat, View};
+use tillermoss::{LockMode, Sequencer, Stat, View};
 
 /// Says what went wrong on the standard error; where that is closed, nobody is told.
 pub fn say(words: &str) {
@@ -92,6 +92,36 @@ pub fn print_stat(output: Output, name: &str, stat: &Stat) -> io::Result<()> {
             "acl_generation": stat.acl_generation,
             "lock_generation": lock,
             "acl": { "read": read, "write": write, "change": change },
+        })),
+    }
+}
+
+/// By which ACLs a node is read, written, and its ACLs changed.
+pub fn print_acl(output: Output, name: &str, stat: &Stat) -> io::Result<()> {
+    let [read, write, change] = &stat.acl;
+    match output {
+        Output::Text => print(format!("read {read}\nwrite {write}\nchange {change}").as_bytes()),
+        Output::Json => print_json(&json!({
+            "name": name, "read": read, "write": write, "change": change, "acl_generation": stat.acl_generation,
+        })),
+    }
+}
+
+/// What a sequencer says.
+pub fn print_sequencer(output: Output, sequencer: &Sequencer) -> io::Result<()> {
+    let mode = match sequencer.mode {
+        LockMode::Exclusive => "exclusive",
+        LockMode::Shared => "shared",
+    };
+    let (name, instance, generation) = (&sequencer.name, sequencer.instance, sequencer.generation);
+    // (a number of JSON has 53 bits in many a reader)
+    let number = sequencer.fencing_number().to_string();
+    match output {
+        Output::Text => print(
+            format!("name {name}\nmode {mode}\ninstance {instance}\nlock-generation {generation}\nfencing-number {number}").as_bytes(),
+        ),
+        Output::Json => print_json(&json!({
+            "name": name, "mode": mode, "instance": instance, "lock_generation": generation, "fencing_number": number,
         })),
     }
 }

@@ -1,9 +1,9 @@
 //! The words of the command line.
 
 use clap::{Args, Parser, Subcommand, ValueEnum};
-use host_wire::is_component;
 use std::ffi::OsString;
-use std::path::PathBuf;
+use std::os::unix::net::UnixStream;
+use std::path::{Path, PathBuf};
 use std::time::Duration;
 use tillermoss::{Options, own_principal};
 
@@ -22,6 +22,21 @@ Exit status:
   141  what reads the output has closed it
 A command that ran under lock, elect or register ends with the command's status, 128 and its number where a signal ended it.";
 
+/// What stands behind the options of lock.
+const LOCKING: &str = "\
+Where there is no file it is made, and stays. The command has in its environment
+  TILLERMOSS_SEQUENCER        the sequencer in hexadecimal, by which others test that the lock is held (tillermoss check)
+  TILLERMOSS_FENCING_NUMBER   a number of up to 128 bits that rises from one holder of this name to the next, whatever becomes of the file
+  TILLERMOSS_LOCK_GENERATION  one of 64 bits, which does so as long as the file is permanent and isn't deleted
+SIGTERM, SIGINT and SIGHUP are passed on to the command; one that comes while the lock is waited for ends the wait, which the cell
+forgets when the lease has run out.
+Where this client's lease ends the lock may soon be another's: then the command is ended, by SIGTERM, and by SIGKILL once --grace is
+over, and the status is 5. Where the standard input is no terminal these go to all processes of the command. The lock stays closed
+for as long (--delay). So the next holder begins after this command's end, unless this program itself is stopped or killed.";
+
+/// The longest grace in seconds that a lock-delay of 60 s covers.
+const LONGEST_GRACE: u64 = 55;
+
 /// Asks a cell that tillermossd serves.
 #[derive(Debug, Parser)]
 #[command(name = "tillermoss", version = tillermoss::VERSION, after_help = STATUSES, subcommand_required = true, arg_required_else_help = true)]
@@ -31,25 +46,29 @@ pub struct Words {
     pub reach: Reach,
     /// How answers are printed.
     #[arg(short, long, global = true, value_enum, default_value_t = Output::Text, value_name = "FORM")]
-    pub output: Output,
+    output: Output,
+    /// Prints answers as JSON: the same as -o json
+    #[arg(long, global = true)]
+    json: bool,
     /// What is asked.
     #[command(subcommand)]
     pub verb: Verb,
 }
 
+impl Words {
+    /// How answers are printed.
+    pub fn output(&self) -> Output {
+        if self.json { Output::Json } else { self.output }
+    }
+}
+
 /// Where the server is, for whom it is asked, and whose names are short.
 #[derive(Clone, Debug, Args)]
 pub struct Reach {
-    /// The server's address: unix:PATH, tls:HOST:PORT, tcp:HOST:PORT or HOST:PORT; of several servers of one cell all, between commas
-    #[arg(
-        long,
-        visible_alias = "servers",
-        global = true,
-        env = "TILLERMOSS_SERVER",
-        default_value = "127.0.0.1:7171",
-        value_name = "ADDRESS"
-    )]
-    pub server: String,
+    /// The server's address: unix:PATH, tls:HOST:PORT, tcp:HOST:PORT or HOST:PORT; of several servers of one cell all, between commas.
+    /// Without it unix:/run/tillermoss/cell, where the service of this machine listens, else 127.0.0.1:7171
+    #[arg(long, visible_alias = "servers", global = true, env = "TILLERMOSS_SERVER", value_name = "ADDRESS")]
+    server: Option<String>,
     /// The principal to act for; without it the user at unix:, the certificate's common name at tls:, and ann at tcp:
     #[arg(long = "as", global = true, env = "TILLERMOSS_PRINCIPAL", value_name = "PRINCIPAL")]
     pub principal: Option<String>,
@@ -62,9 +81,10 @@ pub struct Reach {
     /// At tls:, the authorities that sign the server's certificate, in PEM
     #[arg(long, global = true, env = "TILLERMOSS_CA", value_name = "FILE")]
     pub ca: Option<PathBuf>,
-    /// Where the server listens to operators: unix:PATH or tcp:HOST:PORT, for status, sessions, locks and backup
+    /// Where the server listens to operators: unix:PATH or tcp:HOST:PORT, for status, sessions, locks and backup. Without it that of the
+    /// service of this machine, where no --server is named
     #[arg(long, global = true, env = "TILLERMOSS_ADMIN", value_name = "ADDRESS")]
-    pub admin: Option<String>,
+    admin: Option<String>,
     /// The cell of names that don't begin with /
     #[arg(long, global = true, env = "TILLERMOSS_CELL", default_value = "c")]
     pub cell: String,
@@ -73,17 +93,34 @@ pub struct Reach {
     pub patience: u64,
 }
 
+/// Where the service of this machine listens to clients and to operators, as its package has it.
+const SERVICE: &str = "/run/tillermoss/cell";
+const OPERATORS: &str = "/run/tillermoss/admin";
+
 impl Reach {
+    /// The server's address.
+    pub fn server(&self) -> String {
+        let service = || if Path::new(SERVICE).exists() { format!("unix:{SERVICE}") } else { "127.0.0.1:7171".to_owned() };
+        self.server.clone().unwrap_or_else(service)
+    }
+
+    /// Where it listens to operators, where that is known and this user gets there.
+    pub fn admin(&self) -> Option<String> {
+        let is_open = || self.server.is_none() && UnixStream::connect(OPERATORS).is_ok();
+        self.admin.clone().or_else(|| is_open().then(|| format!("unix:{OPERATORS}")))
+    }
+
     /// How a client is connected.
     pub fn options(&self) -> Options {
-        let own = || own_principal(&self.server, self.cert.as_deref());
+        let server = self.server();
+        let own = || own_principal(&server, self.cert.as_deref());
         let principal = self.principal.clone().or_else(own).unwrap_or("ann".to_owned());
         Options {
             patience: Duration::from_secs(self.patience),
             certificate: self.cert.clone(),
             key: self.key.clone(),
             authority: self.ca.clone(),
-            ..Options::new(&self.server, &principal)
+            ..Options::new(&server, &principal)
         }
     }
 
@@ -91,11 +128,6 @@ impl Reach {
     pub fn whole(&self, name: &str) -> String {
         if name.starts_with('/') { name.to_owned() } else { format!("/ls/{}/{name}", self.cell) }
     }
-}
-
-/// Whether it is a name: `/ls` and components of 1 to 64 of `a-z 0-9 . _ -`, neither `.` nor `..`, with 512 bytes at most.
-pub fn is_name(name: &str) -> bool {
-    name.len() <= 512 && name.strip_prefix("/ls/").is_some_and(|rest| rest.split('/').all(is_component))
 }
 
 /// How answers are printed.
@@ -112,53 +144,83 @@ pub enum Output {
 pub enum Verb {
     /// Prints the content of a file
     Get {
-        /// The file
-        name: String,
+        /// The file; of several each content in its turn
+        #[arg(required = true)]
+        names: Vec<String>,
         /// Prints the bytes as they are, with no line feed added behind them
         #[arg(long)]
         raw: bool,
     },
     /// Writes the content of a file, and makes the file where there is none
-    #[command(after_help = "The whole content is written in one change. It waits until no client has the old one in its cache.")]
+    #[command(after_help = "\
+The whole content is written in one change. It waits until no client has the old one in its cache. With --json it prints the
+generation that the content has from then on.")]
     Put(Put),
     /// Lists the children of a directory, one a line
     Ls {
-        /// The directory; without it the cell's root
-        name: Option<String>,
+        /// The directory; without it the cell's root. Of several each stands behind its name and a colon
+        names: Vec<String>,
+        /// Lists what stands in its directories too, by their names from it on
+        #[arg(short, long)]
+        recursive: bool,
     },
     /// Makes a directory
     Mkdir {
-        /// The directory
-        name: String,
+        /// The directory, or several
+        #[arg(required = true)]
+        names: Vec<String>,
+        /// Makes those above it too, where they aren't there; one that is there is no fault
+        #[arg(short, long)]
+        parents: bool,
     },
     /// Deletes a file or an empty directory
     #[command(visible_alias = "del")]
     Rm {
-        /// The node
-        name: String,
+        /// The node, or several
+        #[arg(required = true)]
+        names: Vec<String>,
+        /// Deletes what stands in a directory first. Not of the cell's root, and not of its directory acl
+        #[arg(short, long)]
+        recursive: bool,
     },
     /// Prints the numbers, the ACLs and the length of a node
     Stat {
-        /// The node
-        name: String,
+        /// The node, or several
+        #[arg(required = true)]
+        names: Vec<String>,
+    },
+    /// Prints or changes by which ACLs a node is read, written, and its ACLs changed
+    #[command(
+        after_help = "An ACL is a file of the directory acl of the cell: a principal a line. It is named by its last component, as base."
+    )]
+    Acl {
+        /// What is done with them
+        #[command(subcommand)]
+        act: Acl,
     },
     /// Runs a command while it holds the lock of a file
-    #[command(after_help = "\
-The file is made where there is none, and goes with its last user. The command has TILLERMOSS_SEQUENCER in its environment: the
-sequencer in hexadecimal, by which others can test that the lock is held. SIGTERM, SIGINT and SIGHUP are passed on to the command;
-one that comes while the lock is waited for ends the wait, which the cell forgets when the lease has run out. Where the session is
-lost the lock may be another's: then the command is ended, by SIGTERM and two seconds later by SIGKILL, and the status is 5.")]
+    #[command(after_help = LOCKING)]
     Lock(Lock),
     /// Waits to be elected, writes a value into the file, and runs a command while it is elected
     #[command(after_help = "\
 The candidates of an election name the same file, whose lock the elected one holds and whose content it writes; who asks for the
-elected one reads or watches the file. Behind the command the file is emptied. Signals and a lost session: as lock has them.")]
-    Elect(Hold),
+elected one reads or watches the file. After the command the file is emptied. The file, the environment, signals and a lease that
+ends: as lock has them.")]
+    Elect(Elect),
     /// Makes a file that is there as long as a command runs
     #[command(after_help = "\
 The file is ephemeral: it goes when the command has ended; where this program is killed or cut off, when its lease has run out. A
-file of the name that is there is waited for. Signals and a lost session: as lock has them.")]
+file of the name that is there is waited for. Signals are passed on to the command. Where the session is lost the command is ended,
+by SIGTERM and two seconds later by SIGKILL, and the status is 5.")]
     Register(Hold),
+    /// Asks the cell whether the lock of a sequencer is held still, and prints what the sequencer says
+    #[command(after_help = "\
+It prints the lock's name, how it is held, and its fencing number, which rises from one holder of a name to the next. Where the lock is
+held no more the status is 3.")]
+    Check {
+        /// The sequencer in hexadecimal, as TILLERMOSS_SEQUENCER has it
+        sequencer: String,
+    },
     /// Prints what happens to a file or a directory from then on, until it is deleted
     #[command(after_help = "\
 It first says on the standard error that it watches. Where two writes come close together the later content may stand for both.")]
@@ -195,7 +257,7 @@ It first says on the standard error that it watches. Where two writes come close
 pub struct Put {
     /// The file
     pub name: String,
-    /// The content; without it that of the standard input
+    /// The content; without it, and as -, what the standard input has; as @FILE what a file has
     pub content: Option<OsString>,
     /// Only where this is the present content generation; 0: only where there is no such file
     #[arg(long, value_name = "N")]
@@ -203,6 +265,42 @@ pub struct Put {
     /// Prints the content that it replaces
     #[arg(long)]
     pub prev: bool,
+}
+
+/// What is done with the ACLs of a node.
+#[derive(Debug, Subcommand)]
+pub enum Acl {
+    /// Prints them
+    Get {
+        /// The node
+        name: String,
+    },
+    /// Changes those that are named; the others stay
+    Set {
+        /// The node
+        name: String,
+        /// By which it is read
+        #[arg(long, value_name = "ACL")]
+        read: Option<String>,
+        /// By which it is written, and its lock is taken
+        #[arg(long, value_name = "ACL")]
+        write: Option<String>,
+        /// By which its ACLs are changed
+        #[arg(long, value_name = "ACL", required_unless_present_any = ["read", "write"])]
+        change: Option<String>,
+        /// Only where this is the present ACL generation
+        #[arg(long, value_name = "N")]
+        if_generation: Option<u64>,
+    },
+}
+
+impl Acl {
+    /// The node.
+    pub fn name(&self) -> &str {
+        match self {
+            Acl::Get { name } | Acl::Set { name, .. } => name,
+        }
+    }
 }
 
 /// The words of a lock.
@@ -216,12 +314,52 @@ pub struct Lock {
     /// Holds it beside others that share it
     #[arg(long)]
     pub shared: bool,
-    /// So many milliseconds the lock stays closed where this program is lost while it holds it, at most 60000
-    #[arg(long, default_value_t = 0, value_name = "MILLISECONDS")]
-    pub delay: u64,
+    /// What becomes of the command where the lease ends.
+    #[command(flatten)]
+    pub ending: Ending,
     /// The command, with its words
     #[arg(required = true, last = true)]
     pub command: Vec<OsString>,
+}
+
+/// What becomes of a command under a lock where the lease ends.
+#[derive(Clone, Copy, Debug, Args)]
+pub struct Ending {
+    /// So many seconds the command has after SIGTERM to end, before SIGKILL
+    #[arg(long, default_value_t = 5, value_name = "SECONDS", value_parser = clap::value_parser!(u64).range(..=LONGEST_GRACE))]
+    pub grace: u64,
+    /// So many milliseconds the lock stays closed where this program is lost while it holds it, at most 60000; by default as long as the
+    /// command may take to its end
+    #[arg(long, value_name = "MILLISECONDS")]
+    pub delay: Option<u64>,
+    /// Lets the command run on where the lease has ended: for work that is fenced by its sequencer or its fencing number
+    #[arg(long)]
+    pub keep_running: bool,
+    /// Makes a file that goes with its last user
+    #[arg(long)]
+    pub ephemeral: bool,
+    /// Gives up after so many seconds of waiting. Who waits so asks again and again, and has no place in the queue of those who wait
+    #[arg(long, value_name = "SECONDS", conflicts_with = "no_wait")]
+    pub timeout: Option<u64>,
+}
+
+impl Ending {
+    /// So many milliseconds the lock stays closed. A client's lease ends before the master's view of it does; the grace is counted by the
+    /// client's clock, which may go slower than the master's, 16 to 17; and a second is for what SIGKILL takes.
+    pub fn lock_delay(&self) -> u64 {
+        self.delay.unwrap_or(if self.keep_running { 0 } else { (1000 * self.grace * 17).div_ceil(16) + 1000 })
+    }
+}
+
+/// The words of an election.
+#[derive(Debug, Args)]
+pub struct Elect {
+    /// The file, what it says, and the command.
+    #[command(flatten)]
+    pub hold: Hold,
+    /// What becomes of the command where the lease ends.
+    #[command(flatten)]
+    pub ending: Ending,
 }
 
 /// The words of what is held while a command runs.
@@ -240,26 +378,32 @@ pub struct Hold {
 }
 
 impl Verb {
-    /// The verb's own word, and the name that it speaks of.
-    pub fn words(&self) -> (&'static str, Option<&str>) {
+    /// The verb's own word, and the names that it speaks of.
+    pub fn words(&self) -> (&'static str, Vec<&str>) {
         match self {
-            Verb::Get { name, .. } => ("get", Some(name)),
-            Verb::Put(put) => ("put", Some(&put.name)),
-            Verb::Ls { name } => ("ls", name.as_deref()),
-            Verb::Mkdir { name } => ("mkdir", Some(name)),
-            Verb::Rm { name } => ("rm", Some(name)),
-            Verb::Stat { name } => ("stat", Some(name)),
-            Verb::Lock(lock) => ("lock", Some(&lock.name)),
-            Verb::Elect(hold) => ("elect", Some(&hold.name)),
-            Verb::Register(hold) => ("register", Some(&hold.name)),
-            Verb::Watch { name, .. } => ("watch", Some(name)),
-            Verb::Status => ("status", None),
-            Verb::Sessions => ("sessions", None),
-            Verb::Locks => ("locks", None),
-            Verb::Backup { .. } => ("backup", None),
-            Verb::Completions { .. } => ("completions", None),
+            Verb::Get { names, .. } => ("get", all(names)),
+            Verb::Put(put) => ("put", vec![&put.name]),
+            Verb::Ls { names, .. } => ("ls", all(names)),
+            Verb::Mkdir { names, .. } => ("mkdir", all(names)),
+            Verb::Rm { names, .. } => ("rm", all(names)),
+            Verb::Stat { names } => ("stat", all(names)),
+            Verb::Acl { act } => ("acl", vec![act.name()]),
+            Verb::Lock(lock) => ("lock", vec![&lock.name]),
+            Verb::Elect(elect) => ("elect", vec![&elect.hold.name]),
+            Verb::Register(hold) => ("register", vec![&hold.name]),
+            Verb::Watch { name, .. } => ("watch", vec![name]),
+            Verb::Check { .. } => ("check", vec![]),
+            Verb::Status => ("status", vec![]),
+            Verb::Sessions => ("sessions", vec![]),
+            Verb::Locks => ("locks", vec![]),
+            Verb::Backup { .. } => ("backup", vec![]),
+            Verb::Completions { .. } => ("completions", vec![]),
         }
     }
+}
+
+fn all(names: &[String]) -> Vec<&str> {
+    names.iter().map(String::as_str).collect()
 }
 
 #[cfg(test)]
@@ -274,10 +418,10 @@ mod tests {
 
     #[test]
     fn options_stand_anywhere() {
-        for line in ["--as bob get f -o json", "get --as bob f --output json", "-o json get f --as bob"] {
+        for line in ["--as bob get f -o json", "get --as bob f --output json", "-o json get f --as bob", "get f --json --as bob"] {
             let words = Words::try_parse_from(["tillermoss"].into_iter().chain(line.split(' '))).unwrap();
-            assert_eq!((words.reach.principal.as_deref(), words.output), (Some("bob"), Output::Json), "{line}");
-            assert_eq!(words.verb.words(), ("get", Some("f")), "{line}");
+            assert_eq!((words.reach.principal.as_deref(), words.output()), (Some("bob"), Output::Json), "{line}");
+            assert_eq!(words.verb.words(), ("get", vec!["f"]), "{line}");
         }
     }
 
@@ -285,7 +429,7 @@ mod tests {
     fn several_servers_are_one_word() {
         for line in ["--servers h:7,tls:i:8 get f", "get f --server h:7,tls:i:8"] {
             let words = Words::try_parse_from(["tillermoss"].into_iter().chain(line.split(' '))).unwrap();
-            assert_eq!(words.reach.server, "h:7,tls:i:8", "{line}");
+            assert_eq!(words.reach.server(), "h:7,tls:i:8", "{line}");
         }
     }
 
@@ -297,6 +441,18 @@ mod tests {
     }
 
     #[test]
+    fn a_lock_stays_closed_for_as_long_as_its_command_may_take_to_end() {
+        let rows = [("", 6313), ("--grace 0", 1000), ("--grace 55", 59_438), ("--delay 7", 7), ("--keep-running", 0)];
+        for (options, wanted) in rows {
+            let line = format!("tillermoss elect {options} f v");
+            let words = Words::try_parse_from(line.split_whitespace()).unwrap();
+            let Verb::Elect(elect) = words.verb else { panic!("another verb") };
+            assert_eq!(elect.ending.lock_delay(), wanted, "{options}");
+        }
+        assert!(Words::try_parse_from("tillermoss lock --grace 56 f -- true".split(' ')).is_err());
+    }
+
+    #[test]
     fn names_are_made_whole() {
         let words = Words::try_parse_from(["tillermoss", "--cell", "k", "ls"]).unwrap();
         for (name, wanted) in [("f", "/ls/k/f"), ("d/f", "/ls/k/d/f"), ("/ls/d/f", "/ls/d/f")] {
@@ -305,22 +461,23 @@ mod tests {
     }
 
     #[test]
-    fn names_are_told_from_other_words() {
-        let long = format!("/ls/c/{}", "a".repeat(64));
-        for name in ["/ls/c", "/ls/c/f", "/ls/c/d/a.b_c-9", "/ls/c/...", &long] {
-            assert!(is_name(name), "{name}");
-        }
-        let longer = format!("{long}a");
-        for word in ["", "/", "/ls", "/ls/", "/ls/c/", "/ls//f", "/ls/c/F", "/ls/c/a b", "/ls/c/..", "/ls/c/.", "/etc/c/f", &longer] {
-            assert!(!is_name(word), "{word}");
-        }
-        let names = |count| format!("/ls{}", format!("/{}", "a".repeat(63)).repeat(count));
-        assert!(is_name(&format!("{}/{}", names(7), "a".repeat(60))) && !is_name(&format!("{}/{}", names(7), "a".repeat(61))));
-    }
-
-    #[test]
     fn other_words_are_refused() {
-        let lines = ["", "--server", "get", "get a b", "lock f", "lock f --", "lock f run", "put", "seek f", "--who a get f", "rm"];
+        let lines = [
+            "",
+            "--server",
+            "get",
+            "acl get a b",
+            "acl set a",
+            "acl",
+            "lock f --timeout 1 --no-wait -- true",
+            "lock f",
+            "lock f --",
+            "lock f run",
+            "put",
+            "seek f",
+            "--who a get f",
+            "rm",
+        ];
         for line in lines {
             let words = ["tillermoss"].into_iter().chain(line.split_whitespace());
             assert!(Words::try_parse_from(words).unwrap_err().use_stderr(), "{line}");

@@ -1,7 +1,7 @@
 //! What an operator asks a server for, where `tillermossd --admin` listens.
 
 use crate::errors::Error;
-use host_wire::{Address, LockShown, SessionShown, Status};
+use host_wire::{Address, LockShown, SessionShown, Shown, Status};
 use hyper::body::HttpBody;
 use hyper::client::conn::handshake;
 use hyper::{Body, Method, Request, Response};
@@ -109,6 +109,24 @@ impl Admin {
     /// As `status`.
     pub fn locks(&self) -> Result<Vec<LockShown>, Error> {
         self.get("/locks")
+    }
+
+    /// All that a server shows: how it stands, nodes, sessions, locks, and which calls wait for whom.
+    ///
+    /// ```
+    /// # let server = trials::server_of_its_own();
+    /// # let address = server.admin.as_deref().unwrap();
+    /// # use tillermoss::*;
+    /// let shown: Shown = Admin::new(address)?.all()?;
+    /// assert!(shown.status.is_ready && shown.waits.is_empty());
+    /// # Ok::<(), Error>(())
+    /// ```
+    ///
+    /// # Errors
+    ///
+    /// As `status`.
+    pub fn all(&self) -> Result<Shown, Error> {
+        self.get("/all")
     }
 
     /// Takes a copy of the store into a new file that this user alone reads; how many bytes it has. The server gives it over a

@@ -3,6 +3,8 @@
 use crate::events::Events;
 use crate::library::OpenParts;
 use crate::nodes::{LockMode, Mode};
+use crate::refusals::Refusal;
+use host_wire::{is_component, is_name};
 
 /// Whether a new node goes by itself.
 ///
@@ -138,7 +140,28 @@ pub enum Call<'a> {
     Leave,
 }
 
+/// The longest content of a file, in bytes.
+const CONTENT_LIMIT: usize = 262_144;
+
+/// The longest sequencer, in bytes: 20 in front of a name.
+const SEQUENCER_LIMIT: usize = 532;
+
 impl Call<'_> {
+    /// Why it isn't sent: no server takes a message with such a name, and none hands on one that is too long. Each would end the
+    /// connection, again and again, until the session is lost.
+    pub fn fault(&self) -> Option<Refusal> {
+        let is_acl = |acl: &[String; 3]| acl.iter().all(|component| is_component(component));
+        match self {
+            Call::Open(opening) if !is_name(&opening.name) => Some(Refusal::BadName),
+            Call::Open(opening) if !opening.acl().is_none_or(is_acl) => Some(Refusal::BadName),
+            Call::Open(opening) if opening.content().len() > CONTENT_LIMIT => Some(Refusal::TooLarge),
+            Call::Set(_, content, _) if content.len() > CONTENT_LIMIT => Some(Refusal::TooLarge),
+            Call::SetAcl(_, acl, _) if !is_acl(acl) => Some(Refusal::BadName),
+            Call::SetSequencer(_, bytes) | Call::CheckSequencer(bytes) if bytes.len() > SEQUENCER_LIMIT => Some(Refusal::BadSequencer),
+            _ => None,
+        }
+    }
+
     /// Whether it changes nothing, so that it may be made again where its outcome isn't known.
     pub fn only_reads(&self) -> bool {
         match self {
@@ -185,6 +208,29 @@ mod tests {
         ];
         for (call, wanted) in rows {
             assert_eq!(call.only_reads(), wanted, "{call:?}");
+        }
+    }
+
+    #[test]
+    fn what_no_server_takes_is_not_sent() {
+        let file = |name: &str, length: usize, acl: &str| Opening {
+            create: Some(Create { content: Some(vec![0; length]), acl: Some([acl, "b", "c"].map(str::to_owned)), ..Create::default() }),
+            ..Opening::new(name, Mode::READ)
+        };
+        let rows = [
+            (Call::Open(&file("/ls/c/f", CONTENT_LIMIT, "a")), None),
+            (Call::Open(&file("/ls/c/F", 0, "a")), Some(Refusal::BadName)),
+            (Call::Open(&file("f", 0, "a")), Some(Refusal::BadName)),
+            (Call::Open(&file("/ls/c/f", 0, "A")), Some(Refusal::BadName)),
+            (Call::Open(&file("/ls/c/f", CONTENT_LIMIT + 1, "a")), Some(Refusal::TooLarge)),
+            (Call::Set(1, &[0; CONTENT_LIMIT], None), None),
+            (Call::Set(1, &[0; CONTENT_LIMIT + 1], None), Some(Refusal::TooLarge)),
+            (Call::SetAcl(1, &["a", "b", "c/d"].map(str::to_owned), None), Some(Refusal::BadName)),
+            (Call::CheckSequencer(&[0; SEQUENCER_LIMIT]), None),
+            (Call::SetSequencer(1, &[0; SEQUENCER_LIMIT + 1]), Some(Refusal::BadSequencer)),
+        ];
+        for (call, wanted) in rows {
+            assert_eq!(call.fault(), wanted);
         }
     }
 }

@@ -1,6 +1,7 @@
 //! A client that keeps its session by itself.
 
 use crate::calls::{Call, Create, Opening};
+use crate::clock;
 use crate::core::{Core, End, Mark, Reply, Standing, State, Tried};
 use crate::errors::Error;
 use crate::events::{Event, Events};
@@ -10,6 +11,7 @@ use crate::lines::{Answer, Shown};
 use crate::nodes::{LockMode, Mode, Stat, View};
 use crate::reaching::Reach;
 use crate::refusals::Refusal;
+use crate::sequencers::Sequencer;
 use crate::viewer::Viewer;
 use host_wire::{Hello, Welcome};
 use std::path::PathBuf;
@@ -201,6 +203,20 @@ impl Client {
     #[must_use]
     pub fn is_lost(&self) -> bool {
         self.core.lock().standing() == Standing::Lost
+    }
+
+    /// So long this client trusts its lease still, by its own clock, which goes on while the machine sleeps: zero where it has ended, and
+    /// where the session is lost. What was held before that may be another's then, once a lock-delay is over.
+    ///
+    /// ```
+    /// # trials::with_client(|client| {
+    /// assert!(!client.lease_left().is_zero());
+    /// # Ok(()) });
+    /// ```
+    #[must_use]
+    pub fn lease_left(&self) -> Duration {
+        let leased_until = self.core.lock().leased_until();
+        Duration::from_millis(leased_until.saturating_sub(clock::now()))
     }
 
     /// Ends the session in order. First the cache is emptied; then the master ends what the client held, at once and without a
@@ -754,6 +770,31 @@ impl Client {
             Answer::Sequencer(bytes) => Ok(bytes),
             other => Err(unfit(&other)),
         }
+    }
+
+    /// A number that rises from one holder of this name to the next, also where the node was deleted and made again: that of the
+    /// sequencer of the lock that the handle holds ([`Sequencer::fencing_number`]).
+    ///
+    /// ```
+    /// # trials::with_client(|client| {
+    /// # use tillermoss::*;
+    /// let file = client.create("/ls/c/f", b"")?;
+    /// client.acquire(file, LockMode::Exclusive)?;
+    /// let first = client.fencing_number(file)?;
+    /// client.delete(file)?;
+    /// let again = client.create("/ls/c/f", b"")?;
+    /// client.acquire(again, LockMode::Exclusive)?;
+    /// assert!(client.fencing_number(again)? > first);
+    /// # Ok(()) });
+    /// ```
+    ///
+    /// # Errors
+    ///
+    /// As `sequencer`.
+    pub fn fencing_number(&self, handle: Handle) -> Result<u128, Error> {
+        let bytes = self.sequencer(handle)?;
+        let sequencer = Sequencer::read(&bytes).ok_or_else(|| Error::Malformed("the sequencer".to_owned()))?;
+        Ok(sequencer.fencing_number())
     }
 
     /// The handle's later calls stand under the sequencer of these bytes: they are refused once its lock is held no more.

@@ -168,6 +168,11 @@ impl State {
         self.standing
     }
 
+    /// The moment from which on the client trusts its lease no more; 0 where the session is lost.
+    pub fn leased_until(&mut self) -> u64 {
+        if self.standing == Standing::Lost { 0 } else { self.library.leased_until() }
+    }
+
     /// Whether the session can still be kept.
     pub fn goes_on(&self) -> bool {
         self.end.is_none() && self.standing != Standing::Lost
@@ -270,6 +275,9 @@ impl State {
     pub fn call(&mut self, call: &Call, watcher: Option<&Sender<Event>>) -> Result<Tried, Error> {
         if let Some(fault) = self.fault() {
             return Err(fault);
+        }
+        if let Some(refusal) = call.fault() {
+            return Err(refusal.into());
         }
         self.turn();
         let status = self.library.call(clock::now(), call);

@@ -33,6 +33,7 @@ mod nodes;
 mod outgoing;
 mod reaching;
 mod refusals;
+mod sequencers;
 mod viewer;
 
 pub use admin::Admin;
@@ -88,9 +89,21 @@ pub use host_wire::Status;
 /// # Ok::<(), Error>(())
 /// ```
 pub use host_wire::TurnedAway;
+/// ```
+/// # use tillermoss::*;
+/// # let server = trials::server_of_its_own();
+/// # let (address, admin) = (server.address.as_str(), server.admin.as_deref().unwrap());
+/// Client::connect(&Options::new(address, "ann"))?.create("/ls/c/f", b"hello")?;
+/// let shown: Shown = Admin::new(admin)?.all()?;
+/// let nodes: &[NodeShown] = &shown.nodes;
+/// assert_eq!((nodes.last().unwrap().name.as_str(), &shown.waits[..]), ("/ls/c/f", &[] as &[WaitShown]));
+/// # Ok::<(), Error>(())
+/// ```
+pub use host_wire::{NodeShown, Shown, WaitShown};
 pub use nodes::{Kind, LockMode, Mode, Right, Stat, View};
 pub use reaching::own_principal;
 pub use refusals::Refusal;
+pub use sequencers::Sequencer;
 pub use viewer::Viewer;
 
 /// The version of this crate, and whether its client library was built without proof.

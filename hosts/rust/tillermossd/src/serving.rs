@@ -1,20 +1,20 @@
 //! The server, from its start to its end.
 
 use crate::admin::pages::{Admin, Desk};
-use crate::net::connections::{Hall, take_all};
-use crate::net::doors::{Certificates, Door};
+use crate::admin::showing::Showing;
 use crate::etcd::mastership::{Mastership, Seat};
+use crate::etcd::standby::{self, Known};
 use crate::etcd::{self, gateway::Gateway};
 use crate::etcd::{Place, Rows};
-use crate::master::locks::take_lock;
 use crate::master::child::{Ending, Making, Master, Order, StoreRefused};
+use crate::master::locks::take_lock;
 use crate::master::numbers::{Epochs, Numbers};
-use crate::options::Options;
 use crate::master::picture::Picture;
-use crate::settings::Settings;
-use crate::admin::showing::Showing;
-use crate::etcd::standby::{self, Known};
 use crate::master::store::{self, Head, beside};
+use crate::net::connections::{Hall, take_all};
+use crate::net::doors::{Certificates, Door};
+use crate::options::Options;
+use crate::settings::Settings;
 use anyhow::{Context, Result, bail};
 use host_wire::{Address, Notice};
 use nix::sys::resource::{Resource, getrlimit, setrlimit};
@@ -68,6 +68,10 @@ pub fn serve(options: Options) -> Result<()> {
     }
     let path = options.store.clone().context("--store is missing")?;
     let path = fs::canonicalize(&path).unwrap_or(path);
+    let folder = path.parent().filter(|folder| !folder.as_os_str().is_empty()).unwrap_or(Path::new("."));
+    if !folder.is_dir() {
+        bail!("--store {}: there is no folder {}: make it first, for this user alone", path.display(), folder.display());
+    }
     let _lock = take_lock(&beside(&path, "lock"))?;
     store::forget_copies(&path)?;
     let found = look(&options, &path)?;
@@ -140,8 +144,11 @@ fn look_beside(options: &Options, rows: &Rows) -> Result<Found> {
             "etcd takes no transaction of {OPERATIONS} operations, and refuses a commit of more than it takes: set --max-txn-ops {OPERATIONS}"
         ));
     }
-    numbers.note(epochs)?;
     let tables = found.tables()?;
+    if found.epoch() > 0 {
+        warnings.extend(check(options, &settings, &tables)?.iter().map(stranger));
+    }
+    numbers.note(epochs)?;
     let picture = Box::new(move || Picture::of(&tables));
     Ok(Found { picture, numbers, settings, warnings })
 }
@@ -171,18 +178,21 @@ fn look(options: &Options, path: &Path) -> Result<Found> {
     let mut picture: Reading = Box::new(|| Ok(Picture::default()));
     let mut epochs = Epochs { last: 0, coming: 1 };
     let mut has_known_secret = settings.has_known_secret();
+    let mut strangers = Vec::new();
     if has_store {
         let folder = store::copy(path).with_context(|| format!("reading {}", path.display()))?;
         let connection = store::open(&store::copied(&folder))?;
         let head = Head::read(&connection)?;
         has_known_secret = head.has_known_secret;
         epochs = head.check(numbers.epochs())?;
+        strangers = check(options, &settings, &connection)?;
         picture = Box::new(move || {
             let _kept = folder;
             Picture::of(&connection)
         });
     }
     let mut warnings = warnings(options, has_known_secret);
+    warnings.extend(strangers.iter().map(stranger));
     if has_store && fs::metadata(path)?.permissions().mode() & 0o077 != 0 {
         warnings.push(format!("others than its user may read {}", path.display()));
     }
@@ -192,6 +202,16 @@ fn look(options: &Options, path: &Path) -> Result<Found> {
     }
     store::prepare(path).with_context(|| format!("making {}", path.display()))?;
     Ok(Found { picture, numbers, settings: settings.with_secret(), warnings })
+}
+
+// Whether the settings are those of the store; whom they name, and its ACL doesn't.
+fn check(options: &Options, settings: &Settings, store: &rusqlite::Connection) -> Result<Vec<String>> {
+    let file = options.settings.as_deref().unwrap_or(Path::new(""));
+    settings.check(store).with_context(|| format!("the settings of {}", file.display()))
+}
+
+fn stranger(principal: &String) -> String {
+    format!("the settings name {principal}, whom the ACL base doesn't: they are those of a new store")
 }
 
 // Whether the master says so itself. (One that can't be started is told of when it is.)

@@ -1,6 +1,8 @@
 //! The settings: those of the cell, which its master reads, and the limits of the server, a table of their own.
 
-use anyhow::{Context, Result};
+use anyhow::{Context, Result, bail};
+use host_wire::is_component;
+use rusqlite::{Connection, OptionalExtension};
 use serde::Deserialize;
 use std::fs;
 use std::io::Write;
@@ -55,6 +57,35 @@ impl Default for Limits {
     }
 }
 
+/// What is said of the cell, by the rules that its master keeps.
+#[derive(Debug, Deserialize)]
+#[serde(deny_unknown_fields)]
+struct Cell {
+    cell: Option<String>,
+    lease: Option<u64>,
+    principals: Option<Vec<String>>,
+    secret: Option<String>,
+}
+
+impl Cell {
+    fn check(&self) -> Result<()> {
+        if self.cell.as_deref().is_some_and(|cell| !is_component(cell)) {
+            bail!("cell is 1 to 64 of a-z 0-9 . _ -");
+        }
+        if self.lease.is_some_and(|lease| !(1_000..=60_000).contains(&lease)) {
+            bail!("lease is 1000 to 60000 milliseconds");
+        }
+        if let Some(other) = self.principals.iter().flatten().find(|principal| !is_component(principal)) {
+            bail!("principals has {other:?}: each is 1 to 64 of a-z 0-9 . _ -");
+        }
+        let is_digit = |digit: u8| digit.is_ascii_digit() || (b'a'..=b'f').contains(&digit);
+        if self.secret.as_ref().is_some_and(|secret| secret.len() != 64 || !secret.bytes().all(is_digit)) {
+            bail!("secret is 64 hexadecimal digits in lower case");
+        }
+        Ok(())
+    }
+}
+
 /// What a file of settings says.
 #[derive(Clone, Debug, Default, PartialEq)]
 pub struct Settings {
@@ -76,8 +107,40 @@ impl Settings {
 
     fn of_text(text: &str) -> Result<Settings> {
         let mut cell: Table = toml::from_str(text)?;
-        let limits = cell.remove(LIMITS).map_or(Ok(Limits::default()), toml::Value::try_into)?;
+        let limits = cell.remove(LIMITS).map_or(Ok(Limits::default()), |limits| limits.try_into().context("the table limits"))?;
+        let said: Cell = toml::Value::Table(cell.clone()).try_into()?;
+        said.check()?;
         Ok(Settings { cell, limits })
+    }
+
+    /// Why these aren't the settings of a store that is there: the secret and the principals are those of a new one, and to pass over
+    /// them would leave who changed them in the belief that they hold. What they name that the store's ACL `base`, which was written
+    /// since, doesn't have.
+    pub fn check(&self, store: &Connection) -> Result<Vec<String>> {
+        let said: Cell = toml::Value::Table(self.cell.clone()).try_into()?;
+        let (cell, secret): (String, Vec<u8>) =
+            store.query_row("SELECT cell, secret FROM meta WHERE id = 1", [], |row| Ok((row.get(0)?, row.get(1)?)))?;
+        if said.secret.is_some_and(|said| said != hex::encode(secret)) {
+            bail!("secret isn't that of the store, which keeps the one that it was made with: take the line out, or put the old one back");
+        }
+        let Some(principals) = said.principals else {
+            return Ok(Vec::new());
+        };
+        let base = "SELECT content_gen, content FROM nodes WHERE name = ?";
+        let base = store.query_row(base, [format!("/ls/{cell}/acl/base")], |row| Ok((row.get::<_, u64>(0)?, row.get::<_, Vec<u8>>(1)?)));
+        // (whoever may delete the ACL has done so)
+        let Some((generation, content)) = base.optional()? else {
+            return Ok(Vec::new());
+        };
+        let text = String::from_utf8_lossy(&content);
+        let present: Vec<&str> = text.lines().collect();
+        if generation == 1 && principals != present {
+            bail!(
+                "principals are those of a new store, and this one was made with {present:?}: `tillermoss put acl/base` changes whom it \
+                 lets in; then take the line out"
+            );
+        }
+        Ok(principals.into_iter().filter(|principal| !present.contains(&principal.as_str())).collect())
     }
 
     /// The same with a secret of 32 random bytes, where none is said.
@@ -120,10 +183,53 @@ mod tests {
     #[test]
     fn a_secret_is_made_where_none_is_said() {
         let secret = |text: &str| Settings::of_text(text).unwrap().with_secret().cell[SECRET].as_str().unwrap().to_owned();
-        assert_eq!(secret("secret = \"ab\"\n"), "ab");
-        assert!(Settings::of_text("secret = \"00\"\n").unwrap().has_known_secret());
+        let said = "ab".repeat(32);
+        assert_eq!(secret(&format!("secret = \"{said}\"\n")), said);
+        assert!(Settings::of_text(&format!("secret = \"{}\"\n", "00".repeat(32))).unwrap().has_known_secret());
         assert!(!Settings::of_text("").unwrap().with_secret().has_known_secret());
         assert_eq!(secret("").len(), 64);
         assert_ne!(secret(""), secret(""));
+    }
+
+    #[test]
+    fn a_rule_that_is_broken_is_told() {
+        let rows = [
+            ("cell = \"C\"", "cell is"),
+            ("lease = 999", "lease is"),
+            ("lease = 60001", "lease is"),
+            ("lease = \"1 s\"", "key `lease`"),
+            ("principals = [\"ann\", \"Bob\"]", "\"Bob\""),
+            ("secret = \"00\"", "secret is"),
+            ("leese = 1000", "leese"),
+            ("[limits]\nnode = 7", "limits"),
+        ];
+        for (text, wanted) in rows {
+            let told = format!("{:#}", Settings::of_text(text).unwrap_err());
+            assert!(told.contains(wanted), "{text}: {told}");
+        }
+    }
+
+    // A store of the cell c with this content of its ACL base, which was written so many times.
+    fn store(base: &str, generation: u64) -> Connection {
+        let store = Connection::open_in_memory().unwrap();
+        store.execute_batch("CREATE TABLE meta (id, cell, secret); CREATE TABLE nodes (name, content_gen, content)").unwrap();
+        store.execute("INSERT INTO meta VALUES (1, 'c', ?)", [[0xab_u8; 32]]).unwrap();
+        store.execute("INSERT INTO nodes VALUES ('/ls/c/acl/base', ?, ?)", (generation, base.as_bytes())).unwrap();
+        store
+    }
+
+    #[test]
+    fn what_a_store_does_not_take_is_refused() {
+        let check = |text: &str, generation| Settings::of_text(text).unwrap().check(&store("ann\nbob\n", generation));
+        let secret = |byte: &str| format!("secret = \"{}\"", byte.repeat(32));
+        assert_eq!(check("", 1).unwrap(), [""; 0]);
+        assert_eq!(check(&secret("ab"), 1).unwrap(), [""; 0]);
+        assert!(check(&secret("ac"), 1).unwrap_err().to_string().contains("secret isn't"));
+        assert_eq!(check("principals = [\"ann\", \"bob\"]", 1).unwrap(), [""; 0]);
+        for other in ["[\"ann\"]", "[\"ann\", \"bob\", \"eve\"]", "[]"] {
+            let told = check(&format!("principals = {other}"), 1).unwrap_err().to_string();
+            assert!(told.contains("made with [\"ann\", \"bob\"]"), "{other}: {told}");
+        }
+        assert_eq!(check("principals = [\"ann\", \"eve\"]", 2).unwrap(), ["eve"]);
     }
 }

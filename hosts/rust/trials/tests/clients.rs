@@ -68,6 +68,25 @@ fn files_and_directories() {
     assert_eq!(client.read(file).unwrap().content, long);
 }
 
+// (each of these would end the connection, again and again, until the session is lost)
+#[test]
+fn what_no_server_takes_is_refused_at_once() {
+    let cell = Cell::new("unsent");
+    let client = cell.client("ann");
+    let file = client.create("/ls/c/f", b"first").unwrap();
+    let large = vec![b'a'; 1 << 20];
+    let begun = Instant::now();
+    for name in ["f", "/ls/c/F", "/ls/c/", "/ls/c/\u{e9}", "/ls/c/..", ""] {
+        assert_eq!(refusal(client.open(name, Mode::READ)), Some(Refusal::BadName), "{name}");
+    }
+    assert_eq!(refusal(client.set_acl(file, &["a", "B", "c"].map(str::to_owned), None)), Some(Refusal::BadName));
+    assert_eq!(refusal(client.create("/ls/c/g", &large)), Some(Refusal::TooLarge));
+    assert_eq!(refusal(client.set(file, &large, None)), Some(Refusal::TooLarge));
+    assert_eq!(refusal(client.check_sequencer(&large)), Some(Refusal::BadSequencer));
+    assert!(begun.elapsed() < Duration::from_secs(2), "{:?}", begun.elapsed());
+    assert_eq!(client.read(file).unwrap().content, b"first");
+}
+
 #[test]
 fn refusals_are_told() {
     let cell = Cell::new("refusals");
@@ -93,7 +112,6 @@ fn refusals_are_told() {
     for (found, wanted) in rows {
         assert_eq!(found, Some(wanted));
     }
-    assert!(matches!(client.open("no name", Mode::READ), Err(Error::Malformed(_))));
 }
 
 #[test]

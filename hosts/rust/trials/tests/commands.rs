@@ -9,7 +9,7 @@ use std::process::{Child, ChildStdout, Command, Stdio};
 use std::thread;
 use std::time::{Duration, Instant};
 use tillermoss::{Client, Error, Options};
-use trials::{Kill, Server, folder, program};
+use trials::{Kill, Passing, Relay, Server, Start, folder, program};
 
 fn command(server: &Server, words: &[&str]) -> Command {
     let mut command = Command::new(program("tillermoss"));
@@ -99,6 +99,163 @@ fn files_are_made_read_and_deleted() {
     let mut left: Vec<_> = fs::read_dir(&folder).unwrap().map(|entry| entry.unwrap().file_name()).collect();
     left.sort();
     assert_eq!(left, ["store.db", "store.db-lock", "store.db-numbers", "store.db.log"]);
+    fs::remove_dir_all(folder).unwrap();
+}
+
+#[test]
+fn verbs_take_several_names_and_whole_trees() {
+    let folder = folder("trees");
+    let server = Server::start(&folder.join("store.db")).unwrap();
+    let rows: &[(&[&str], &str, i32)] = &[
+        (&["mkdir", "-p", "d/e/f", "g"], "", 0),
+        (&["mkdir", "--parents", "d/e/f"], "", 0),
+        (&["put", "d/e/a", "one"], "", 0),
+        (&["put", "b", "two"], "", 0),
+        (&["mkdir", "-p", "b"], "", 3),
+        (&["mkdir", "-p", "b/c"], "", 3),
+        (&["get", "d/e/a", "b"], "one\ntwo\n", 0),
+        (&["get", "d/e/a", "none", "b"], "one\ntwo\n", 1),
+        (&["ls", "-r", "d"], "e\ne/a\ne/f\n", 0),
+        (&["ls", "-r", "b"], "", 3),
+        (&["ls", "d", "g", "d/e"], "/ls/c/d:\ne\n/ls/c/g:\n/ls/c/d/e:\na\nf\n", 0),
+        (&["ls", "-r", "d", "--json"], "{\"children\":[\"e\",\"e/a\",\"e/f\"],\"name\":\"/ls/c/d\"}\n", 0),
+        (&["rm", "d"], "", 3),
+        (&["rm", "-r", "d", "b"], "", 0),
+        (&["rm", "none", "g"], "", 1),
+        (&["rm", "-r", "/ls/c"], "", 3),
+        (&["rm", "-r", "acl"], "", 3),
+        (&["ls", "-r"], "acl\nacl/base\n", 0),
+        (&["stat", "F", "acl"], "", 2),
+    ];
+    for (words, printed, status) in rows {
+        assert_eq!(run(&server, words), ((*printed).to_owned(), Some(*status)), "{words:?}");
+    }
+    fs::remove_dir_all(folder).unwrap();
+}
+
+#[test]
+fn the_acls_of_a_node_are_read_and_changed() {
+    let folder = folder("acls");
+    let server = Server::start(&folder.join("store.db")).unwrap();
+    let json = "{\"acl_generation\":2,\"change\":\"base\",\"name\":\"/ls/c/f\",\"read\":\"readers\",\"write\":\"base\"}\n";
+    let rows: &[(&[&str], &str, i32)] = &[
+        (&["put", "f", "x"], "", 0),
+        (&["put", "acl/readers", "ann\nbob\neve\n"], "", 0),
+        (&["acl", "get", "f"], "read base\nwrite base\nchange base\n", 0),
+        (&["get", "f", "--as", "eve"], "", 3),
+        (&["acl", "set", "f", "--read", "readers"], "", 0),
+        (&["get", "f", "--as", "eve"], "x\n", 0),
+        (&["acl", "get", "f", "--json"], json, 0),
+        (&["acl", "set", "f", "--write", "readers", "--change", "readers", "--if-generation", "1"], "", 3),
+        (&["acl", "set", "f", "--write", "readers", "--if-generation", "2"], "", 0),
+        (&["acl", "get", "f"], "read readers\nwrite readers\nchange base\n", 0),
+        (&["acl", "set", "f", "--read", "base", "--as", "eve"], "", 3),
+        (&["acl", "set", "f", "--read", "R"], "", 3),
+        (&["acl", "set", "f"], "", 2),
+        (&["acl", "get", "g"], "", 1),
+    ];
+    for (words, printed, status) in rows {
+        assert_eq!(run(&server, words), ((*printed).to_owned(), Some(*status)), "{words:?}");
+    }
+    fs::remove_dir_all(folder).unwrap();
+}
+
+// By a shell, which can close the standard input.
+fn by_shell(server: &Server, line: &str) -> (String, Option<i32>) {
+    let line = line.replace("tillermoss ", &format!("{} --server {} ", program("tillermoss").display(), server.address));
+    let output = Command::new("sh").arg("-c").arg(line).output().unwrap();
+    (String::from_utf8([output.stdout, output.stderr].concat()).unwrap(), output.status.code())
+}
+
+#[test]
+fn a_content_comes_from_where_users_expect() {
+    let folder = folder("inputs");
+    let server = Server::start(&folder.join("store.db")).unwrap();
+    let file = folder.join("content");
+    fs::write(&file, "of a file\n").unwrap();
+    let put = |line: &str| by_shell(&server, line);
+    let done = (String::new(), Some(0));
+    assert_eq!(put("echo piped | tillermoss put f -"), done);
+    assert_eq!(put("tillermoss get f"), ("piped\n".to_owned(), Some(0)));
+    assert_eq!(put(&format!("tillermoss put f @{}", file.display())), done);
+    assert_eq!(put("tillermoss get f"), ("of a file\n".to_owned(), Some(0)));
+    for line in ["tillermoss put f <&-", "tillermoss put f - <&-"] {
+        let (told, status) = put(line);
+        assert!(told.contains("the standard input is closed") && status == Some(6), "{line}: {told}");
+    }
+    let (told, status) = put("tillermoss put f @/no/such/file");
+    assert!(told.contains("/no/such/file: No such file") && status == Some(6), "{told}");
+    assert_eq!(put("tillermoss get f"), ("of a file\n".to_owned(), Some(0)));
+    assert_eq!(put("tillermoss put f </dev/null"), done);
+    assert_eq!(put("tillermoss get f --raw"), done);
+    fs::remove_dir_all(folder).unwrap();
+}
+
+#[test]
+fn a_put_tells_the_generation_that_it_made() {
+    let folder = folder("generations");
+    let server = Server::start(&folder.join("store.db")).unwrap();
+    let told =
+        |generation, previous: &str| format!("{{\"content_generation\":{generation},\"instance\":4,\"name\":\"/ls/c/f\"{previous}}}\n");
+    let before = ",\"previous\":{\"content\":\"c\",\"content_generation\":3,\"instance\":4,\"name\":\"/ls/c/f\"}";
+    let rows: &[(&[&str], String)] = &[
+        (&["put", "f", "a", "--json"], told(1, "")),
+        (&["put", "f", "b", "--json"], told(2, "")),
+        (&["put", "f", "c", "-o", "json", "--if-generation", "2"], told(3, "")),
+        (&["put", "f", "d", "--json", "--prev"], told(4, before)),
+    ];
+    for (words, printed) in rows {
+        assert_eq!(run(&server, words), (printed.clone(), Some(0)), "{words:?}");
+    }
+    fs::remove_dir_all(folder).unwrap();
+}
+
+// (who waits for a time leaves at once when that is over: the next one isn't kept from the lock)
+#[test]
+fn a_lock_is_waited_for_no_longer_than_asked() {
+    let folder = folder("timeout");
+    let server = Server::start(&folder.join("store.db")).unwrap();
+    let begun_file = folder.join("begun");
+    let mut first = start(&server, &["lock", "l", "--", "sh", "-c", &format!("touch {}; read line", begun_file.display())]);
+    wait_for(&begun_file);
+    let begun = Instant::now();
+    assert_eq!(run(&server, &["lock", "l", "--timeout", "1", "--", "true"]).1, Some(3));
+    assert!((1000..2500).contains(&begun.elapsed().as_millis()), "{:?}", begun.elapsed());
+    let waiter = start(&server, &["elect", "l", "a", "--timeout", "60", "--", "true"]);
+    let mut stopped = start(&server, &["lock", "l", "--timeout", "60", "--", "true"]);
+    thread::sleep(Duration::from_millis(500));
+    let begun = Instant::now();
+    signal(&stopped, Signal::SIGTERM);
+    assert_eq!(stopped.wait().unwrap().code(), Some(143));
+    first.stdin.take().unwrap().write_all(b"go\n").unwrap();
+    assert!(first.wait().unwrap().success());
+    assert_eq!(waiter.wait_with_output().unwrap().status.code(), Some(0));
+    assert!(begun.elapsed() < Duration::from_secs(3), "{:?}", begun.elapsed());
+    fs::remove_dir_all(folder).unwrap();
+}
+
+#[test]
+fn a_long_wait_says_for_whom() {
+    let folder = folder("waiting");
+    let admin = format!("unix:{}", folder.join("admin").display());
+    let server = Start::new(&folder.join("store.db")).with(&["--admin", &admin]).start().unwrap();
+    let begun = folder.join("begun");
+    let holding = ["lock", "l", "--as", "bob", "--", "sh", "-c", &format!("touch {}; read line", begun.display())];
+    let mut first = start(&server, &holding);
+    wait_for(&begun);
+    for (words, wanted) in [
+        (&["lock", "l"][..], "tillermoss: lock /ls/c/l waits: for others, who hold the lock"),
+        (&["--admin", &admin, "lock", "l"], "tillermoss: lock /ls/c/l waits: for client 1 (bob)\n"),
+    ] {
+        let words = [words, &["--", "true"]].concat();
+        let waiting = command(&server, &words).stderr(Stdio::piped()).spawn().unwrap();
+        thread::sleep(Duration::from_millis(3500));
+        signal(&waiting, Signal::SIGTERM);
+        let told = String::from_utf8(waiting.wait_with_output().unwrap().stderr).unwrap();
+        assert!(told.starts_with(wanted), "{told}");
+    }
+    first.stdin.take().unwrap().write_all(b"go\n").unwrap();
+    assert!(first.wait().unwrap().success());
     fs::remove_dir_all(folder).unwrap();
 }
 
@@ -214,7 +371,11 @@ fn errors_say_what_was_refused_and_why() {
     let server = Server::start(&folder.join("store.db")).unwrap();
     assert_eq!(run(&server, &["put", "f", "x"]).1, Some(0));
     let rows: &[(&[&str], &str, i32)] = &[
-        (&["get", "g"], "get /ls/c/g at ADDRESS: NotFound: ", 1),
+        (&["get", "g"], "get /ls/c/g at ADDRESS: NotFound: no such node\n", 1),
+        (&["put", "d/f", "x"], "put /ls/c/d/f at ADDRESS: NotFound: no such directory: /ls/c/d\n", 1),
+        (&["mkdir", "d/e"], "mkdir /ls/c/d/e at ADDRESS: NotFound: no such directory: /ls/c/d\n", 1),
+        (&["lock", "d/l", "--", "true"], "lock /ls/c/d/l at ADDRESS: NotFound: no such directory: /ls/c/d\n", 1),
+        (&["register", "d/w", "x", "--", "true"], "register /ls/c/d/w at ADDRESS: NotFound: no such directory: /ls/c/d\n", 1),
         (&["ls", "f"], "ls /ls/c/f at ADDRESS: WrongKind file: ", 3),
         (&["get", "F"], "get /ls/c/F at ADDRESS: not a name", 2),
         (&["get", "/ls/d/f"], "get /ls/d/f at ADDRESS: OtherCell: ", 3),
@@ -223,6 +384,13 @@ fn errors_say_what_was_refused_and_why() {
         (&["lock", "f", "--", "/no/such/program"], "lock /ls/c/f at ADDRESS: /no/such/program: ", 6),
         (&["lock", "l", "--delay", "60001", "--", "true"], "lock /ls/c/l at ADDRESS: DelayTooLong: ", 3),
     ];
+    let begun = Instant::now();
+    let mut put = command(&server, &["put", "large"]).stdin(Stdio::piped()).stderr(Stdio::piped()).spawn().unwrap();
+    put.stdin.take().unwrap().write_all(&[b'a'; 1 << 20]).unwrap();
+    let output = put.wait_with_output().unwrap();
+    let told = String::from_utf8(output.stderr).unwrap();
+    assert!(told.contains("TooLarge") && output.status.code() == Some(3), "{told}");
+    assert!(begun.elapsed() < Duration::from_secs(5), "{:?}", begun.elapsed());
     for (words, wanted, status) in rows {
         let output = command(&server, words).output().unwrap();
         let told = String::from_utf8(output.stderr).unwrap();
@@ -274,9 +442,150 @@ fn a_command_is_ended_where_the_session_is_lost() {
     signal(&first, Signal::SIGCONT);
     let output = first.wait_with_output().unwrap();
     let told = String::from_utf8(output.stderr).unwrap();
-    assert!(told.contains("the session is lost: the command was ended"), "{told}");
+    assert!(told.contains("the lease has ended: the command was ended"), "{told}");
     assert_eq!(output.status.code(), Some(5));
     assert!(ended.exists());
+    fs::remove_dir_all(folder).unwrap();
+}
+
+// Two who stand for one lock, the first of them over a network that is cut off while its command runs: when the first command did
+// something last, and when the second one began, in milliseconds behind the cut; and how the first program ended. Each command writes the time into a file, the
+// first one again and again.
+fn cut_off(words: &[&str], script: &str) -> (i64, i64, Option<i32>) {
+    let folder = folder("cut-off");
+    let (settings, stamps, second) = (folder.join("cell.toml"), folder.join("stamps"), folder.join("second"));
+    fs::write(&settings, "lease = 1000\n").unwrap();
+    let server = Server::start_with(&folder.join("store.db"), Some(&settings)).unwrap();
+    let relay = Relay::start(server.place().parse().unwrap()).unwrap();
+    let place = relay.address().to_string();
+    let stamp = |file: &Path| format!("date +%s%3N >>{}", file.display());
+    let script = script.replace("WORK", &format!("while :; do {}; sleep 0.02; done", stamp(&stamps)));
+    let first = Command::new(program("tillermoss"))
+        .args(["--server", &place])
+        .args(words)
+        .args(["--", "sh", "-c", &script])
+        .stdin(Stdio::null())
+        .stderr(Stdio::null())
+        .spawn();
+    let mut first = first.unwrap();
+    wait_for(&stamps);
+    let mut other = start(&server, &["lock", "l", "--", "sh", "-c", &stamp(&second)]);
+    thread::sleep(Duration::from_millis(300));
+    relay.set(Passing::Nothing);
+    let cut = milliseconds(&run_plainly("date", &["+%s%3N"]));
+    assert!(other.wait().unwrap().success());
+    let began = milliseconds(&fs::read_to_string(&second).unwrap()) - cut;
+    // (one that runs on does something meanwhile)
+    thread::sleep(Duration::from_millis(500));
+    let last = fs::read_to_string(&stamps).unwrap().lines().last().map(milliseconds).unwrap() - cut;
+    let status = ends_within(&mut first, if last > began { Duration::ZERO } else { Duration::from_secs(10) });
+    relay.set(Passing::All);
+    if status.is_none() {
+        signal(&first, Signal::SIGTERM);
+        first.wait().unwrap();
+    }
+    fs::remove_dir_all(folder).unwrap();
+    (last, began, status)
+}
+
+fn ends_within(child: &mut Child, most: Duration) -> Option<i32> {
+    let begun = Instant::now();
+    loop {
+        match child.try_wait().unwrap() {
+            Some(status) => return status.code(),
+            None if begun.elapsed() >= most => return None,
+            None => thread::sleep(Duration::from_millis(20)),
+        }
+    }
+}
+
+fn milliseconds(text: &str) -> i64 {
+    text.trim().parse().unwrap()
+}
+
+fn run_plainly(program: &str, words: &[&str]) -> String {
+    String::from_utf8(Command::new(program).args(words).output().unwrap().stdout).unwrap()
+}
+
+// The commands: one that heeds SIGTERM, one that doesn't, and one that leaves a process of its own which doesn't.
+#[test]
+fn a_command_that_is_cut_off_ends_before_its_successor_begins() {
+    let rows: &[(&[&str], &str)] = &[
+        (&["lock", "l", "--grace", "1"], "WORK"),
+        (&["lock", "l", "--grace", "1"], "trap '' TERM; WORK"),
+        (&["lock", "l", "--grace", "1"], "(trap '' TERM; WORK) & trap exit TERM; wait"),
+        (&["elect", "l", "a", "--grace", "1"], "trap '' TERM; WORK"),
+    ];
+    for (words, script) in rows {
+        let (last, began, status) = cut_off(words, script);
+        println!("commands: cut off, {} {script:?} did something last behind {last} ms; the next began behind {began} ms", words[0]);
+        assert!(last < began, "{words:?} {script}: {last} {began}");
+        assert_eq!(status, Some(5), "{words:?} {script}");
+    }
+}
+
+#[test]
+fn a_command_runs_on_where_that_is_asked_for() {
+    let (last, began, status) = cut_off(&["lock", "l", "--keep-running"], "WORK");
+    assert!(last > began, "{last} {began}");
+    assert_eq!(status, None);
+}
+
+// What a command under a lock is told: its fencing number, its lock's generation, and its sequencer.
+fn numbers(server: &Server, words: &[&str]) -> (u128, u64, String) {
+    let script = "echo $TILLERMOSS_FENCING_NUMBER $TILLERMOSS_LOCK_GENERATION $TILLERMOSS_SEQUENCER";
+    let (printed, status) = run(server, &[words, &["--", "sh", "-c", script]].concat());
+    assert_eq!(status, Some(0), "{words:?}");
+    let words: Vec<_> = printed.split_whitespace().collect();
+    (words[0].parse().unwrap(), words[1].parse().unwrap(), words[2].to_owned())
+}
+
+// (where the file stays the generation rises too; where it is made anew the fencing number alone. For a minute behind its start a server
+// lets no ephemeral file go by itself)
+#[test]
+fn each_holder_of_a_name_has_a_greater_number() {
+    let folder = folder("fencing");
+    let server = Server::start(&folder.join("store.db")).unwrap();
+    let rows: &[(&[&str], u64)] = &[
+        (&["lock", "l", "--ephemeral"], 1),
+        (&["rm", "l"], 0),
+        (&["elect", "l", "a", "--ephemeral"], 1),
+        (&["rm", "l"], 0),
+        (&["elect", "l", "b"], 1),
+        (&["elect", "l", "c"], 2),
+        (&["lock", "l"], 3),
+        (&["lock", "l", "--shared", "--ephemeral"], 4),
+        (&["rm", "l"], 0),
+        (&["lock", "l"], 1),
+    ];
+    let mut before = 0;
+    for (words, generation) in rows {
+        if *generation == 0 {
+            assert_eq!(run(&server, words).1, Some(0), "{words:?}");
+            continue;
+        }
+        let (number, present, _) = numbers(&server, words);
+        assert_eq!(present, *generation, "{words:?}");
+        assert!(number > before && number % (1 << 64) == u128::from(present), "{words:?}: {number} {before}");
+        before = number;
+    }
+    fs::remove_dir_all(folder).unwrap();
+}
+
+#[test]
+fn a_sequencer_is_checked_by_whoever_has_it() {
+    let folder = folder("checking");
+    let server = Server::start(&folder.join("store.db")).unwrap();
+    let script = format!("{} --server {} check $TILLERMOSS_SEQUENCER", program("tillermoss").display(), server.address);
+    let (printed, status) = run(&server, &["lock", "l", "--", "sh", "-c", &script]);
+    assert_eq!(status, Some(0));
+    let wanted = "name /ls/c/l\nmode exclusive\ninstance 4\nlock-generation 1\nfencing-number 73786976294838206465\n";
+    assert_eq!(printed, wanted);
+    let (_, _, sequencer) = numbers(&server, &["lock", "l"]);
+    assert_eq!(run(&server, &["check", &sequencer]), (String::new(), Some(3)));
+    for text in ["", "0", "xy", "00", &sequencer[2..]] {
+        assert_eq!(run(&server, &["check", text]), (String::new(), Some(2)), "{text}");
+    }
     fs::remove_dir_all(folder).unwrap();
 }
 

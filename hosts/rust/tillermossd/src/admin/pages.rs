@@ -1,9 +1,9 @@
 //! What operators look at and ask for, over HTTP: at a socket in a file, or at loopback.
 
-use crate::net::doors::listen_unix;
-use crate::master::child::Order;
 use crate::admin::showing::Showing;
+use crate::master::child::Order;
 use crate::master::store;
+use crate::net::doors::listen_unix;
 use anyhow::{Context, Result, bail};
 use host_wire::Address;
 use hyper::header::{CONTENT_SECURITY_POLICY, CONTENT_TYPE, HOST, HeaderValue};

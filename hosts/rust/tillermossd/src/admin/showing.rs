@@ -1,8 +1,8 @@
 //! What is shown to operators, as it stands.
 
-use crate::net::connections::Hall;
 use crate::admin::metrics::Levels;
 use crate::master::picture::Picture;
+use crate::net::connections::Hall;
 use host_wire::{Act, LockShown, NodeShown, SessionShown, Shown, Status, WaitShown};
 use std::collections::BTreeMap;
 use std::sync::Arc;

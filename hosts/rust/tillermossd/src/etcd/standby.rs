@@ -1,7 +1,7 @@
 //! A server that stands by: whoever comes is told who is master.
 
-use crate::net::doors::{Certificates, Door, Guest};
 use crate::etcd::mastership::Seat;
+use crate::net::doors::{Certificates, Door, Guest};
 use crate::options::Options;
 use anyhow::Result;
 use host_wire::{Address, Blocks, GREETING_LIMIT, Welcome, framed};

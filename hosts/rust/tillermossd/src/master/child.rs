@@ -1,15 +1,15 @@
 //! The master, a child of this program, and the task that speaks with it.
 
-use crate::net::connections::Hall;
 use crate::etcd::Rows;
 use crate::etcd::pipes::Kept;
 use crate::master::lines::Message;
-use crate::net::outgoing::Outgoing;
 use crate::master::pulse::Pulse;
-use crate::serving::Reading;
-use crate::settings::Settings;
 use crate::master::starts::Starts;
 use crate::master::store::{self, Identity};
+use crate::net::connections::Hall;
+use crate::net::outgoing::Outgoing;
+use crate::serving::Reading;
+use crate::settings::Settings;
 use anyhow::{Context, Result, bail};
 use host_wire::{ANSWER_LIMIT, Answer, Asked, Blocks, Frame, Heard, Printed, Said, Text, Told};
 use std::collections::VecDeque;

@@ -1,12 +1,12 @@
 //! The connections of clients. Each is bound to one client's number and principal, and carries that client's messages alone.
 
-use crate::net::doors::{Door, Guest, Shown, Stream};
-use crate::master::lines::{Lines, Message};
-use crate::net::lobby::Lobby;
 use crate::admin::metrics::Metrics;
+use crate::master::lines::{Lines, Message};
 use crate::master::numbers::Numbers;
-use crate::net::outgoing::Outgoing;
 use crate::master::picture::Picture;
+use crate::net::doors::{Door, Guest, Shown, Stream};
+use crate::net::lobby::Lobby;
+use crate::net::outgoing::Outgoing;
 use crate::net::rates::Rate;
 use crate::net::routes::Routes;
 use crate::settings::Limits;

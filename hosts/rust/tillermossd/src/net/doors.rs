@@ -1,7 +1,7 @@
 //! Where clients come in: the sockets that the server listens at, and whom each connection shows.
 
-use crate::options::Options;
 use crate::net::tls::server_config;
+use crate::options::Options;
 use anyhow::{Context, Result, bail};
 use host_wire::{Address, common_name, is_component};
 use nix::unistd::{Uid, User};
