@@ -1,9 +1,7 @@
 //! Whatever bytes come: they are read as what they are, or as nothing.
 
 use host_wire::rows::{Question, write_verdict};
-use host_wire::{
-    Asked, Blocks, Frame, Heard, Hello, Notice, Said, TurnedAway, Welcome, common_name, framed, is_component, write_store_refused,
-};
+use host_wire::{Asked, Blocks, Frame, Heard, Hello, Notice, Said, TurnedAway, Welcome, framed, is_component, write_store_refused};
 use proptest::collection::vec;
 use proptest::prelude::*;
 
@@ -42,7 +40,6 @@ proptest! {
         if let Some(Question::Commit(_, edits)) = Question::read(&bytes) {
             prop_assert!(edits.len() <= bytes.len());
         }
-        prop_assert!(common_name(&bytes).is_none());
     }
 
     #[test]

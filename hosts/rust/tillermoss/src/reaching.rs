@@ -1,16 +1,18 @@
 //! How a server is reached: the stream to it, and whom the client shows there.
 
-use host_wire::{Address, common_name};
+use host_wire::Address;
+use host_wire::trust::{certificates, common_name, show_by, trust, why};
 use nix::unistd::{User, getuid};
-use std::fs::File;
-use std::io::{self, BufReader, ErrorKind};
+use openssl::ssl::{Ssl, SslConnector, SslMethod};
+use openssl::x509::verify::X509CheckFlags;
+use std::io::{self, ErrorKind};
 use std::net::IpAddr;
 use std::path::{Path, PathBuf};
+use std::pin::Pin;
 use std::sync::{Arc, Mutex, MutexGuard, PoisonError};
 use tokio::io::{AsyncRead, AsyncWrite};
 use tokio::net::{TcpStream, UnixStream};
-use tokio_rustls::TlsConnector;
-use tokio_rustls::rustls::{Certificate, ClientConfig, PrivateKey, RootCertStore, ServerName};
+use tokio_openssl::SslStream;
 
 /// A stream of bytes to a server.
 pub trait Stream: AsyncRead + AsyncWrite + Send + Unpin {}
@@ -22,7 +24,7 @@ impl<S: AsyncRead + AsyncWrite + Send + Unpin> Stream for S {}
 pub struct Reach {
     places: Arc<[Address]>,
     turn: Arc<Mutex<Turn>>,
-    tls: Option<Arc<ClientConfig>>,
+    tls: Option<SslConnector>,
 }
 
 /// Which server is tried next: one of the places, or another that was told.
@@ -42,38 +44,14 @@ fn fault(text: String) -> io::Error {
     io::Error::new(ErrorKind::InvalidInput, text)
 }
 
-fn at(path: &Path) -> impl Fn(io::Error) -> io::Error {
-    move |error| io::Error::new(error.kind(), format!("reading {}: {error}", path.display()))
-}
-
-fn certificates(path: &Path) -> io::Result<Vec<Certificate>> {
-    let mut file = BufReader::new(File::open(path).map_err(at(path))?);
-    let found: Vec<_> = rustls_pemfile::certs(&mut file).map_err(at(path))?.into_iter().map(Certificate).collect();
-    if found.is_empty() { Err(fault(format!("{} has no certificate", path.display()))) } else { Ok(found) }
-}
-
-fn key(path: &Path) -> io::Result<PrivateKey> {
-    use rustls_pemfile::Item::{ECKey, PKCS8Key, RSAKey};
-    let mut file = BufReader::new(File::open(path).map_err(at(path))?);
-    while let Some(item) = rustls_pemfile::read_one(&mut file).map_err(at(path))? {
-        if let PKCS8Key(key) | RSAKey(key) | ECKey(key) = item {
-            return Ok(PrivateKey(key));
-        }
-    }
-    Err(fault(format!("{} has no key", path.display())))
-}
-
-fn config(certificate: Option<&PathBuf>, own_key: Option<&PathBuf>, authority: Option<&PathBuf>) -> io::Result<Arc<ClientConfig>> {
+fn config(certificate: Option<&PathBuf>, own_key: Option<&PathBuf>, authority: Option<&PathBuf>) -> io::Result<SslConnector> {
     let (Some(certificate), Some(own_key), Some(authority)) = (certificate, own_key, authority) else {
         return Err(fault("tls: wants a certificate, its key, and the server's authority".to_owned()));
     };
-    let mut authorities = RootCertStore::empty();
-    for found in certificates(authority)? {
-        authorities.add(&found).map_err(|error| fault(format!("{}: {error}", authority.display())))?;
-    }
-    let config = ClientConfig::builder().with_safe_defaults().with_root_certificates(authorities);
-    let config = config.with_single_cert(certificates(certificate)?, key(own_key)?);
-    config.map(Arc::new).map_err(|error| fault(format!("{}: {error}", certificate.display())))
+    let mut connector = SslConnector::builder(SslMethod::tls_client())?;
+    trust(&mut connector, authority)?;
+    show_by(&mut connector, certificate, own_key)?;
+    Ok(connector.build())
 }
 
 impl Reach {
@@ -117,8 +95,10 @@ impl Reach {
         match (&self.address(), &self.tls) {
             (Address::Unix(path), _) => Ok(Box::new(UnixStream::connect(path).await?)),
             (Address::Tls(place), Some(config)) => {
-                let stream = stream(place).await?;
-                Ok(Box::new(TlsConnector::from(config.clone()).connect(server_name(place)?, stream).await?))
+                let mut stream = SslStream::new(wanted(config, server_name(place)?)?, stream(place).await?)?;
+                let connected = Pin::new(&mut stream).connect().await;
+                connected.map_err(|error| why(stream.ssl(), &error))?;
+                Ok(Box::new(stream))
             }
             (Address::Tls(place) | Address::Tcp(place), _) => Ok(Box::new(stream(place).await?)),
         }
@@ -131,13 +111,22 @@ fn is_alike(told: &Address, present: &Address) -> bool {
 }
 
 // The name that the server's certificate has to have. It is that of a host, never a number; this machine's is `localhost`.
-fn server_name(place: &str) -> io::Result<ServerName> {
+fn server_name(place: &str) -> io::Result<&str> {
     let host = place.rsplit_once(':').map_or(place, |(host, _)| host).trim_matches(['[', ']']);
-    let host = if host.parse().is_ok_and(|address: IpAddr| address.is_loopback()) { "localhost" } else { host };
-    match ServerName::try_from(host) {
-        Ok(name @ ServerName::DnsName(_)) => Ok(name),
+    let address: Option<IpAddr> = host.parse().ok();
+    let is_name = !host.is_empty() && host.bytes().all(|byte| byte.is_ascii_alphanumeric() || b"-._".contains(&byte));
+    match address {
+        Some(address) if address.is_loopback() => Ok("localhost"),
+        None if is_name => Ok(host),
         _ => Err(fault(format!("tls: wants the server by the name that its certificate has, not {host}"))),
     }
+}
+
+// A handshake with the server of this name, which stands among the alternative names of its certificate.
+fn wanted(config: &SslConnector, name: &str) -> io::Result<Ssl> {
+    let mut ssl = config.configure()?.into_ssl(name)?;
+    ssl.param_mut().set_hostflags(X509CheckFlags::NO_PARTIAL_WILDCARDS | X509CheckFlags::NEVER_CHECK_SUBJECT);
+    Ok(ssl)
 }
 
 async fn stream(place: &str) -> io::Result<TcpStream> {
@@ -157,7 +146,7 @@ async fn stream(place: &str) -> io::Result<TcpStream> {
 pub fn own_principal(server: &str, certificate: Option<&Path>) -> Option<String> {
     match server.split(',').next()?.parse().ok()? {
         Address::Unix(_) => User::from_uid(getuid()).ok()?.map(|user| user.name),
-        Address::Tls(_) => common_name(&certificates(certificate?).ok()?.first()?.0),
+        Address::Tls(_) => common_name(certificates(certificate?).ok()?.first()?),
         Address::Tcp(_) => None,
     }
 }

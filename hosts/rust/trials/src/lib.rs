@@ -10,6 +10,7 @@ mod plain;
 mod proxy;
 mod relay;
 mod servers;
+mod strangers;
 mod workers;
 
 pub use disks::{Filled, fill};
@@ -25,4 +26,5 @@ pub use plain::{Plain, Talker, again, answer, new, start};
 pub use proxy::{Counts, Proxy};
 pub use relay::{Passing, Relay};
 pub use servers::{Kill, Server, Start, certificates, folder, master_program, program, server_of_its_own, with_client};
+pub use strangers::Stranger;
 pub use workers::{Deeds, FILES, Rules, Worker, check_deeds};

@@ -4,6 +4,7 @@
 use host_wire::{Answer, Blocks, TurnedAway, write_block};
 use nix::sys::resource::{Resource, getrlimit, setrlimit};
 use nix::sys::signal::Signal;
+use nix::unistd::{SysconfVar, sysconf};
 use rand::rngs::StdRng;
 use rand::{Rng, SeedableRng};
 use std::fs;
@@ -13,8 +14,8 @@ use std::process::{Command, Stdio};
 use std::sync::atomic::{AtomicBool, Ordering};
 use std::thread;
 use std::time::{Duration, Instant};
-use tillermoss::{Admin, Client, Error, Handle, Mode, Options, Refusal, own_principal};
-use trials::{Kill, Master, Plain, Server, Start, again, answer, certificates, folder, forged, messages, new, start};
+use tillermoss::{Admin, Client, Error, Handle, LockMode, Mode, Options, Refusal, own_principal};
+use trials::{Kill, Master, Plain, Server, Start, Stranger, again, answer, certificates, folder, forged, messages, new, start};
 
 const SEED: u64 = 20_061_106;
 
@@ -167,6 +168,80 @@ fn other_authority(stage: &mut Stage) -> String {
     }
     fs::remove_dir_all(other.parent().unwrap()).unwrap();
     stage.over_tls("other-ann", "ca", "ann")
+}
+
+/// What an attack cost others: the server's time on a processor, the longest write of the witness, and the first that failed.
+#[derive(Debug, Default)]
+struct Cost {
+    processor: Duration,
+    write: Duration,
+    fault: Option<Error>,
+}
+
+// The time that the server has had on a processor.
+fn processor_time(server: &Server) -> Duration {
+    let stat = fs::read_to_string(format!("/proc/{}/stat", server.process())).unwrap();
+    let (_, fields) = stat.rsplit_once(") ").unwrap();
+    let ticks: u64 = fields.split(' ').skip(11).take(2).map(|field| field.parse::<u64>().unwrap()).sum();
+    let a_second = sysconf(SysconfVar::CLK_TCK).unwrap().unwrap();
+    Duration::from_millis(ticks * 1000 / a_second.cast_unsigned())
+}
+
+// While this goes on the witness writes, fifty times a second.
+fn meanwhile<T: Send>(stage: &Stage, attack: impl FnOnce() -> T + Send) -> (T, Cost) {
+    let (before, mut cost) = (processor_time(&stage.server), Cost::default());
+    let done = thread::scope(|scope| {
+        let attack = scope.spawn(attack);
+        while !attack.is_finished() {
+            let begun = Instant::now();
+            let written = stage.witness.client.set(stage.witness.file, b"meanwhile", None);
+            cost.write = cost.write.max(begun.elapsed());
+            cost.fault = cost.fault.take().or(written.err());
+            thread::sleep(Duration::from_millis(20));
+        }
+        attack.join().unwrap()
+    });
+    cost.processor = processor_time(&stage.server).saturating_sub(before);
+    (done, cost)
+}
+
+// Of such authorities there are as many ways up as there are orders of them. Nobody is known yet who shows them.
+fn chains_of_one_name(stage: &mut Stage) -> String {
+    let holder = Client::connect(&Options::new(&stage.server.address, "bob")).unwrap();
+    let file = holder.create("/ls/c/held", b"").unwrap();
+    holder.acquire(file, LockMode::Exclusive).unwrap();
+    let place = stage.tls_place();
+    for (count, at_once) in [(11, 1), (14, 1), (14, 8)] {
+        for authority in ["An authority of nobody", "Tillermoss test authority"] {
+            let stranger = Stranger::new("ann", authority, count).unwrap();
+            let show = || {
+                thread::scope(|scope| {
+                    let shows: Vec<_> = (0..at_once).map(|_| scope.spawn(|| stranger.show(&place).unwrap())).collect();
+                    shows.into_iter().any(|show| show.join().unwrap())
+                })
+            };
+            let (is_let_in, cost) = meanwhile(stage, show);
+            println!("{at_once} chains of {count} named {authority}: {cost:?}");
+            if is_let_in || cost.fault.is_some() || cost.processor > Duration::from_millis(500) || cost.write > Duration::from_secs(5) {
+                return format!("{at_once} of {count} named {authority}: let in: {is_let_in}, {cost:?}");
+            }
+        }
+    }
+    let locks = Admin::new(stage.server.admin.as_deref().unwrap()).unwrap().locks().unwrap();
+    let is_held = locks.iter().any(|lock| lock.name == "/ls/c/held" && lock.holders == [holder.number()]);
+    holder.delete(file).unwrap();
+    if is_held { "cut off".to_owned() } else { format!("{locks:?}") }
+}
+
+// Four authorities may stand between, and 16 KiB are read.
+fn chains_that_are_too_long(stage: &mut Stage) -> String {
+    let place = stage.tls_place();
+    // (on a busy machine a greeting may take too long)
+    let is_let_in = |stranger: Stranger| (0..3).any(|_| stranger.show(&place).unwrap());
+    let below = |count| Stranger::below(&stage.certificates, "ann", count).unwrap();
+    let let_in = [below(4), below(5), Stranger::new("ann", "An authority of nobody", 60).unwrap()].map(is_let_in);
+    let reasons = ["certificate chain too long", "excessive message size"].map(|reason| stage.server.has_logged(reason));
+    if (let_in, reasons) == ([true, false, false], [true; 2]) { "cut off".to_owned() } else { format!("{let_in:?}, {reasons:?}") }
 }
 
 // (the client library sends nobody there without one)
@@ -435,6 +510,8 @@ fn attacks_are_refused_and_the_cell_stands() {
     let attacks: &[Attack] = &[
         ("a certificate of another authority", "cut off", other_authority),
         ("no certificate", "certificate required", no_certificate),
+        ("chains of certificates of one name", "cut off", chains_of_one_name),
+        ("chains of certificates that are too long", "cut off", chains_that_are_too_long),
         ("a certificate, and another's principal", "OtherPrincipal", own_certificate_of_another),
         ("a certificate whose name is no principal", "BadPrincipal", name_outside_the_grammar),
         ("a user, and another's principal", "OtherPrincipal", another_user),
@@ -461,6 +538,10 @@ fn attacks_are_refused_and_the_cell_stands() {
         ("numbers that are rolled back", "not started, and nothing is written: they are an older copy", numbers_rolled_back),
         ("a full disk", "a write waits until there is room again", full_disk),
     ];
+    // (ATTACK names some of them by what their names have in common)
+    let named = std::env::var("ATTACK").unwrap_or_default();
+    let attacks: Vec<&Attack> = attacks.iter().filter(|(what, ..)| what.contains(&named)).collect();
+    assert!(!attacks.is_empty(), "no attack is named {named}");
     let mut stage = Stage::new("attacks");
     for (what, wanted, attack) in attacks {
         let refused = attack(&mut stage);

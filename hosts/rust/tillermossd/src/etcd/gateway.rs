@@ -1,5 +1,6 @@
 //! etcd by its gateway for JSON: ranges, transactions and leases.
 
+use crate::net::tls::Connector;
 use anyhow::{Context, Error, Result, anyhow};
 use base64::{decode, encode};
 use serde_json::{Value, json};
@@ -8,7 +9,6 @@ use std::io::Read;
 use std::sync::Arc;
 use std::sync::atomic::{AtomicUsize, Ordering};
 use std::time::Duration;
-use tokio_rustls::rustls::ClientConfig;
 use ureq::{Agent, AgentBuilder};
 
 /// So long a connection may take, and an answer.
@@ -147,10 +147,10 @@ impl Deed {
 impl Gateway {
     /// That of these members, each a host and a port; by TLS where it is said how.
     #[must_use]
-    pub fn new(places: &[String], config: Option<Arc<ClientConfig>>) -> Gateway {
+    pub fn new(places: &[String], config: Option<Arc<Connector>>) -> Gateway {
         let scheme = if config.is_some() { "https" } else { "http" };
         let builder = AgentBuilder::new().timeout_connect(CONNECTING).timeout(ANSWERING);
-        let builder = config.into_iter().fold(builder, AgentBuilder::tls_config);
+        let builder = config.into_iter().fold(builder, AgentBuilder::tls_connector);
         Gateway { scheme, places: places.to_vec(), agent: builder.build(), last: AtomicUsize::new(0) }
     }
 

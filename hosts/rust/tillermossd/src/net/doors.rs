@@ -1,10 +1,12 @@
 //! Where clients come in: the sockets that the server listens at, and whom each connection shows.
 
-use crate::net::tls::server_config;
+use crate::net::tls::{Handshakes, server_config};
 use crate::options::Options;
 use anyhow::{Context, Result, bail};
-use host_wire::{Address, common_name, is_component};
+use host_wire::trust::common_name;
+use host_wire::{Address, is_component};
 use nix::unistd::{Uid, User};
+use openssl::ssl::SslContext;
 use std::fs::{self, Permissions};
 use std::io;
 use std::os::unix::fs::{FileTypeExt, PermissionsExt};
@@ -13,8 +15,7 @@ use std::path::Path;
 use std::sync::{Arc, PoisonError, RwLock};
 use tokio::io::{AsyncRead, AsyncWrite};
 use tokio::net::{TcpListener, TcpStream, UnixListener, UnixStream};
-use tokio_rustls::TlsAcceptor;
-use tokio_rustls::rustls::ServerConfig;
+use tokio_openssl::SslStream;
 
 /// A stream of bytes to a client.
 pub trait Stream: AsyncRead + AsyncWrite + Send + Unpin {}
@@ -37,12 +38,20 @@ pub enum Guest {
     Tcp(TcpStream),
 }
 
-/// What the server shows to clients, as it was last read.
-#[derive(Debug)]
-pub struct Certificates(RwLock<Arc<ServerConfig>>);
+/// What the server shows to clients, as it was last read, and who makes the handshakes with them.
+pub struct Certificates {
+    context: RwLock<SslContext>,
+    handshakes: Handshakes,
+}
+
+impl std::fmt::Debug for Certificates {
+    fn fmt(&self, out: &mut std::fmt::Formatter<'_>) -> std::fmt::Result {
+        out.write_str("Certificates")
+    }
+}
 
 impl Certificates {
-    fn read(options: &Options) -> Result<Arc<ServerConfig>> {
+    fn read(options: &Options) -> Result<SslContext> {
         let (Some(cert), Some(key), Some(client_ca)) = (&options.cert, &options.key, &options.client_ca) else {
             bail!("tls: wants --cert, --key and --client-ca");
         };
@@ -51,18 +60,20 @@ impl Certificates {
 
     /// Those of the options.
     pub fn new(options: &Options) -> Result<Certificates> {
-        Ok(Certificates(RwLock::new(Certificates::read(options)?)))
+        Ok(Certificates { context: RwLock::new(Certificates::read(options)?), handshakes: Handshakes::new()? })
     }
 
     /// Reads them again; where that fails the old ones stay.
     pub fn renew(&self, options: &Options) -> Result<()> {
         let read = Certificates::read(options)?;
-        *self.0.write().unwrap_or_else(PoisonError::into_inner) = read;
+        *self.context.write().unwrap_or_else(PoisonError::into_inner) = read;
         Ok(())
     }
 
-    fn acceptor(&self) -> TlsAcceptor {
-        self.0.read().unwrap_or_else(PoisonError::into_inner).clone().into()
+    // The handshake with who has connected.
+    async fn greet(&self, stream: TcpStream) -> Result<SslStream<TcpStream>> {
+        let context = self.context.read().unwrap_or_else(PoisonError::into_inner).clone();
+        self.handshakes.make(&context, stream).await
     }
 }
 
@@ -135,9 +146,9 @@ impl Guest {
             }
             Guest::Tls(stream, certificates) => {
                 stream.set_nodelay(true)?;
-                let stream = certificates.acceptor().accept(stream).await?;
-                let certificate = stream.get_ref().1.peer_certificates().and_then(<[_]>::first).context("no certificate")?;
-                let name = common_name(&certificate.0).unwrap_or_default();
+                let stream = certificates.greet(stream).await?;
+                let certificate = stream.ssl().peer_certificate().context("no certificate")?;
+                let name = common_name(&certificate).unwrap_or_default();
                 Ok((Box::new(stream), Shown::of(name)))
             }
             Guest::Tcp(stream) => {

@@ -1,60 +1,114 @@
-//! The certificates of the server, and those by which it knows clients.
+//! What the server shows by TLS, and whom it trusts; and handshakes, on threads of their own.
 
-use anyhow::{Context, Result, bail};
-use std::fs::File;
-use std::io::BufReader;
+use anyhow::{Context, Result};
+use host_wire::trust::{show_by, trust, why};
+use openssl::ssl::{Ssl, SslAcceptor, SslConnector, SslContext, SslMethod, SslOptions, SslSessionCacheMode, SslStream};
+use openssl::x509::X509Name;
+use std::io::{self, Read, Write};
+use std::net::{IpAddr, TcpStream as StdTcpStream};
 use std::path::Path;
+use std::pin::Pin;
 use std::sync::Arc;
-use tokio_rustls::rustls::server::AllowAnyAuthenticatedClient;
-use tokio_rustls::rustls::{Certificate, ClientConfig, PrivateKey, RootCertStore, ServerConfig};
+use tokio::net::TcpStream;
+use tokio::runtime::{Builder, Runtime};
+use tokio::task::JoinSet;
+use ureq::{ReadWrite, TlsConnector};
 
-fn certificates(path: &Path) -> Result<Vec<Certificate>> {
-    let mut file = BufReader::new(File::open(path)?);
-    let found: Vec<_> = rustls_pemfile::certs(&mut file)?.into_iter().map(Certificate).collect();
-    if found.is_empty() {
-        bail!("there is no certificate in it");
-    }
-    Ok(found)
-}
-
-fn key(path: &Path) -> Result<PrivateKey> {
-    let mut file = BufReader::new(File::open(path)?);
-    while let Some(item) = rustls_pemfile::read_one(&mut file)? {
-        if let rustls_pemfile::Item::PKCS8Key(key) | rustls_pemfile::Item::RSAKey(key) | rustls_pemfile::Item::ECKey(key) = item {
-            return Ok(PrivateKey(key));
-        }
-    }
-    bail!("there is no key in it")
-}
-
-fn authorities(path: &Path) -> Result<RootCertStore> {
-    let at = || format!("reading {}", path.display());
-    let mut authorities = RootCertStore::empty();
-    for authority in certificates(path).with_context(at)? {
-        authorities.add(&authority).with_context(at)?;
-    }
-    Ok(authorities)
-}
+/// Handshakes are made by so many threads, which do nothing else: what strangers cost there they take from each other.
+const THREADS: usize = 2;
 
 /// By what an etcd is known, and by what this server is known there, where it shows itself.
-pub fn client_config(authority: &Path, own: Option<(&Path, &Path)>) -> Result<Arc<ClientConfig>> {
-    let config = ClientConfig::builder().with_safe_defaults().with_root_certificates(authorities(authority)?);
-    let Some((cert, own_key)) = own else {
-        return Ok(Arc::new(config.with_no_client_auth()));
-    };
-    let at = |path: &Path| format!("reading {}", path.display());
-    let chain = certificates(cert).with_context(|| at(cert))?;
-    Ok(Arc::new(config.with_single_cert(chain, key(own_key).with_context(|| at(own_key))?)?))
+pub fn client_config(authority: &Path, own: Option<(&Path, &Path)>) -> Result<Arc<Connector>> {
+    let mut connector = SslConnector::builder(SslMethod::tls_client())?;
+    trust(&mut connector, authority)?;
+    own.into_iter().try_for_each(|(certificate, key)| show_by(&mut connector, certificate, key))?;
+    Ok(Arc::new(Connector(connector.build())))
 }
 
-/// How the server shows itself, and whose certificates it takes: only a client with one of these authorities gets in.
-pub fn server_config(cert: &Path, own_key: &Path, client_ca: &Path) -> Result<Arc<ServerConfig>> {
-    let at = |path: &Path| format!("reading {}", path.display());
-    let chain = certificates(cert).with_context(|| at(cert))?;
-    let own_key = key(own_key).with_context(|| at(own_key))?;
-    let config = ServerConfig::builder()
-        .with_safe_defaults()
-        .with_client_cert_verifier(AllowAnyAuthenticatedClient::new(authorities(client_ca)?))
-        .with_single_cert(chain, own_key)?;
-    Ok(Arc::new(config))
+/// How the server shows itself, and whose certificates it takes: only a client with one of these authorities gets in. No session is
+/// taken up again: each connection shows its certificate anew.
+pub fn server_config(certificate: &Path, own_key: &Path, client_ca: &Path) -> Result<SslContext> {
+    let mut acceptor = SslAcceptor::mozilla_intermediate_v5(SslMethod::tls_server())?;
+    show_by(&mut acceptor, certificate, own_key)?;
+    trust(&mut acceptor, client_ca)?;
+    let names = X509Name::load_client_ca_file(client_ca).with_context(|| format!("reading {}", client_ca.display()))?;
+    acceptor.set_client_ca_list(names);
+    acceptor.set_session_cache_mode(SslSessionCacheMode::OFF);
+    acceptor.set_options(SslOptions::NO_TICKET | SslOptions::NO_RENEGOTIATION);
+    Ok(acceptor.build().into_context())
+}
+
+/// How an etcd is reached by TLS.
+#[derive(Debug)]
+pub struct Connector(SslConnector);
+
+/// A stream to an etcd.
+#[derive(Debug)]
+struct Encrypted(SslStream<Box<dyn ReadWrite>>);
+
+impl Read for Encrypted {
+    fn read(&mut self, room: &mut [u8]) -> io::Result<usize> {
+        self.0.read(room)
+    }
+}
+
+impl Write for Encrypted {
+    fn write(&mut self, bytes: &[u8]) -> io::Result<usize> {
+        self.0.write(bytes)
+    }
+
+    fn flush(&mut self) -> io::Result<()> {
+        self.0.flush()
+    }
+}
+
+impl ReadWrite for Encrypted {
+    fn socket(&self) -> Option<&StdTcpStream> {
+        self.0.get_ref().socket()
+    }
+}
+
+impl TlsConnector for Connector {
+    fn connect(&self, host: &str, stream: Box<dyn ReadWrite>) -> Result<Box<dyn ReadWrite>, ureq::Error> {
+        let host = host.trim_matches(['[', ']']);
+        if host.is_empty() {
+            return Err(io::Error::from(io::ErrorKind::InvalidInput).into());
+        }
+        let configured = self.0.configure().map_err(io::Error::from)?;
+        let is_named = host.parse::<IpAddr>().is_err();
+        let connected = configured.use_server_name_indication(is_named).connect(host, stream);
+        Ok(Box::new(Encrypted(connected.map_err(|error| io::Error::other(error.to_string()))?)))
+    }
+}
+
+/// The threads that make handshakes.
+#[derive(Debug)]
+pub struct Handshakes(Option<Runtime>);
+
+impl Handshakes {
+    /// They have nothing to do yet.
+    pub fn new() -> io::Result<Handshakes> {
+        let threads = Builder::new_multi_thread().worker_threads(THREADS).thread_name("handshakes").build()?;
+        Ok(Handshakes(Some(threads)))
+    }
+
+    /// Makes one with who has connected. Where that isn't waited for any longer it is given up.
+    pub async fn make(&self, context: &SslContext, stream: TcpStream) -> Result<tokio_openssl::SslStream<TcpStream>> {
+        let threads = self.0.as_ref().context("no handshakes are made any more")?;
+        let mut stream = tokio_openssl::SslStream::new(Ssl::new(context)?, stream)?;
+        let mut making = JoinSet::new();
+        let made = async move {
+            let accepted = Pin::new(&mut stream).accept().await;
+            accepted.map_err(|error| why(stream.ssl(), &error)).map(|()| stream)
+        };
+        making.spawn_on(made, threads.handle());
+        Ok(making.join_next().await.context("a handshake that wasn't begun")???)
+    }
+}
+
+impl Drop for Handshakes {
+    fn drop(&mut self) {
+        // (what is in the making goes with it)
+        self.0.take().into_iter().for_each(Runtime::shutdown_background);
+    }
 }

@@ -1,0 +1,129 @@
+//! By what the two ends of a `tls:` know each other, in OpenSSL: what both do alike.
+
+use openssl::error::ErrorStack;
+use openssl::nid::Nid;
+use openssl::pkey::PKey;
+use openssl::ssl::{SslContextBuilder, SslRef, SslVerifyMode, SslVersion};
+use openssl::x509::store::X509StoreBuilder;
+use openssl::x509::verify::X509VerifyFlags;
+use openssl::x509::{X509, X509Ref, X509VerifyResult};
+use std::ffi::{c_int, c_long};
+use std::fs;
+use std::io::{self, ErrorKind};
+use std::path::Path;
+use std::ptr;
+
+/// So many authorities stand between a certificate that is shown and one that is trusted, at most.
+const DEPTH: u32 = 4;
+
+/// So many bytes have the certificates in all that the other end shows, at most: those of five with keys of 4,096 bits.
+const CHAIN: c_long = 16_384;
+
+/// What `SSL_CTX_set_max_cert_list` of OpenSSL's `ssl.h` stands for.
+const SET_MAX_CERT_LIST: c_int = 51;
+
+fn fault(text: String) -> io::Error {
+    io::Error::new(ErrorKind::InvalidInput, text)
+}
+
+fn read(path: &Path) -> io::Result<Vec<u8>> {
+    fs::read(path).map_err(|error| io::Error::new(error.kind(), format!("reading {}: {error}", path.display())))
+}
+
+/// The certificates of a file in PEM, of which there is one at least.
+///
+/// # Errors
+///
+/// Where it can't be read, or has none.
+pub fn certificates(path: &Path) -> io::Result<Vec<X509>> {
+    let found = X509::stack_from_pem(&read(path)?).map_err(|error| fault(format!("{}: {error}", path.display())))?;
+    if found.is_empty() { Err(fault(format!("{} has no certificate", path.display()))) } else { Ok(found) }
+}
+
+/// Shows itself by the first certificate of a file, with those behind it as the authorities between, and by its key.
+///
+/// # Errors
+///
+/// Where a file can't be read, or the key isn't that of the certificate.
+pub fn show_by(context: &mut SslContextBuilder, certificate: &Path, key: &Path) -> io::Result<()> {
+    let mut chain = certificates(certificate)?.into_iter();
+    // (a key that wants a word is none: nobody is there to be asked for it)
+    let own_key =
+        PKey::private_key_from_pem_callback(&read(key)?, |_| Ok(0)).map_err(|_| fault(format!("{} has no key", key.display())))?;
+    let mut show = || -> Result<(), ErrorStack> {
+        chain.next().iter().try_for_each(|own| context.set_certificate(own))?;
+        chain.try_for_each(|authority| context.add_extra_chain_cert(authority))?;
+        context.set_private_key(&own_key)?;
+        context.check_private_key()
+    };
+    show().map_err(|_| fault(format!("the key of {} isn't that of the certificate of {}", key.display(), certificate.display())))
+}
+
+/// Wants a certificate of the other end which one of these authorities signed, or one that these did; and no other is trusted.
+/// What the other end shows has its bounds.
+///
+/// # Errors
+///
+/// Where the file can't be read, or has no certificate.
+pub fn trust(context: &mut SslContextBuilder, authorities: &Path) -> io::Result<()> {
+    let mut store = X509StoreBuilder::new()?;
+    for authority in certificates(authorities)? {
+        store.add_cert(authority)?;
+    }
+    // (an authority between is trusted where it is named, whoever stands above it)
+    store.set_flags(X509VerifyFlags::PARTIAL_CHAIN)?;
+    context.set_cert_store(store.build());
+    context.set_verify(SslVerifyMode::PEER | SslVerifyMode::FAIL_IF_NO_PEER_CERT);
+    context.set_verify_depth(DEPTH);
+    limit_chain(context);
+    context.set_min_proto_version(Some(SslVersion::TLS1_2))?;
+    Ok(())
+}
+
+fn limit_chain(context: &mut SslContextBuilder) {
+    // SAFETY: the context is a live one, and this command takes a number alone.
+    unsafe { openssl_sys::SSL_CTX_ctrl(context.as_ptr(), SET_MAX_CERT_LIST, CHAIN, ptr::null_mut()) };
+}
+
+/// Why a handshake failed: by what is wrong with the certificate that was shown, where that is it.
+#[must_use]
+pub fn why(ssl: &SslRef, error: &openssl::ssl::Error) -> io::Error {
+    match (ssl.verify_result(), error.io_error()) {
+        (X509VerifyResult::OK, Some(error)) => io::Error::new(error.kind(), error.to_string()),
+        (X509VerifyResult::OK, None) => io::Error::new(ErrorKind::InvalidData, error.to_string()),
+        (result, _) => io::Error::new(ErrorKind::InvalidData, format!("the certificate isn't taken: {}", result.error_string())),
+    }
+}
+
+/// The common name of a certificate; the last one where there are several. None where there is none, or it isn't written in UTF-8.
+#[must_use]
+pub fn common_name(certificate: &X509Ref) -> Option<String> {
+    let name = certificate.subject_name().entries_by_nid(Nid::COMMONNAME).last()?;
+    // (its bytes as they are: a text of C would end at the first zero)
+    String::from_utf8(name.data().as_slice().to_vec()).ok()
+}
+
+#[cfg(test)]
+mod tests {
+    use super::*;
+    use openssl::x509::X509Name;
+
+    // A certificate that nobody signed, for these common names.
+    fn named(names: &[&str]) -> X509 {
+        let mut name = X509Name::builder().unwrap();
+        names.iter().for_each(|text| name.append_entry_by_nid(Nid::COMMONNAME, text).unwrap());
+        name.append_entry_by_nid(Nid::ORGANIZATIONNAME, "other").unwrap();
+        let mut certificate = X509::builder().unwrap();
+        certificate.set_subject_name(&name.build()).unwrap();
+        certificate.build()
+    }
+
+    #[test]
+    fn the_last_common_name_counts() {
+        let rows: &[(&[&str], Option<&str>)] =
+            &[(&[], None), (&["ann"], Some("ann")), (&["ann", "bob"], Some("bob")), (&["ann\0.example"], Some("ann\0.example"))];
+        for (names, wanted) in rows {
+            assert_eq!(common_name(&named(names)).as_deref(), *wanted, "{names:?}");
+        }
+    }
+}
