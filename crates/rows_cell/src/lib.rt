@@ -1,5 +1,8 @@
-//! What outlives a master: the rows of a cell, who keeps them, and what a cell is set to: its name, its lease, the principals
-//! of its first ACL, and its secret. Beside them, for tests, records that refuse one commit, and rows as texts.
+//! For tests: records that refuse one commit, and rows as texts.
+//!
+//! What outlives a master: the rows of a cell, and who keeps them.
+//!
+//! What a cell is set to: its name, its lease, the principals of its first ACL, and its secret.
 #![tactic(auto)]
 
 mod counts;
