@@ -161,6 +161,55 @@ class Leaving(WithServer):
             first.open("/ls/c/kept")
 
 
+class Forks(WithServer):
+    def said_by_a_child(self, deed) -> str:
+        """What this gives in a child process, which ends behind it."""
+        reading, writing = os.pipe()
+        child = os.fork()
+        if child == 0:
+            signal.alarm(10)
+            try:
+                os.write(writing, deed().encode())
+            finally:
+                os._exit(0)
+        os.close(writing)
+        with os.fdopen(reading) as said:
+            found = said.read()
+        self.assertEqual(os.waitpid(child, 0)[1], 0)
+        return found
+
+    def test_a_client_is_void_in_a_child(self):
+        client = self.client()
+        file = client.open("/ls/c/forked", "rw", make=b"old")
+        client.read(file)
+        self.assertEqual((client.read(file).content, file.served), (b"old", True))
+
+        def read_and_close() -> str:
+            try:
+                return client.read(file).content.decode()
+            except ConnectionError as why:
+                return str(why)
+            finally:
+                client.close()
+
+        with client.changed:  # (another thread may hold it at the fork)
+            said = self.said_by_a_child(read_and_close)
+        self.assertEqual(said, "the client is that of the process before the fork: connect anew")
+        client.set(file, b"new")
+        self.assertEqual(client.read(file).content, b"new")
+        kinds = [client.events.get_nowait().kind for _ in range(client.events.qsize())]
+        self.assertEqual((client.session.state, kinds), ("live", []))
+
+    def test_a_child_may_connect_anew(self):
+        self.client().open("/ls/c/before", "rw", make=b"told")
+
+        def read() -> str:
+            with Client(self.server.address, "ann") as client:
+                return client.read(client.open("/ls/c/before")).content.decode()
+
+        self.assertEqual(self.said_by_a_child(read), "told")
+
+
 class Restarts(WithServer):
     def test_a_server_waits_for_no_client_that_left(self):
         Client(self.server.address, "ann").close()

@@ -1,15 +1,17 @@
 """A client that keeps its session by a thread of its own."""
 
+import os
 import queue
 import ssl
 import threading
 import time
+import weakref
 from dataclasses import dataclass
 from typing import Optional
 
 from . import codec
 from .codec import Malformed, NodeStat, Refusal, View
-from .connection import CONNECTING, Connection, Schedule
+from .connection import CONNECTING, Connection, Schedule, is_followed
 from .session import EXPIRED, NO_SESSION, NOT_FOUND, UNKNOWN, Session, leased_until
 
 MODES = {"r": 1, "w": 2, "c": 4}
@@ -48,6 +50,19 @@ class Handle:
     served: bool = False
 
 
+# The clients of this process.
+CLIENTS: weakref.WeakSet = weakref.WeakSet()
+
+
+def void_all() -> None:
+    """In a child process no thread keeps the clients that its parent has: they are void, and the parent's go on."""
+    for client in list(CLIENTS):
+        client.void()
+
+
+os.register_at_fork(after_in_child=void_all)
+
+
 def now() -> int:
     """Milliseconds by a clock that goes on while the machine sleeps."""
     return time.clock_gettime_ns(time.CLOCK_BOOTTIME) // 1_000_000
@@ -55,24 +70,44 @@ def now() -> int:
 
 class Client:
     """A client that keeps its session by a thread of its own, and connects again where a connection is lost. Of several servers,
-    with commas between, it goes to the one that is master."""
+    with commas between, it goes to the one that is master. In a child process, behind `fork`, it is void: connect anew there."""
 
     def __init__(self, servers: str, principal: str, patience: float = 90.0, tls: Optional[ssl.SSLContext] = None):
         self.principal, self.patience, self.tls = principal, patience, tls
         self.servers, self.told = servers.split(","), ""
-        self.changed = threading.Condition()
-        self.calling = threading.Lock()
-        self.events: queue.Queue = queue.Queue()
-        self.connection: Optional[Connection] = None
-        self.fault: Optional[Exception] = None
+        # (which of them say that they don't know this client, since one took it)
+        self.denying: set = set()
+        self.set_apart()
         connection = self.greet_one(codec.hello(principal))
         self.session = Session(self.number, principal)
         self.schedule = Schedule()
-        self.keeper = threading.Thread(target=self.keep, args=(connection,), name="tillermoss", daemon=True)
+        CLIENTS.add(self)
+        self.keeper = threading.Thread(target=self.run, args=(connection,), name="tillermoss", daemon=True)
         self.keeper.start()
         with self.changed:
             self.changed.wait_for(lambda: self.session.state != "unstarted" or self.fault, patience)
             self.check()
+
+    def set_apart(self) -> None:
+        """What threads share."""
+        self.changed = threading.Condition()
+        self.calling = threading.Lock()
+        self.events: queue.Queue = queue.Queue()
+        self.connection: Optional[Connection] = None
+        self.reached: Optional[Connection] = None
+        self.fault: Optional[Exception] = None
+
+    def void(self) -> None:
+        """It is another process' client: here nothing is served, asked or sent, and its connection stays as it is."""
+        reached = self.reached
+        # (a thread that isn't here any more may have held the locks)
+        self.set_apart()
+        self.fault = ConnectionError("the client is that of the process before the fork: connect anew")
+        if reached:
+            reached.close()
+        self.session.cache.clear()
+        self.session.enabled = False
+        self.session.end((Refusal(EXPIRED), None))
 
     def __enter__(self) -> "Client":
         return self
@@ -90,6 +125,7 @@ class Client:
                     time.sleep(PAUSE)
             finally:
                 self.calling.release()
+        CLIENTS.discard(self)
         with self.changed:
             self.fault = self.fault or ConnectionError("the client is closed")
             if self.connection:
@@ -112,6 +148,17 @@ class Client:
 
     # ---- the keeper's thread
 
+    def run(self, connection: Connection) -> None:
+        """Keeps the session. Whatever ends that, who waits for an answer hears of it."""
+        try:
+            self.keep(connection)
+        except BaseException as why:
+            fault = ConnectionError(f"the client's thread has ended: {why!r}")
+            fault.__cause__ = why
+            self.give_up(fault, fault)
+        finally:
+            self.reached.close()
+
     def greet_one(self, greeting: bytes) -> Connection:
         """Greets until a server takes the client, where there are several."""
         ends = time.monotonic() + self.patience
@@ -126,9 +173,9 @@ class Client:
     def greet(self, greeting: bytes) -> Connection:
         server, self.told = self.told or self.servers[0], ""
         try:
-            connection = Connection(server, self.tls)
+            self.reached = connection = Connection(server, self.tls)
             try:
-                self.number, self.token = self.welcomed(connection, greeting)
+                self.number, self.token = self.welcomed(connection, greeting, server)
             except BaseException:
                 connection.close()
                 raise
@@ -138,16 +185,28 @@ class Client:
             raise
         return connection
 
-    def welcomed(self, connection: Connection, greeting: bytes) -> tuple:
+    def welcomed(self, connection: Connection, greeting: bytes, server: str) -> tuple:
         connection.send(greeting)
         block = connection.next(CONNECTING)
         if block is None:
             raise ConnectionError("the server doesn't greet")
-        number, other, self.told = codec.read_welcome(block)
+        number, other, told = codec.read_welcome(block)
         if number is not None:
+            self.denying.clear()
             return number, other
+        if told in self.servers or is_followed(told, server):
+            self.told = told
         reason = codec.TURNED_AWAY[other] if other < len(codec.TURNED_AWAY) else f"reason {other}"
+        if other == codec.WRONG_TOKEN or (other == codec.NOT_MASTER and self.is_denying(told)):
+            self.denying.add(server)
+            others = [one for one in self.servers if one not in self.denying]
+            raise ConnectionError(reason) if others else TurnedAway(codec.TURNED_AWAY[codec.WRONG_TOKEN])
         raise ConnectionError(reason) if other in codec.TURNED_AWAY_FOR_NOW else TurnedAway(reason)
+
+    def is_denying(self, server: str) -> bool:
+        """Whether the server said that it doesn't know this client. One that was replaced says so of what its successor gave, so one of
+        several ends no session before the others said the same, or that it is master."""
+        return any(server.removeprefix("tcp:") == one.removeprefix("tcp:") for one in self.denying)
 
     def keep(self, connection: Optional[Connection]) -> None:
         pause = PAUSES[0]
@@ -217,10 +276,10 @@ class Client:
             self.events.put(event)
         self.changed.notify_all()
 
-    def give_up(self, why: Exception) -> None:
+    def give_up(self, why: Exception, ends: object = Refusal(EXPIRED)) -> None:
         with self.changed:
             self.fault = why
-            self.session.end((Refusal(EXPIRED), None))
+            self.session.end((ends, None))
             self.changed.notify_all()
 
     # ---- calls
@@ -240,7 +299,11 @@ class Client:
             raise Refused(Refusal(number))
 
     def call(self, body: bytes, only_reads: bool = False, handle: Optional[Handle] = None, name: Optional[str] = None, sequencer: Optional[bytes] = None) -> object:
-        """Makes a call, again while it is refused for now; one that only reads also where its outcome got lost."""
+        """Makes a call, again while it is refused for now; one that only reads also where its outcome got lost. Gives its result."""
+        return self.call_numbered(body, only_reads, handle, name, sequencer)[0]
+
+    def call_numbered(self, body: bytes, only_reads: bool, handle: Optional[Handle], name: Optional[str], sequencer: Optional[bytes]) -> tuple:
+        """The same, with the number of the call."""
         ends = time.monotonic() + self.patience
         for_now = {BUSY, RECOVERING, IN_JEOPARDY} | ({UNKNOWN} if only_reads else set())
         while True:
@@ -251,7 +314,8 @@ class Client:
                     raise
                 time.sleep(PAUSE)
 
-    def call_once(self, body: bytes, handle: Optional[Handle], name: Optional[str], sequencer: Optional[bytes]) -> object:
+    def call_once(self, body: bytes, handle: Optional[Handle], name: Optional[str], sequencer: Optional[bytes]) -> tuple:
+        """The result, and the number of the call."""
         with self.calling, self.changed:
             self.tell(self.session.note(now()))
             self.check()
@@ -262,8 +326,9 @@ class Client:
             result, limit = waiting.ends
             if isinstance(result, Refusal):
                 raise Refused(result, limit)
-            self.opened = waiting.number
-            return result
+            if isinstance(result, Exception):
+                raise result
+            return result, waiting.number
 
     def open(self, name: str, mode: str = "r", make: Optional[bytes] = None, directory: bool = False, must: bool = False,
              ephemeral: bool = False, acls: Optional[tuple] = None, events: str = "", delay: int = 0) -> Handle:
@@ -289,8 +354,9 @@ class Client:
                 is_served, view = self.session.cached(now(), name)
             if is_served and view is None:
                 raise Refused(Refusal(NOT_FOUND))
-        with_number = self.call(codec.opening(name, mode, made, delay, events), name=name if made is None else None)
-        return Handle(name, with_number.handle, with_number.instance, self.opened, bool(mode & 1))
+        body = codec.opening(name, mode, made, delay, events)
+        opened, number = self.call_numbered(body, False, None, name if made is None else None, None)
+        return Handle(name, opened.handle, opened.instance, number, bool(mode & 1))
 
     def read(self, handle: Handle) -> View:
         """Reads a node, out of the cache where that holds it under a lease that runs."""

@@ -28,7 +28,7 @@ TURNED_AWAY = (
     "too many clients of this principal",
     "the server isn't master",
 )
-NOT_MASTER = 7
+WRONG_TOKEN, NOT_MASTER = 2, 7
 # What of these may be otherwise a little later.
 TURNED_AWAY_FOR_NOW = (3, 4, 6, NOT_MASTER)
 EVENTS = "failover contents child-added child-removed child-modified invalid locked conflict lost".split()

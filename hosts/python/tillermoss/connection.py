@@ -1,5 +1,6 @@
 """How a server is reached, and when a client beats."""
 
+import math
 import select
 import socket
 import ssl
@@ -14,6 +15,18 @@ WRITING = 10.0
 ANSWER_PAUSES = 200, 10_000
 PACE = 20
 KEPT_LONG = 20_000
+
+
+def kind_of(server: str) -> str:
+    """How a server is reached: by `unix`, `tls` or `tcp`."""
+    kind = server.partition(":")[0]
+    return kind if kind in ("unix", "tls") else "tcp"
+
+
+def is_followed(told: str, present: str) -> bool:
+    """Whether a client that trusts the present server goes where that one sends it: to another that is reached in the same way. One that
+    knows its servers by TLS would give itself away over TCP."""
+    return kind_of(told) == kind_of(present) != "unix"
 
 
 class Schedule:
@@ -50,13 +63,13 @@ class Connection:
     """Blocks over a stream, each behind its length in four bytes."""
 
     def __init__(self, server: str, tls: Optional[ssl.SSLContext]):
-        kind, _, place = server.partition(":")
+        kind, place = kind_of(server), server.removeprefix("unix:").removeprefix("tls:").removeprefix("tcp:")
         if kind == "unix":
             self.stream = socket.socket(socket.AF_UNIX)
             self.stream.settimeout(WRITING)
             self.stream.connect(place)
         else:
-            host, _, port = (place if kind in ("tcp", "tls") else server).rpartition(":")
+            host, _, port = place.rpartition(":")
             host = host.strip("[]") or "127.0.0.1"
             self.stream = socket.create_connection((host, int(port)), CONNECTING)
             self.stream.settimeout(WRITING)
@@ -64,6 +77,9 @@ class Connection:
             if kind == "tls":
                 self.stream = tls.wrap_socket(self.stream, server_hostname="localhost" if host in ("127.0.0.1", "::1") else host)
         self.held, self.using = bytearray(), threading.Lock()
+        # (it takes descriptors above 1,023 too, which `select` doesn't)
+        self.watched = select.poll()
+        self.watched.register(self.stream, select.POLLIN)
 
     def send(self, block: bytes) -> None:
         with self.using:
@@ -86,7 +102,7 @@ class Connection:
 
     def has_more(self, patience: float) -> bool:
         is_held = isinstance(self.stream, ssl.SSLSocket) and self.stream.pending() > 0
-        return is_held or bool(select.select([self.stream], [], [], patience)[0])
+        return is_held or bool(self.watched.poll(math.ceil(patience * 1000)))
 
     def end(self) -> None:
         """Nothing more is sent; who waits for a block hears that the stream has ended."""
