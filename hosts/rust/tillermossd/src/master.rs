@@ -1,6 +1,7 @@
 //! The master, which is a child of the server: what it is told and tells, the store that it keeps, and the numbers that it gives.
 
 pub(crate) mod child;
+pub(crate) mod clock;
 pub(crate) mod lines;
 pub(crate) mod locks;
 pub(crate) mod numbers;

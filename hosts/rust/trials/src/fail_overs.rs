@@ -39,8 +39,8 @@ pub(crate) struct Guest {
 }
 
 impl Guest {
-    fn new(address: &str, number: usize) -> Result<Guest, Error> {
-        let client = Client::connect(&Options::new(address, "ann"))?;
+    fn new(options: &Options, number: usize) -> Result<Guest, Error> {
+        let client = Client::connect(options)?;
         let file = Create { must: true, content: Some(Vec::new()), ..Create::default() };
         let (name, mode) = (format!("/ls/c/f{number}"), Mode::READ.and(Mode::WRITE));
         let opening = Opening { create: Some(file), events: Events::CONTENTS, ..Opening::new(&name, mode) };
@@ -59,7 +59,7 @@ impl Guest {
 }
 
 // A write, again where another master came up before the answer.
-fn write(client: &Client, file: Handle) -> Result<(), Error> {
+pub(crate) fn write(client: &Client, file: Handle) -> Result<(), Error> {
     loop {
         match client.set(file, b"written", None) {
             Err(Error::Refused(Refusal::Unknown)) => {}
@@ -69,8 +69,12 @@ fn write(client: &Client, file: Handle) -> Result<(), Error> {
 }
 
 pub(crate) fn come(address: &str, clients: usize) -> Result<Vec<Guest>, Error> {
+    come_by(&Options::new(address, "ann"), clients)
+}
+
+pub(crate) fn come_by(options: &Options, clients: usize) -> Result<Vec<Guest>, Error> {
     thread::scope(|scope| {
-        let coming: Vec<_> = (0..clients).map(|number| scope.spawn(move || Guest::new(address, number))).collect();
+        let coming: Vec<_> = (0..clients).map(|number| scope.spawn(move || Guest::new(options, number))).collect();
         coming.into_iter().map(|guest| guest.join().unwrap_or(Err(Error::Closed))).collect()
     })
 }

@@ -4,6 +4,7 @@ use nix::sys::signal::{Signal, kill};
 use nix::unistd::Pid;
 use std::fs::{self, File};
 use std::io::{self, BufRead, BufReader, Read, Seek, SeekFrom, Write};
+use std::net::{SocketAddr, TcpListener};
 use std::path::{Path, PathBuf};
 use std::process::{Child, Command, ExitStatus, Stdio};
 use std::thread;
@@ -18,6 +19,9 @@ pub enum Kill {
     /// By SIGKILL.
     Server,
 }
+
+/// So long a server may take to say what is waited for, where it says it into a file.
+const SAYING: Duration = Duration::from_secs(60);
 
 /// A server that runs.
 #[derive(Debug)]
@@ -38,8 +42,19 @@ pub struct Server {
 pub struct Start {
     words: Vec<String>,
     store: PathBuf,
+    rows: Option<String>,
     log: PathBuf,
     megabytes: Option<u32>,
+}
+
+/// An address of loopback that nobody has now.
+///
+/// # Panics
+///
+/// Where there is none.
+#[must_use]
+pub fn free() -> SocketAddr {
+    TcpListener::bind("127.0.0.1:0").and_then(|listener| listener.local_addr()).expect("a port is free")
 }
 
 /// A program of this workspace: cargo builds it, since its package has a test of it.
@@ -94,7 +109,7 @@ impl Start {
     /// Over this store, at a free port of loopback.
     #[must_use]
     pub fn new(store: &Path) -> Start {
-        Start { words: Vec::new(), store: store.to_owned(), log: store.with_added_extension("log"), megabytes: None }
+        Start { words: Vec::new(), store: store.to_owned(), rows: None, log: store.with_added_extension("log"), megabytes: None }
     }
 
     /// With these words more. Where an address is among them it listens there alone.
@@ -107,8 +122,22 @@ impl Start {
     /// At a free port by TLS, with certificates of this folder.
     #[must_use]
     pub fn tls(self, certificates: &Path) -> Start {
+        self.tls_at("tls:0", certificates)
+    }
+
+    /// The same at this address.
+    #[must_use]
+    pub fn tls_at(self, address: &str, certificates: &Path) -> Start {
         let file = |name: &str| certificates.join(name).display().to_string();
-        self.with(&["tls:0", "--cert", &file("server.pem"), "--key", &file("server.key"), "--client-ca", &file("ca.pem")])
+        self.with(&[address, "--cert", &file("server.pem"), "--key", &file("server.key"), "--client-ca", &file("ca.pem")])
+    }
+
+    /// Over these rows in etcd, in place of the store, beside whose path its log stands and what it prints. Its addresses have to be among
+    /// its words, by their ports.
+    #[must_use]
+    pub fn rows(mut self, rows: &str) -> Start {
+        self.rows = Some(rows.to_owned());
+        self
     }
 
     /// With settings of this text.
@@ -154,15 +183,54 @@ impl Start {
         if self.addresses() == 0 {
             command.arg("0");
         }
-        command.args(&self.words).arg("--store").arg(&self.store).arg("--master").arg(master_program());
+        command.args(&self.words).arg("--master").arg(master_program());
+        match &self.rows {
+            Some(rows) => command.arg("--rows").arg(rows),
+            None => command.arg("--store").arg(&self.store),
+        };
         command
     }
 
-    // How many addresses are among the words.
-    fn addresses(&self) -> usize {
+    // The addresses among the words.
+    fn listens(&self) -> Vec<String> {
         let is_address = |word: &String| ["tcp:", "tls:", "unix:"].iter().any(|kind| word.starts_with(kind));
-        let is_admin = |at: usize| at > 0 && self.words[at - 1] == "--admin";
-        self.words.iter().enumerate().filter(|(at, word)| is_address(word) && !is_admin(*at)).count()
+        let is_other = |at: usize| at > 0 && ["--admin", "--advertise"].contains(&self.words[at - 1].as_str());
+        let found = self.words.iter().enumerate().filter(|(at, word)| is_address(word) && !is_other(*at));
+        found.map(|(_, word)| word.clone()).collect()
+    }
+
+    fn addresses(&self) -> usize {
+        self.listens().len()
+    }
+
+    /// Starts one over rows in etcd, and waits until it stands by.
+    ///
+    /// # Errors
+    ///
+    /// Where it can't be started, or ends first.
+    pub fn stand_by(&self) -> io::Result<Server> {
+        self.start_until("standing by")
+    }
+
+    // Starts it, and waits until it has printed this; into a file, since it may print more later.
+    fn start_until(&self, wanted: &str) -> io::Result<Server> {
+        let log = File::options().create(true).append(true).open(&self.log)?;
+        let told = self.log.with_extension("out");
+        let mut child = self.command().stdout(File::create(&told)?).stderr(log).spawn()?;
+        let begun = Instant::now();
+        while !fs::read_to_string(&told)?.contains(wanted) {
+            if child.try_wait()?.is_some() || begun.elapsed() > SAYING {
+                // (one that has ended is killed already)
+                let _ = child.kill();
+                child.wait()?;
+                return Err(io::Error::other(format!("the server didn't come up: {}", fs::read_to_string(&self.log)?)));
+            }
+            thread::sleep(Duration::from_millis(20));
+        }
+        let addresses = self.listens();
+        let address = addresses.first().cloned().ok_or_else(|| io::Error::other("no address is among the words"))?;
+        let admin = self.words.iter().position(|word| word == "--admin").and_then(|at| self.words.get(at + 1).cloned());
+        Ok(Server { child, address, addresses, admin, log: self.log.clone(), disk: None })
     }
 
     /// Starts it, and waits until it listens.
@@ -171,6 +239,9 @@ impl Start {
     ///
     /// Where it can't be started, or ends first: then what it logged is told.
     pub fn start(&self) -> io::Result<Server> {
+        if self.rows.is_some() {
+            return self.start_until("listening ");
+        }
         let log = File::options().create(true).append(true).open(&self.log)?;
         let begun = log.metadata()?.len();
         let mut child = self.command().stdout(Stdio::piped()).stderr(log).spawn()?;
@@ -292,6 +363,15 @@ impl Server {
         self.child.wait()
     }
 
+    /// How it ended, where it has.
+    ///
+    /// # Errors
+    ///
+    /// Where that can't be said.
+    pub fn has_ended(&mut self) -> io::Result<Option<ExitStatus>> {
+        self.child.try_wait()
+    }
+
     /// Kills it; how it ended.
     ///
     /// # Errors
@@ -312,6 +392,15 @@ impl Server {
     /// Where it has none.
     pub fn kill_master(&self) -> io::Result<()> {
         send(self.master()?, Signal::SIGKILL)
+    }
+
+    /// Sends its master a signal.
+    ///
+    /// # Errors
+    ///
+    /// Where it has none.
+    pub fn signal_master(&self, signal: Signal) -> io::Result<()> {
+        send(self.master()?, signal)
     }
 
     /// Sends it a signal.
@@ -344,6 +433,8 @@ fn send(process: u32, signal: Signal) -> io::Result<()> {
 
 impl Drop for Server {
     fn drop(&mut self) {
+        // (a master that is stopped would outlive it)
+        let _ = self.signal_master(Signal::SIGCONT);
         // (one that has ended is killed already)
         let _ = self.child.kill();
         let _ = self.child.wait();

@@ -2,6 +2,7 @@
 
 use crate::etcd::Rows;
 use crate::etcd::pipes::Kept;
+use crate::master::clock::{Clock, Probe};
 use crate::master::lines::Message;
 use crate::master::pulse::Pulse;
 use crate::master::starts::Starts;
@@ -107,8 +108,8 @@ struct Input {
     is_over: bool,
 }
 
-/// A master that is up. Its moments are milliseconds since it was started; they stand still while the machine sleeps, so that no
-/// session ends because nobody could be heard of.
+/// A master that is up. Its moments are milliseconds since it was started; they stand still while the machine sleeps and while the server
+/// reads nothing, so that no session ends because nobody could be heard of.
 #[derive(Debug)]
 pub struct Master {
     hall: Arc<Hall>,
@@ -120,7 +121,9 @@ pub struct Master {
     starts: Starts,
     identity: Option<Identity>,
     rows: Option<(Rows, Kept)>,
-    begun: Instant,
+    clock: Clock,
+    probe: Probe,
+    has_sent: bool,
     pulse: Pulse,
     sent: VecDeque<Sent>,
     bytes_sent: usize,
@@ -173,7 +176,9 @@ impl Making {
             starts: Starts::default(),
             identity,
             rows,
-            begun,
+            clock: Clock::new(begun),
+            probe: Probe::new()?,
+            has_sent: false,
             pulse: Pulse::new(0, next),
             sent: VecDeque::new(),
             bytes_sent: 0,
@@ -339,6 +344,10 @@ impl Master {
             let rest = self.rest();
             tokio::select! {
                 biased;
+                back = self.probe.is_back() => {
+                    back?;
+                    self.note_reading();
+                }
                 () = self.input.write() => {}
                 came = self.blocks.fill_of(&mut self.output) => {
                     came?.then_some(()).context("it ended")?;
@@ -351,7 +360,7 @@ impl Master {
                 () = self.hall.lines.filled(), if self.has_room() => {}
                 () = sleep(LOOKING), if self.rows.is_some() => {}
                 () = sleep(rest.unwrap_or(PATIENCE)), if rest.is_some() => {
-                    if self.sent.front().is_some_and(|sent| sent.at.elapsed() >= PATIENCE) {
+                    if !self.sent.is_empty() && self.rest().is_some_and(|rest| rest.is_zero()) {
                         bail!("it doesn't answer");
                     }
                 }
@@ -375,21 +384,32 @@ impl Master {
         self.has_room() && (self.sent.is_empty() || (self.hall.lines.has_some() && !is_alone()))
     }
 
-    fn now(&self) -> u64 {
-        self.begun.elapsed().as_millis() as u64
+    fn now(&mut self) -> u64 {
+        self.clock.tell(Instant::now())
     }
 
-    // How long there is nothing to do, where nobody comes.
-    fn rest(&self) -> Option<Duration> {
+    // What had come was read. It is handed on where the master took something since the last time, or would take it.
+    fn note_reading(&mut self) {
+        let is_handed_on = self.has_sent || self.has_room();
+        self.clock.read(Instant::now(), is_handed_on);
+        self.has_sent = false;
+    }
+
+    // How long there is nothing to do, where nobody comes. (A master isn't waited for while this server was stopped.)
+    fn rest(&mut self) -> Option<Duration> {
         match self.sent.front() {
-            Some(sent) => Some(PATIENCE.saturating_sub(sent.at.elapsed())),
-            None => self.pulse.rest(self.now()),
+            Some(sent) => Some(PATIENCE.saturating_sub(self.clock.attended(sent.at, Instant::now()))),
+            None => {
+                let now = self.now();
+                self.pulse.rest(now)
+            }
         }
     }
 
     // Sends what there is to send, as far as there is room; why nothing more may be sent.
     fn fill(&mut self) -> Result<Option<String>> {
-        let is_due = self.sent.is_empty() && self.pulse.rest(self.now()).is_some_and(|rest| rest.is_zero());
+        let now = self.now();
+        let is_due = self.sent.is_empty() && self.pulse.rest(now).is_some_and(|rest| rest.is_zero());
         if !self.has_room() || !(is_due || self.hall.lines.has_some()) {
             return Ok(None);
         }
@@ -431,6 +451,7 @@ impl Master {
         let bytes = self.input.put(frame)?;
         self.bytes_sent += bytes;
         self.pulse.send(moment);
+        self.has_sent = true;
         self.hall.metrics.sent(message.is_some());
         let client = message.map(|Message { client, principal, place, .. }| {
             drop(place);
@@ -540,27 +561,32 @@ impl Master {
         }
     }
 
-    // It goes in order: its store is closed.
+    // It goes in order; or it is killed, where it doesn't.
     async fn stop(&mut self) -> Result<Ending> {
+        match self.go().await {
+            Ok(status) => return Ok(Ending::Asked(status)),
+            Err(error) => error!(reason = %format_args!("{error:#}"), "the master doesn't go"),
+        }
+        // (one that is gone can't be killed)
+        let _ = self.child.start_kill();
+        Ok(Ending::Asked(self.child.wait().await?))
+    }
+
+    // It is told to go, and closes its store.
+    async fn go(&mut self) -> Result<ExitStatus> {
         self.input.put(Frame::Down)?;
         self.input.is_over = true;
         loop {
             tokio::select! {
                 () = self.input.write() => {}
                 came = timeout(PATIENCE, self.blocks.fill_of(&mut self.output)) => {
-                    if !came.context("it doesn't go")?? {
+                    if !came.context("it doesn't answer")?? {
                         break;
                     }
                     self.hear_all()?;
                 }
             }
         }
-        match timeout(PATIENCE, self.child.wait()).await {
-            Ok(status) => Ok(Ending::Asked(status?)),
-            Err(_) => {
-                error!("the master doesn't go");
-                bail!("it doesn't go")
-            }
-        }
+        Ok(timeout(PATIENCE, self.child.wait()).await.context("it tells nothing more, and doesn't end")??)
     }
 }
