@@ -40,14 +40,20 @@ pub struct Connection {
 }
 
 /// Connects to the server that is tried now, and greets it. Where it can't be reached or turns the client away, another is tried next:
-/// the master, where it is told.
+/// the master, where it is told. That a number was given to another client counts once all servers have said so.
 pub async fn greet(reach: &Reach, hello: &Hello) -> Result<Connection, Error> {
     let mut master = None;
     let greeted = timeout(CONNECTING, async { welcomed(reach.connect().await?, hello, &mut master).await });
-    let greeted = greeted.await.unwrap_or_else(|_| Err(io::Error::from(ErrorKind::TimedOut).into()));
-    if greeted.is_err() {
-        reach.turn(master.as_deref());
+    let mut greeted = greeted.await.unwrap_or_else(|_| Err(io::Error::from(ErrorKind::TimedOut).into()));
+    match &mut greeted {
+        Ok(_) => {
+            reach.is_welcomed();
+            return greeted;
+        }
+        Err(Error::TurnedAway(reason)) => *reason = reach.judge(*reason, master.as_deref()),
+        Err(_) => {}
     }
+    reach.turn(master.as_deref());
     greeted
 }
 

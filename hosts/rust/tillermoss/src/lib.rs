@@ -24,6 +24,7 @@ mod calls;
 mod client;
 mod clock;
 mod core;
+mod denials;
 mod errors;
 mod events;
 mod keeper;

@@ -1,7 +1,8 @@
 //! How a server is reached: the stream to it, and whom the client shows there.
 
-use host_wire::Address;
+use crate::denials::Denials;
 use host_wire::trust::{certificates, common_name, show_by, trust, why};
+use host_wire::{Address, TurnedAway};
 use nix::unistd::{User, getuid};
 use openssl::ssl::{Ssl, SslConnector, SslMethod};
 use openssl::x509::verify::X509CheckFlags;
@@ -32,6 +33,7 @@ pub struct Reach {
 struct Turn {
     at: usize,
     told: Option<Address>,
+    denials: Denials,
 }
 
 impl std::fmt::Debug for Reach {
@@ -84,10 +86,21 @@ impl Reach {
         let told = told.and_then(|told| told.parse().ok()).filter(|told| is_alike(told, &present) || self.places.contains(told));
         let mut turn = self.lock();
         match told.as_ref().and_then(|told| self.places.iter().position(|place| place == told)) {
-            Some(at) => *turn = Turn { at, told: None },
+            Some(at) => (turn.at, turn.told) = (at, None),
             None if told.is_some() => turn.told = told,
-            None => *turn = Turn { at: (turn.at + 1) % self.places.len(), told: None },
+            None => (turn.at, turn.told) = ((turn.at + 1) % self.places.len(), None),
         }
+    }
+
+    /// The server that is tried now took the client.
+    pub fn is_welcomed(&self) {
+        self.lock().denials.forget();
+    }
+
+    /// It turned the client away, and told where the master is; for which reason the client is turned away by what all have said.
+    pub fn judge(&self, reason: TurnedAway, master: Option<&str>) -> TurnedAway {
+        let (present, master) = (self.address(), master.and_then(|told| told.parse().ok()));
+        self.lock().denials.judge(&present, reason, master.as_ref(), &self.places)
     }
 
     /// A stream to the server that is tried now.

@@ -1,6 +1,6 @@
 //! The server, from its start to its end.
 
-use crate::admin::pages::{Admin, Desk};
+use crate::admin::pages::{Admin, Asked, Counter, Desk};
 use crate::admin::showing::Showing;
 use crate::etcd::mastership::{Mastership, Seat};
 use crate::etcd::standby::{self, Known};
@@ -25,13 +25,14 @@ use std::io::{self, Write};
 use std::os::unix::fs::PermissionsExt;
 use std::os::unix::process::CommandExt;
 use std::path::{Path, PathBuf};
+use std::pin::pin;
 use std::process::Command;
 use std::sync::{Arc, PoisonError};
 use std::time::{Duration, Instant};
 use tokio::runtime::Runtime;
 use tokio::signal::unix::{Signal, SignalKind, signal};
 use tokio::sync::mpsc;
-use tokio::time::interval;
+use tokio::time::{interval, timeout};
 use tracing::{error, info, warn};
 
 /// So many masters are started in so long at most: more of them don't help.
@@ -76,7 +77,7 @@ pub fn serve(options: Options) -> Result<()> {
     store::forget_copies(&path)?;
     let found = look(&options, &path)?;
     let runtime = begin()?;
-    let served = runtime.block_on(run(Arc::new(options), path, None, found));
+    let served = runtime.block_on(async { run(Arc::new(options), path, None, found, &mut Signals::take()?, None).await });
     // (what still goes on goes with the process)
     runtime.shutdown_background();
     served
@@ -94,11 +95,17 @@ fn serve_rows(place: Place, options: Options) -> Result<()> {
     let options = Arc::new(options);
     let gateway = place.gateway(&options.trust)?;
     let seat = Seat { address: standby::address(&options), server: hex::encode(rand::random::<[u8; 8]>()) };
-    let mastership = runtime.block_on(wait_for_mastership(&options, &gateway, &place.prefix(), seat))?;
+    let waited = runtime.block_on(wait_for_mastership(&options, &gateway, &place.prefix(), seat))?;
+    let Some(Standing { mastership, mut signals, counter }) = waited else {
+        // (who waits for the mastership may wait on: it ends with the process)
+        runtime.shutdown_background();
+        return Ok(());
+    };
     let rows = Rows { gateway, prefix: place.prefix(), mastership: mastership.clone() };
-    let served = look_beside(&options, &rows).and_then(|found| runtime.block_on(run(options, PathBuf::new(), Some(rows), found)));
+    let served = look_beside(&options, &rows)
+        .and_then(|found| runtime.block_on(run(options, PathBuf::new(), Some(rows), found, &mut signals, counter)));
     runtime.shutdown_background();
-    if served.is_ok() || mastership.holds() {
+    if served.is_ok() || signals.going.is_told || mastership.holds() {
         // (where etcd isn't reached the mastership ends by itself)
         let _ = mastership.end();
         return served;
@@ -107,12 +114,26 @@ fn serve_rows(place: Place, options: Options) -> Result<()> {
     Err(Command::new(std::env::current_exe()?).args(std::env::args_os().skip(1)).exec().into())
 }
 
-async fn wait_for_mastership(options: &Options, gateway: &Arc<Gateway>, prefix: &str, seat: Seat) -> Result<Arc<Mastership>> {
+// What a server has that stood by, and is master now.
+struct Standing {
+    mastership: Arc<Mastership>,
+    signals: Signals,
+    counter: Option<(Counter, Address)>,
+}
+
+// None where it is told to go first.
+async fn wait_for_mastership(options: &Options, gateway: &Arc<Gateway>, prefix: &str, seat: Seat) -> Result<Option<Standing>> {
+    let mut signals = Signals::take()?;
     let is_tls = options.listen.iter().any(|address| matches!(address, Address::Tls(_)));
     let certificates = if is_tls { Some(Arc::new(Certificates::new(options)?)) } else { None };
     let known: Known = Arc::default();
     let mut tasks = standby::stand_by(options, certificates.as_ref(), &known).await?;
+    let counter = open_counter(options.admin.as_ref()).await?;
+    if let Some((counter, _)) = &counter {
+        counter.turn(Asked::StandsBy(known.clone()));
+    }
     println!("standing by");
+    tell(&[], counter.as_ref().map(|(_, address)| address))?;
     let (gateway, prefix, span) = (gateway.clone(), prefix.to_owned(), options.mastership);
     let mut waiting = tokio::task::spawn_blocking(move || {
         Mastership::wait(&gateway, &prefix, &seat, span, |other| *known.lock().unwrap_or_else(PoisonError::into_inner) = other)
@@ -123,12 +144,26 @@ async fn wait_for_mastership(options: &Options, gateway: &Arc<Gateway>, prefix: 
     let mastership = loop {
         tokio::select! {
             taken = &mut waiting => break taken?,
+            () = signals.going.wait() => return Ok(None),
+            // (the settings are read when it is master)
+            _ = signals.hangup.recv() => renew_certificates(options, certificates.as_deref()),
             _ = beats.tick() => drop(sd_notify::notify(false, &[NotifyState::Watchdog])),
         }
     };
     // (the addresses are free behind it)
     tasks.shutdown().await;
-    Ok(mastership)
+    Ok(Some(Standing { mastership, signals, counter }))
+}
+
+// Where operators come, if that was asked for.
+async fn open_counter(address: Option<&Address>) -> Result<Option<(Counter, Address)>> {
+    let Some(address) = address else {
+        return Ok(None);
+    };
+    let (desk, address) = Desk::open(address).await?;
+    let counter = Counter::default();
+    tokio::spawn(desk.serve(counter.clone()));
+    Ok(Some((counter, address)))
 }
 
 // What the rows in etcd are, and what stands beside them.
@@ -237,49 +272,70 @@ async fn open(options: &Options) -> Result<(Vec<(Door, Address)>, Option<Arc<Cer
     Ok((doors, certificates))
 }
 
-async fn run(options: Arc<Options>, path: PathBuf, rows: Option<Rows>, found: Found) -> Result<()> {
+async fn run(
+    options: Arc<Options>,
+    path: PathBuf,
+    rows: Option<Rows>,
+    found: Found,
+    signals: &mut Signals,
+    counter: Option<(Counter, Address)>,
+) -> Result<()> {
     for warning in &found.warnings {
         warn!("{warning}");
     }
     let (doors, certificates) = open(&options).await?;
-    let desk = match &options.admin {
-        Some(address) => Some(Desk::open(address).await?),
-        None => None,
+    let counter = match counter {
+        None => open_counter(options.admin.as_ref()).await?,
+        opened => opened,
     };
-    let hall = Arc::new(Hall::new(found.numbers, &found.settings.limits)?);
+    let mastership = rows.as_ref().map(|rows| rows.mastership.clone());
+    let hall = Arc::new(Hall::new(found.numbers, &found.settings.limits, mastership)?);
     let making = Making { program: options.master.clone().unwrap_or_else(cellctl), store: path, rows, settings: found.settings };
     let (orders, ordered) = mpsc::channel(4);
-    let master = up(&making, &hall, false, Some(found.picture)).await?;
-    if making.rows.is_none() && hall.picture().nodes.is_empty() {
-        // (a store that the master has made; it writes nothing before it gets a frame)
-        let folder = store::copy(&making.store)?;
-        hall.picture().read(&store::open(&store::copied(&folder))?)?;
-    }
+    let Some(master) = first(&making, &hall, found.picture, &mut signals.going).await? else {
+        return Ok(());
+    };
     let ended = tokio::spawn(keep(master, making, hall.clone(), ordered));
-
-    // (from here on a signal lets the master go in order)
-    let signals = Signals::take()?;
     let mut listening = Vec::new();
     for (door, address) in doors {
         listening.push(address.to_string());
         tokio::spawn(take_all(door, hall.clone()));
     }
     let showing = Arc::new(Showing { hall: hall.clone(), listening, warnings: found.warnings, begun: Instant::now() });
-    tell(&showing.listening, desk.as_ref().map(|(_, address)| address))?;
-    if let Some((desk, address)) = desk {
-        let admin = Admin { showing, orders: orders.clone(), is_private: matches!(address, Address::Unix(_)) };
-        tokio::spawn(desk.serve(Arc::new(admin)));
+    tell(&showing.listening, counter.as_ref().map(|(_, address)| address))?;
+    if let Some((counter, address)) = counter {
+        counter.turn(Asked::Master(Admin { showing, orders: orders.clone(), is_private: matches!(address, Address::Unix(_)) }));
     }
     // (where no service manager waits for it nothing is told)
     let _ = sd_notify::notify(false, &[NotifyState::Ready]);
     wait(&options, &hall, certificates.as_deref(), &orders, ended, signals).await
 }
 
+// The first master. None where the server is told to go meanwhile: one that comes up has served nobody, and is killed.
+async fn first(making: &Making, hall: &Arc<Hall>, reading: Reading, going: &mut Going) -> Result<Option<Master>> {
+    let mut beats = interval(WATCHDOG);
+    let mut coming = pin!(up(making, hall, false, Some(reading)));
+    let master = loop {
+        tokio::select! {
+            biased;
+            () = going.wait() => return Ok(None),
+            _ = beats.tick() => drop(sd_notify::notify(false, &[NotifyState::Watchdog])),
+            master = &mut coming => break master?,
+        }
+    };
+    if making.rows.is_none() && hall.picture().nodes.is_empty() {
+        // (a store that the master has made; it writes nothing before it gets a frame)
+        let folder = store::copy(&making.store)?;
+        hall.picture().read(&store::open(&store::copied(&folder))?)?;
+    }
+    Ok(Some(master))
+}
+
 // Starts a master, and notes its epoch. What the first one finds is read while it comes up.
 async fn up(making: &Making, hall: &Arc<Hall>, is_alone: bool, reading: Option<Reading>) -> Result<Master> {
     let master = making.start(hall, is_alone, reading).await?;
     let epoch = hall.picture().epoch;
-    hall.numbers.lock().unwrap_or_else(PoisonError::into_inner).note(Epochs { last: epoch, coming: epoch + 1 })?;
+    hall.numbers.lock().unwrap_or_else(PoisonError::into_inner).note_up(epoch)?;
     info!(process = master.process(), epoch, "serving");
     Ok(master)
 }
@@ -323,22 +379,29 @@ async fn up_again(making: &Making, hall: &Arc<Hall>, is_alone: bool, orders: &mu
         if making.rows.as_ref().is_some_and(|rows| !rows.mastership.holds()) {
             bail!("the mastership has ended");
         }
-        match up(making, hall, is_alone, None).await {
+        let noted = hall.numbers.lock().unwrap_or_else(PoisonError::into_inner).note_start();
+        let starting = async { noted.map(|()| up(making, hall, is_alone, None))?.await };
+        let started = tokio::select! {
+            started = starting => started,
+            () = is_ordered_down(orders) => return Ok(None),
+        };
+        match started {
             // (over a store that has just refused a change the master itself may find no room to open it)
             Err(error) if is_alone || error.is::<StoreRefused>() => {
                 error!(reason = %format_args!("{error:#}"), "no master comes up; it is tried again")
             }
             started => return started.map(Some),
         }
-        let until = tokio::time::Instant::now() + pause;
-        pause = (2 * pause).min(AGAIN.1);
-        while let Ok(order) = tokio::time::timeout_at(until, orders.recv()).await {
-            // (a copy waits for a master: who asked for one learns that there is none)
-            if matches!(order, Some(Order::Down) | None) {
-                return Ok(None);
-            }
+        if timeout(pause, is_ordered_down(orders)).await.is_ok() {
+            return Ok(None);
         }
+        pause = (2 * pause).min(AGAIN.1);
     }
+}
+
+// Waits until the master is told to go. (A copy waits for a master: who asked for one learns that there is none.)
+async fn is_ordered_down(orders: &mut mpsc::Receiver<Order>) {
+    while !matches!(orders.recv().await, Some(Order::Down) | None) {}
 }
 
 fn tell(listening: &[String], admin: Option<&Address>) -> io::Result<()> {
@@ -352,17 +415,37 @@ fn tell(listening: &[String], admin: Option<&Address>) -> io::Result<()> {
     out.flush()
 }
 
-// The signals that a server heeds.
+// The signals that a server heeds, from its start to its end.
 struct Signals {
+    going: Going,
+    hangup: Signal,
+}
+
+// Those by which it is told to go, and whether it was.
+struct Going {
     terminate: Signal,
     interrupt: Signal,
-    hangup: Signal,
+    is_told: bool,
 }
 
 impl Signals {
     fn take() -> io::Result<Signals> {
         let [terminate, interrupt, hangup] = [SignalKind::terminate(), SignalKind::interrupt(), SignalKind::hangup()].map(signal);
-        Ok(Signals { terminate: terminate?, interrupt: interrupt?, hangup: hangup? })
+        Ok(Signals { going: Going { terminate: terminate?, interrupt: interrupt?, is_told: false }, hangup: hangup? })
+    }
+}
+
+impl Going {
+    // Waits until it is told to go.
+    async fn wait(&mut self) {
+        tokio::select! {
+            _ = self.terminate.recv() => {}
+            _ = self.interrupt.recv() => {}
+        }
+        self.is_told = true;
+        info!("going");
+        // (where no service manager waits for it nothing is told)
+        let _ = sd_notify::notify(false, &[NotifyState::Stopping]);
     }
 }
 
@@ -373,14 +456,14 @@ async fn wait(
     certificates: Option<&Certificates>,
     orders: &mpsc::Sender<Order>,
     mut ended: tokio::task::JoinHandle<Result<()>>,
-    mut signals: Signals,
+    signals: &mut Signals,
 ) -> Result<()> {
     let mut beats = interval(WATCHDOG);
     loop {
         tokio::select! {
             end = &mut ended => return end.context("the master's task is gone")?,
-            _ = signals.terminate.recv() => go(orders).await,
-            _ = signals.interrupt.recv() => go(orders).await,
+            // (where the master's task is gone the server ends already)
+            () = signals.going.wait() => drop(orders.send(Order::Down).await),
             _ = signals.hangup.recv() => renew(options, hall, certificates),
             _ = beats.tick() => {
                 // (where no service manager waits for it nothing is told)
@@ -388,13 +471,6 @@ async fn wait(
             }
         }
     }
-}
-
-async fn go(orders: &mpsc::Sender<Order>) {
-    info!("going");
-    let _ = sd_notify::notify(false, &[NotifyState::Stopping]);
-    // (where the master's task is gone the server ends already)
-    let _ = orders.send(Order::Down).await;
 }
 
 // Reads limits and certificates again; where that fails what there was stays.
@@ -406,10 +482,13 @@ fn renew(options: &Options, hall: &Hall, certificates: Option<&Certificates>) {
         }
         Err(error) => error!(reason = %format_args!("{error:#}"), "the settings stay as they were"),
     }
-    if let Some(certificates) = certificates {
-        match certificates.renew(options) {
-            Ok(()) => info!("the certificates were read again"),
-            Err(error) => error!(reason = %format_args!("{error:#}"), "the certificates stay as they were"),
-        }
+    renew_certificates(options, certificates);
+}
+
+fn renew_certificates(options: &Options, certificates: Option<&Certificates>) {
+    match certificates.map(|certificates| certificates.renew(options)) {
+        None => {}
+        Some(Ok(())) => info!("the certificates were read again"),
+        Some(Err(error)) => error!(reason = %format_args!("{error:#}"), "the certificates stay as they were"),
     }
 }

@@ -120,3 +120,34 @@ fn a_store_is_served_by_one_server() {
     assert!(Server::start(store).is_ok());
     std::fs::remove_dir_all(folder).unwrap();
 }
+
+// Those that stood beside the store when the server before this one served: numbers that were given since would be given again.
+#[test]
+fn numbers_of_the_start_before_are_refused() {
+    let (mut server, folder) = server("rolled-back");
+    let (store, numbers) = (folder.join("store.db"), folder.join("store.db-numbers"));
+    for (first, next) in [(Kill::InOrder, Kill::InOrder), (Kill::Server, Kill::InOrder), (Kill::InOrder, Kill::Server)] {
+        let served = std::fs::read(&numbers).unwrap();
+        server.kill(first).unwrap();
+        let left = std::fs::read(&numbers).unwrap();
+        server = Server::start(&store).unwrap();
+        greeted(&server, &new("ann")).1.unwrap();
+        server.kill(next).unwrap();
+        let present = std::fs::read(&numbers).unwrap();
+        for old in [served, left] {
+            std::fs::write(&numbers, &old).unwrap();
+            let error = Server::start(&store).map_or_else(|error| error.to_string(), |_| "started".to_owned());
+            assert!(error.contains("they are an older copy"), "{first:?} {next:?}: {error}");
+            assert_eq!(std::fs::read(&numbers).unwrap(), old);
+        }
+        std::fs::write(&numbers, present).unwrap();
+        server = Server::start(&store).unwrap();
+    }
+    // (a master that the server has replaced leaves its numbers right)
+    server.kill_master().unwrap();
+    assert!(server.has_logged("another takes its place"));
+    greeted(&server, &new("ann")).1.unwrap();
+    server.kill(Kill::Server).unwrap();
+    assert!(Server::start(&store).is_ok());
+    std::fs::remove_dir_all(folder).unwrap();
+}

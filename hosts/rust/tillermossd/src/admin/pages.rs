@@ -1,6 +1,7 @@
 //! What operators look at and ask for, over HTTP: at a socket in a file, or at loopback.
 
 use crate::admin::showing::Showing;
+use crate::etcd::standby::Known;
 use crate::master::child::Order;
 use crate::master::store;
 use crate::net::doors::listen_unix;
@@ -12,7 +13,7 @@ use hyper::service::service_fn;
 use hyper::{Body, Method, Request, Response, StatusCode};
 use std::convert::Infallible;
 use std::io;
-use std::sync::Arc;
+use std::sync::{Arc, PoisonError, RwLock};
 use std::time::Duration;
 use tokio::io::{AsyncRead, AsyncReadExt, AsyncWrite};
 use tokio::net::{TcpListener, UnixListener};
@@ -43,6 +44,33 @@ pub struct Admin {
     pub is_private: bool,
 }
 
+/// Of what kind of server something is asked.
+#[derive(Debug, Default)]
+pub enum Asked {
+    /// One whose master comes up.
+    #[default]
+    ComesUp,
+    /// One that stands by, and knows who is master, or doesn't.
+    StandsBy(Known),
+    /// One that is master.
+    Master(Admin),
+}
+
+/// Where operators ask. What kind of server that is changes when it becomes master.
+#[derive(Clone, Debug, Default)]
+pub struct Counter(Arc<RwLock<Arc<Asked>>>);
+
+impl Counter {
+    /// From here on it is asked of one of this kind.
+    pub fn turn(&self, asked: Asked) {
+        *self.0.write().unwrap_or_else(PoisonError::into_inner) = Arc::new(asked);
+    }
+
+    fn asked(&self) -> Arc<Asked> {
+        self.0.read().unwrap_or_else(PoisonError::into_inner).clone()
+    }
+}
+
 /// A socket for operators.
 #[derive(Debug)]
 pub enum Desk {
@@ -65,7 +93,7 @@ impl Desk {
     }
 
     /// Answers those who come, until the server goes.
-    pub async fn serve(self, admin: Arc<Admin>) {
+    pub async fn serve(self, counter: Counter) {
         let places = Arc::new(Semaphore::new(MOST));
         loop {
             let place = places.clone().acquire_owned().await;
@@ -77,9 +105,9 @@ impl Desk {
                 sleep(Duration::from_millis(20)).await;
                 continue;
             };
-            let asked = admin.clone();
+            let counter = counter.clone();
             tokio::spawn(async move {
-                let service = service_fn(move |request| answer(asked.clone(), request));
+                let service = service_fn(move |request| answer(counter.asked(), request));
                 // (whatever ends a connection of an operator, another may be made)
                 let _ = timeout(PATIENCE, Http::new().http1_only(true).serve_connection(stream, service)).await;
                 drop(place);
@@ -99,20 +127,35 @@ fn is_own_host(request: &Request<Body>) -> bool {
     host.is_none_or(|host| format!("tcp:{host}").parse::<Address>().is_ok_and(|address| address.is_local()) || host == "localhost")
 }
 
-async fn answer(admin: Arc<Admin>, request: Request<Body>) -> Result<Response<Body>, Infallible> {
+async fn answer(asked: Arc<Asked>, request: Request<Body>) -> Result<Response<Body>, Infallible> {
     if !is_own_host(&request) {
         return Ok(said(StatusCode::FORBIDDEN, "text/plain", "only under a name of this machine\n"));
     }
+    Ok(match &*asked {
+        _ if (request.method(), request.uri().path()) == (&Method::GET, "/healthz") => said(StatusCode::OK, "text/plain", "ok\n"),
+        Asked::ComesUp => said(StatusCode::SERVICE_UNAVAILABLE, "text/plain", "the master comes up\n"),
+        Asked::StandsBy(known) => said(StatusCode::SERVICE_UNAVAILABLE, "text/plain", stands_by(known)),
+        Asked::Master(admin) => shown(admin, &request).await,
+    })
+}
+
+fn stands_by(known: &Known) -> String {
+    match known.lock().unwrap_or_else(PoisonError::into_inner).as_ref() {
+        Some(seat) => format!("this server stands by; the master is {}\n", seat.address),
+        None => "this server stands by; no master is known\n".to_owned(),
+    }
+}
+
+async fn shown(admin: &Admin, request: &Request<Body>) -> Response<Body> {
     let showing = &admin.showing;
     let json = |shown: serde_json::Result<String>| match shown {
         Ok(text) => said(StatusCode::OK, "application/json", text),
         Err(error) => said(StatusCode::INTERNAL_SERVER_ERROR, "text/plain", error.to_string()),
     };
-    Ok(match (request.method(), request.uri().path()) {
+    match (request.method(), request.uri().path()) {
         (&Method::GET, "/") => said(StatusCode::OK, "text/html; charset=utf-8", PAGE),
         (&Method::GET, "/page.css") => said(StatusCode::OK, "text/css", STYLE),
         (&Method::GET, "/page.js") => said(StatusCode::OK, "text/javascript", SCRIPT),
-        (&Method::GET, "/healthz") => said(StatusCode::OK, "text/plain", "ok\n"),
         (&Method::GET, "/readyz") => ready(showing),
         (&Method::GET, "/metrics") => match showing.hall.metrics.text(&showing.levels()) {
             Ok(text) => said(StatusCode::OK, "text/plain; version=0.0.4", text),
@@ -122,10 +165,10 @@ async fn answer(admin: Arc<Admin>, request: Request<Body>) -> Result<Response<Bo
         (&Method::GET, "/status") => json(serde_json::to_string(&showing.status())),
         (&Method::GET, "/sessions") => json(serde_json::to_string(&showing.sessions(usize::MAX))),
         (&Method::GET, "/locks") => json(serde_json::to_string(&showing.locks())),
-        (&Method::POST, "/backup") => backup(&admin).await,
+        (&Method::POST, "/backup") => backup(admin).await,
         (_, "/backup") => said(StatusCode::METHOD_NOT_ALLOWED, "text/plain", "only by POST\n"),
         _ => said(StatusCode::NOT_FOUND, "text/plain", "there is no such page\n"),
-    })
+    }
 }
 
 fn said(status: StatusCode, kind: &'static str, body: impl Into<Body>) -> Response<Body> {

@@ -155,6 +155,18 @@ impl Numbers {
         self.write(0, epochs).map(drop)
     }
 
+    /// Notes that another master is started, before it is: it takes the epoch after those that others may have taken.
+    pub fn note_start(&mut self) -> Result<()> {
+        let Epochs { last, coming } = self.epochs.unwrap_or(Epochs { last: 0, coming: 0 });
+        self.note(Epochs { last, coming: coming + 1 })
+    }
+
+    /// Notes the epoch of a master that is up, which no other follows before its start is noted. So a store goes with no numbers that
+    /// were written before its own start.
+    pub fn note_up(&mut self, epoch: u64) -> Result<()> {
+        self.note(Epochs { last: epoch, coming: epoch })
+    }
+
     // Takes so many numbers more, or as many as there are, and notes the epochs.
     fn write(&mut self, more: u64, epochs: Epochs) -> Result<Taken> {
         let taken = match self.beside.take() {
@@ -326,6 +338,22 @@ mod tests {
         numbers.note(epochs).unwrap();
         assert_eq!(numbers.allot().unwrap(), 1);
         assert_eq!(Numbers::open(&path, true, None).unwrap().epochs(), Some(epochs));
+    }
+
+    #[test]
+    fn each_start_is_noted() {
+        let (_folder, path) = folder();
+        let mut numbers = Numbers::open(&path, false, None).unwrap();
+        let noted = |numbers: &Numbers| numbers.epochs().map(|epochs| (epochs.last, epochs.coming));
+        numbers.note(Epochs { last: 6, coming: 7 }).unwrap();
+        numbers.note_up(7).unwrap();
+        assert_eq!(noted(&numbers), Some((7, 7)));
+        // (one that took its epoch, and told nobody)
+        numbers.note_start().unwrap();
+        numbers.note_start().unwrap();
+        assert_eq!(noted(&numbers), Some((7, 9)));
+        numbers.note_up(9).unwrap();
+        assert_eq!(noted(&Numbers::open(&path, true, None).unwrap()), Some((9, 9)));
     }
 
     #[test]

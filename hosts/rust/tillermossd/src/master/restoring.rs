@@ -38,7 +38,7 @@ pub fn restore(copy: &Path, path: &Path) -> Result<()> {
     connection.execute_batch(&format!("BEGIN;{script}COMMIT;"))?;
     store::settle(connection)?;
     File::open(&copied)?.sync_all()?;
-    numbers.note(Epochs { last: coming, coming: coming + 1 })?;
+    numbers.note(Epochs { last: coming, coming })?;
     fs::rename(&copied, path)?;
     File::open(path.parent().filter(|folder| !folder.as_os_str().is_empty()).unwrap_or(Path::new(".")))?.sync_all()?;
     Ok(())
@@ -51,6 +51,6 @@ fn numbers(path: &Path, last: u64, coming: u64) -> Result<(Numbers, u64)> {
         return Ok((Numbers::from(&beside, last + CLIENTS), coming + GAP));
     }
     let numbers = Numbers::open(&beside, true, None)?;
-    let noted = numbers.epochs().map_or(0, |epochs| epochs.coming);
+    let noted = numbers.epochs().map_or(0, |epochs| epochs.coming + 1);
     Ok((numbers, noted.max(coming)))
 }

@@ -1,6 +1,7 @@
 //! The connections of clients. Each is bound to one client's number and principal, and carries that client's messages alone.
 
 use crate::admin::metrics::Metrics;
+use crate::etcd::mastership::Mastership;
 use crate::master::lines::{Lines, Message};
 use crate::master::numbers::Numbers;
 use crate::master::picture::Picture;
@@ -55,6 +56,8 @@ pub struct Hall {
     pub lobby: Lobby,
     /// Who has, by principal.
     pub crowd: Mutex<Crowd>,
+    /// The mastership of this server, where others stand by.
+    pub mastership: Option<Arc<Mastership>>,
 }
 
 /// The connections that are bound.
@@ -130,7 +133,7 @@ pub async fn take_all(door: Door, hall: Arc<Hall>) {
 
 impl Hall {
     /// The hall of a server that begins. It knows of no node and no session yet.
-    pub fn new(numbers: Numbers, limits: &Limits) -> Result<Hall> {
+    pub fn new(numbers: Numbers, limits: &Limits, mastership: Option<Arc<Mastership>>) -> Result<Hall> {
         Ok(Hall {
             numbers: Mutex::new(numbers),
             routes: Routes::default(),
@@ -141,7 +144,13 @@ impl Hall {
             metrics: Metrics::new()?,
             lobby: Lobby::default(),
             crowd: Mutex::default(),
+            mastership,
         })
+    }
+
+    // Whether another server may be master already. (A mastership that has ended may have been renewed before, and go on.)
+    fn is_replaced(&self) -> bool {
+        self.mastership.as_ref().is_some_and(|mastership| !mastership.holds())
     }
 
     /// What the cell looks like, for one at a time.
@@ -203,13 +212,17 @@ impl Hall {
         let Some(first) = blocks.next_of(&mut stream).await? else {
             return Ok(None);
         };
-        let reason = match self.bind(&first, &shown) {
+        let bound = if self.is_replaced() { Err(TurnedAway::NotMaster) } else { self.bind(&first, &shown) };
+        let reason = match bound {
             Ok(bound) => return Ok(Some((stream, blocks, bound))),
+            // (a number that it doesn't know its successor may have given)
+            Err(_) if self.is_replaced() => TurnedAway::NotMaster,
             Err(reason) => reason,
         };
         self.metrics.turned_away(&format!("{reason:?}"));
         info!(reason = %reason, ?shown, "a client was turned away");
-        stream.write_all(&framed(&Welcome::write(&Err(reason)))?).await?;
+        let answer = if reason == TurnedAway::NotMaster { Welcome::not_master("") } else { Welcome::write(&Err(reason)) };
+        stream.write_all(&framed(&answer)?).await?;
         stream.shutdown().await?;
         Ok(None)
     }

@@ -27,6 +27,12 @@ const MEMBER_AWAY: Duration = Duration::from_secs(10);
 const STOPPED: Duration = Duration::from_secs(30);
 const CUT_OFF: Duration = Duration::from_secs(15);
 
+/// So long two members are stopped at once: for longer than a mastership lasts.
+const MEMBERS_STOPPED: Duration = Duration::from_secs(10);
+
+/// So long a server may take to go beside a master that is stuck.
+const GOING: Duration = Duration::from_secs(25);
+
 /// So long there may be no master.
 const WITHOUT: Duration = Duration::from_secs(60);
 
@@ -41,6 +47,12 @@ pub enum Trouble {
     Cut,
     /// A member of the etcd is killed, and comes back.
     Member,
+    /// It is stopped until another server has taken over, and goes on at once.
+    Wake,
+    /// Two members of the etcd are stopped, and go on.
+    Members,
+    /// It is told to go while its master is stopped, and comes back.
+    Stuck,
     /// It is cut off for longer than any session lasts that no master hears of, while its clients only read and another writes.
     Quiet,
 }
@@ -54,8 +66,11 @@ impl FromStr for Trouble {
             "stop" => Ok(Trouble::Stop),
             "cut" => Ok(Trouble::Cut),
             "member" => Ok(Trouble::Member),
+            "wake" => Ok(Trouble::Wake),
+            "members" => Ok(Trouble::Members),
+            "stuck" => Ok(Trouble::Stuck),
             "quiet" => Ok(Trouble::Quiet),
-            _ => Err(format!("{word}: kill, stop, cut, member or quiet")),
+            _ => Err(format!("{word}: kill, stop, cut, member, wake, members, stuck or quiet")),
         }
     }
 }
@@ -105,6 +120,13 @@ fn run(program: &Path, words: &[&str]) -> Tried<String> {
 fn tell(process: u32, signal: Signal) {
     // (one that is gone needs none)
     let _ = kill(Pid::from_raw(process.cast_signed()), signal);
+}
+
+// Stops processes for so long.
+fn stop_for(processes: &[u32], lasting: Duration) {
+    processes.iter().for_each(|it| tell(*it, Signal::SIGSTOP));
+    thread::sleep(lasting);
+    processes.iter().for_each(|it| tell(*it, Signal::SIGCONT));
 }
 
 // The processes that this one has started.
@@ -229,16 +251,19 @@ impl Cell {
             Trouble::Stop => {
                 // (each second time the server alone: what its master answers meanwhile it finds when it goes on)
                 let masters = if round.is_multiple_of(2) { Vec::new() } else { children(process) };
-                let all: Vec<u32> = [process].into_iter().chain(masters).collect();
-                all.iter().for_each(|it| tell(*it, Signal::SIGSTOP));
-                thread::sleep(STOPPED);
-                all.iter().for_each(|it| tell(*it, Signal::SIGCONT));
+                stop_for(&[process].into_iter().chain(masters).collect::<Vec<u32>>(), STOPPED);
             }
             Trouble::Cut => {
                 self.cut(at, if round.is_multiple_of(2) { Passing::Nothing } else { Passing::Questions });
                 thread::sleep(CUT_OFF);
                 self.cut(at, Passing::All);
             }
+            Trouble::Wake => self.stop_until_replaced(at, round)?,
+            Trouble::Members => {
+                let stopped = (0..MACHINES - 1).map(|other| self.members[(round + other) % MACHINES].0.id());
+                stop_for(&stopped.collect::<Vec<u32>>(), MEMBERS_STOPPED);
+            }
+            Trouble::Stuck => self.go_beside_a_stuck_master(at)?,
             Trouble::Quiet => return Err("that is made elsewhere".into()),
             Trouble::Member => {
                 let (child, words) = &mut self.members[round % MACHINES];
@@ -248,6 +273,41 @@ impl Cell {
                 *child = start_member(words)?;
             }
         }
+        Ok(())
+    }
+
+    // (each second time with its master)
+    fn stop_until_replaced(&self, at: usize, round: usize) -> Tried<()> {
+        let process = self.servers[at].child.id();
+        let masters = if round.is_multiple_of(2) { Vec::new() } else { children(process) };
+        let all: Vec<u32> = [process].into_iter().chain(masters).collect();
+        all.iter().for_each(|it| tell(*it, Signal::SIGSTOP));
+        let begun = Instant::now();
+        let replaced = loop {
+            match self.master() {
+                Ok(other) if other == at && begun.elapsed() < WITHOUT => thread::sleep(Duration::from_millis(100)),
+                Ok(other) if other == at => break Err("nobody took over from a server that is stopped".into()),
+                other => break other.map(drop),
+            }
+        };
+        all.iter().for_each(|it| tell(*it, Signal::SIGCONT));
+        replaced
+    }
+
+    fn go_beside_a_stuck_master(&mut self, at: usize) -> Tried<()> {
+        let server = &mut self.servers[at];
+        let process = server.child.id();
+        children(process).into_iter().for_each(|master| tell(master, Signal::SIGSTOP));
+        tell(process, Signal::SIGTERM);
+        let begun = Instant::now();
+        while server.child.try_wait()?.is_none() {
+            if begun.elapsed() > GOING {
+                return Err("a server didn't go that was told to, beside a master that is stuck".into());
+            }
+            thread::sleep(Duration::from_millis(100));
+        }
+        thread::sleep(SERVER_AWAY);
+        server.child = start_server(&server.words, &server.log)?;
         Ok(())
     }
 

@@ -38,7 +38,7 @@ struct Words {
 fn words() -> Tried<Words> {
     let words: Vec<String> = std::env::args().skip(1).collect();
     let rounds = words.first().map_or(Ok(10), |word| word.parse())?;
-    let kinds = words.get(1).map_or("kill,stop,cut,member,quiet", String::as_str);
+    let kinds = words.get(1).map_or("kill,stop,cut,member,wake,members,stuck,quiet", String::as_str);
     let troubles = kinds.split(',').map(str::parse).collect::<Result<_, _>>()?;
     let calm = words.get(2).map_or(Ok(8), |word| word.parse())?;
     Ok(Words { rounds, troubles, calm: Duration::from_secs(calm) })
@@ -69,6 +69,7 @@ fn run(words: &Words) -> Tried<()> {
         let deeds: Tried<Vec<Deeds>> = working.into_iter().map(|worker| Ok(worker.join().map_err(|_| "a client panicked")??)).collect();
         Ok::<_, Box<dyn Error + Send + Sync>>((deeds?, troubled?))
     })?;
+    let lost = lost(words, &deeds);
     deeds.extend(others);
     let last = finish(&cell, begun)?;
     let etcd = cell.etcd.clone();
@@ -81,8 +82,19 @@ fn run(words: &Words) -> Tried<()> {
     all.push(last);
     check_deeds(&all)?;
     check_commits(&commits)?;
+    if lost > 0 {
+        return Err(format!("{lost} sessions were lost").into());
+    }
     let acted: usize = all.iter().map(|deeds| deeds.reads.len()).sum();
     if acted < 1000 { Err("too little was read".into()) } else { Ok(()) }
+}
+
+// How many sessions were lost that had no reason to be. (A client that knows one server alone loses its own where that one is cut off
+// from etcd for longer than a session lasts: it can't be told of another.)
+fn lost(words: &Words, deeds: &[Deeds]) -> usize {
+    let is_quiet = words.troubles.contains(&Trouble::Quiet);
+    let counted = if is_quiet { deeds.len() - 2 } else { deeds.len() };
+    deeds[..counted].iter().map(|deeds| deeds.lost).sum()
 }
 
 // The last two know one server alone, and stay with that one while it is master.

@@ -1,0 +1,104 @@
+//! A server that was replaced while it was stopped, and one that doesn't know a client: neither ends a session of its successor.
+
+use host_wire::{Blocks, GREETING_LIMIT, TurnedAway, Welcome, write_block};
+use nix::sys::signal::Signal;
+use std::net::{SocketAddr, TcpListener};
+use std::path::Path;
+use std::thread;
+use std::time::{Duration, Instant};
+use tillermoss::{Client, Error, Options, Refusal};
+use trials::{Kill, Member, Plain, Server, Start, again, folder, free, new};
+
+/// So many clients come to a server as it goes on.
+const CLIENTS: usize = 8;
+
+fn server(folder: &Path, name: &str, rows: &str) -> Start {
+    Start::new(&folder.join(name)).with(&[&format!("tcp:{}", free())]).rows(rows)
+}
+
+// Two servers of one cell: the first was stopped until the second became master, which gave this client its number.
+fn replaced(folder: &Path, member: &Member) -> (Server, Server, Welcome) {
+    member.make("c").unwrap();
+    let first = server(folder, "first", &member.rows("c")).start().unwrap();
+    let second = server(folder, "second", &member.rows("c")).stand_by().unwrap();
+    first.signal(Signal::SIGSTOP).unwrap();
+    let begun = Instant::now();
+    loop {
+        match Plain::greet(second.place(), &new("ann")).unwrap().1 {
+            Ok(welcome) => return (first, second, welcome),
+            Err(reason) => assert!(begun.elapsed() < Duration::from_secs(60), "{reason:?}: {}", second.logged()),
+        }
+        thread::sleep(Duration::from_millis(200));
+    }
+}
+
+#[test]
+fn a_replaced_server_denies_nobody() {
+    let folder = folder("replaced");
+    let member = Member::start(&folder).unwrap();
+    let (first, second, welcome) = replaced(&folder, &member);
+    let hellos = [again("ann", welcome), new("ann")];
+    let told: Vec<_> = thread::scope(|scope| {
+        let greet = |number: usize| {
+            let (place, hello) = (first.place(), &hellos[number % 2]);
+            // (one that is cut off is told nothing)
+            scope.spawn(move || Plain::greet(place, hello).map_or(Err(TurnedAway::NotMaster), |(_, told)| told))
+        };
+        let greeting: Vec<_> = (0..CLIENTS).map(greet).collect();
+        thread::sleep(Duration::from_millis(500));
+        first.signal(Signal::SIGCONT).unwrap();
+        greeting.into_iter().map(|told| told.join().unwrap()).collect()
+    });
+    println!("replaced: what a server that was replaced says to clients of its successor: {told:?}");
+    assert_eq!(told, [Err(TurnedAway::NotMaster); CLIENTS]);
+    assert_eq!(Plain::greet(second.place(), &hellos[0]).unwrap().1, Ok(welcome));
+    drop((first, second, member));
+    std::fs::remove_dir_all(folder).unwrap();
+}
+
+// A server that tells whoever comes that it doesn't know him.
+fn denier() -> SocketAddr {
+    let listener = TcpListener::bind("127.0.0.1:0").unwrap();
+    let address = listener.local_addr().unwrap();
+    thread::spawn(move || {
+        for mut stream in listener.incoming().flatten() {
+            // (who goes before that is told nothing)
+            if Blocks::new(GREETING_LIMIT).next(&mut stream).is_ok_and(|hello| hello.is_some()) {
+                let _ = write_block(&mut stream, &Welcome::write(&Err(TurnedAway::WrongToken)));
+            }
+        }
+    });
+    address
+}
+
+fn set(client: &Client, file: tillermoss::Handle, content: &[u8]) -> Result<(), Error> {
+    loop {
+        match client.set(file, content, None) {
+            Err(Error::Refused(Refusal::Unknown)) => {}
+            done => return done,
+        }
+    }
+}
+
+#[test]
+fn one_of_several_servers_ends_no_session() {
+    let folder = folder("denied");
+    let start = Start::new(&folder.join("store.db"));
+    let mut server = start.start().unwrap();
+    let address = server.address.clone();
+    let client = Client::connect(&Options::new(&format!("{address},tcp:{}", denier()), "ann")).unwrap();
+    let file = client.create("/ls/c/f", b"").unwrap();
+    server.kill(Kill::Server).unwrap();
+    // (it goes to the other one now, again and again)
+    thread::sleep(Duration::from_secs(2));
+    let mut server = start.clone().with(&[&address]).start().unwrap();
+    set(&client, file, b"known").unwrap();
+    assert_eq!(client.read(file).unwrap().content, b"known");
+    // (a new cell, whose server doesn't know the client either)
+    server.kill(Kill::Server).unwrap();
+    let _other = Start::new(&folder.join("other.db")).with(&[&address]).start().unwrap();
+    let told = set(&client, file, b"lost");
+    assert!(matches!(told, Err(Error::TurnedAway(TurnedAway::WrongToken))), "{told:?}");
+    drop(client);
+    std::fs::remove_dir_all(folder).unwrap();
+}

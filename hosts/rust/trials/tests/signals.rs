@@ -1,0 +1,132 @@
+//! What a server does that is told to go, or to read its files again: beside a master that is stuck or comes up, and standing by.
+
+use nix::sys::signal::{Signal, kill};
+use nix::unistd::Pid;
+use std::fs;
+use std::os::unix::fs::PermissionsExt;
+use std::path::Path;
+use std::process::{Command, ExitStatus, Stdio};
+use std::thread;
+use std::time::{Duration, Instant};
+use tillermoss::{Client, Options};
+use trials::{Kill, Member, Server, Start, certificates, folder, free, program};
+
+// Waits until it ends, and kills it where it doesn't.
+fn end(server: &mut Server, most: Duration) -> Option<ExitStatus> {
+    let begun = Instant::now();
+    while begun.elapsed() < most {
+        if let Some(status) = server.has_ended().unwrap() {
+            return Some(status);
+        }
+        thread::sleep(Duration::from_millis(20));
+    }
+    None
+}
+
+fn over_etcd(folder: &Path, name: &str, member: &Member) -> Start {
+    Start::new(&folder.join(name)).with(&[&format!("tcp:{}", free())]).rows(&member.rows("c"))
+}
+
+// The status and the body of an answer to an operator.
+fn get(server: &Server, path: &str) -> (u16, String) {
+    let place = server.admin.as_deref().unwrap().strip_prefix("tcp:").unwrap();
+    match ureq::get(&format!("http://{place}{path}")).call() {
+        Ok(answer) | Err(ureq::Error::Status(_, answer)) => (answer.status(), answer.into_string().unwrap()),
+        Err(error) => panic!("{path}: {error}"),
+    }
+}
+
+fn stop_beside_a_stuck_master(server: &mut Server) {
+    let client = Client::connect(&Options::new(&server.address, "ann")).unwrap();
+    let file = client.create("/ls/c/f", b"kept").unwrap();
+    let master = server.master().unwrap();
+    server.signal_master(Signal::SIGSTOP).unwrap();
+    server.signal(Signal::SIGTERM).unwrap();
+    let begun = Instant::now();
+    let status = end(server, Duration::from_secs(25));
+    println!("signals: SIGTERM beside a stuck master: {status:?} in {:.1} s", begun.elapsed().as_secs_f64());
+    assert_eq!(status.and_then(|status| status.code()), Some(1), "{}", server.logged());
+    assert!(server.logged().contains("the master doesn't go"));
+    assert!(kill(Pid::from_raw(master.cast_signed()), None).is_err(), "its master is there");
+    drop((client, file));
+}
+
+#[test]
+fn a_server_goes_beside_a_stuck_master() {
+    let folder = folder("stuck");
+    let start = Start::new(&folder.join("store.db"));
+    let mut server = start.start().unwrap();
+    stop_beside_a_stuck_master(&mut server);
+    assert!(start.start().is_ok());
+    fs::remove_dir_all(folder).unwrap();
+}
+
+// (it gives its mastership back: the next one doesn't wait for the end of that)
+#[test]
+fn a_server_over_etcd_goes_beside_a_stuck_master() {
+    let folder = folder("stuck-etcd");
+    let member = Member::start(&folder).unwrap();
+    member.make("c").unwrap();
+    let mut server = over_etcd(&folder, "first", &member).with(&["--mastership", "60"]).start().unwrap();
+    stop_beside_a_stuck_master(&mut server);
+    let begun = Instant::now();
+    let next = over_etcd(&folder, "second", &member).start().unwrap();
+    assert!(begun.elapsed() < Duration::from_secs(20), "{:?}", begun.elapsed());
+    drop((next, member));
+    fs::remove_dir_all(folder).unwrap();
+}
+
+// A program in the master's place that never comes up.
+#[test]
+fn a_server_goes_while_its_master_comes_up() {
+    let folder = folder("coming-up");
+    let (master, started) = (folder.join("master"), folder.join("started"));
+    fs::write(&master, format!("#!/bin/sh\n[ \"$1\" = serve ] || exit\ntouch {}\nexec sleep 600\n", started.display())).unwrap();
+    fs::set_permissions(&master, fs::Permissions::from_mode(0o700)).unwrap();
+    let mut command = Command::new(program("tillermossd"));
+    command.arg("0").arg("--store").arg(folder.join("store.db")).arg("--master").arg(&master);
+    let mut child = command.stdout(Stdio::null()).stderr(Stdio::null()).spawn().unwrap();
+    while !started.exists() {
+        thread::sleep(Duration::from_millis(20));
+    }
+    kill(Pid::from_raw(child.id().cast_signed()), Signal::SIGTERM).unwrap();
+    let begun = Instant::now();
+    assert!(child.wait().unwrap().success());
+    assert!(begun.elapsed() < Duration::from_secs(5));
+    fs::remove_dir_all(folder).unwrap();
+}
+
+#[test]
+fn a_server_that_stands_by_heeds_signals_and_operators() {
+    let folder = folder("standing-by");
+    let member = Member::start(&folder).unwrap();
+    member.make("c").unwrap();
+    let certificates = certificates(&folder, &["ann"]);
+    let mut master = over_etcd(&folder, "first", &member).start().unwrap();
+    let stand_by = |name: &str| {
+        let start = Start::new(&folder.join(name)).rows(&member.rows("c")).with(&["--admin", &format!("tcp:{}", free())]);
+        start.tls_at(&format!("tls:{}", free()), &certificates).stand_by().unwrap()
+    };
+    let (second, mut third) = (stand_by("second"), stand_by("third"));
+    assert_eq!(get(&second, "/healthz"), (200, "ok\n".to_owned()));
+    let told = (503, format!("this server stands by; the master is {}\n", master.address));
+    for path in ["/readyz", "/status", "/metrics"] {
+        assert_eq!(get(&second, path), told, "{path}");
+    }
+    for server in [&second, &third] {
+        server.signal(Signal::SIGHUP).unwrap();
+        assert!(server.has_logged("the certificates were read again"), "{}", server.logged());
+    }
+    third.signal(Signal::SIGTERM).unwrap();
+    let status = end(&mut third, Duration::from_secs(5));
+    assert!(status.is_some_and(|status| status.success()), "{status:?}: {}", third.logged());
+    assert!(master.kill(Kill::InOrder).unwrap().success());
+    let begun = Instant::now();
+    while get(&second, "/readyz").0 != 200 {
+        assert!(begun.elapsed() < Duration::from_secs(60), "{}", second.logged());
+        thread::sleep(Duration::from_millis(50));
+    }
+    assert!(get(&second, "/metrics").1.contains("tillermoss_"));
+    drop((second, third, member));
+    fs::remove_dir_all(folder).unwrap();
+}
