@@ -24,9 +24,10 @@ fn replaced(folder: &Path, member: &Member) -> (Server, Server, Welcome) {
     first.signal(Signal::SIGSTOP).unwrap();
     let begun = Instant::now();
     loop {
-        match Plain::greet(second.place(), &new("ann")).unwrap().1 {
-            Ok(welcome) => return (first, second, welcome),
-            Err(reason) => assert!(begun.elapsed() < Duration::from_secs(60), "{reason:?}: {}", second.logged()),
+        // (while it becomes master nobody is let in)
+        match Plain::greet(second.place(), &new("ann")) {
+            Ok((_, Ok(welcome))) => return (first, second, welcome),
+            told => assert!(begun.elapsed() < Duration::from_secs(60), "{told:?}: {}", second.logged()),
         }
         thread::sleep(Duration::from_millis(200));
     }
