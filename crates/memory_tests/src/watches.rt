@@ -79,7 +79,7 @@ fn serve<O: Opening, I: Ledger, A: Ledger, E: Ledger, C: Ledger, W: Wait>(
     Ok(written?)
 }
 
-// Tries a step of the client's until it isn't refused memory. Behind each refusal the master takes what may be sent again.
+// Tries a step of the client's until it isn't refused memory. After each refusal the message goes out again that a late keeper lends.
 fn try_step<O: Opening, I: Ledger, A: Ledger, E: Ledger, C: Ledger, W: Wait>(
     rt: &W,
     hoard: &mut Hoard,
@@ -93,14 +93,29 @@ fn try_step<O: Opening, I: Ledger, A: Ledger, E: Ledger, C: Ledger, W: Wait>(
         if seat.plays(rt, hoard, turn, step, text)? {
             return Ok(());
         }
-        let Some(request) = seat.lent_late()? else {
-            continue;
-        };
-        if ends_session(rt, watch, passes, request)? && seat.sees_something(hoard)? {
-            return Err(Stop::Apart("a session has ended, and its viewer sees the file"));
-        }
+        send_late(rt, hoard, watch, passes, seat)?;
     }
     Err(Stop::Refused(Fault::NoMemory))
+}
+
+// A session that ends by it may have no viewer that still sees the file.
+fn send_late<O: Opening, I: Ledger, A: Ledger, E: Ledger, C: Ledger, W: Wait>(
+    rt: &W,
+    hoard: &mut Hoard,
+    watch: &Watch<ListRecords, O, I, A, E, C>,
+    passes: &mut [Pass<I, A, E, C>],
+    seat: &mut Seat,
+) -> Result<(), Stop> {
+    let Some(request) = seat.lent_late()? else {
+        return Ok(());
+    };
+    if !ends_session(rt, watch, passes, request)? {
+        return Ok(());
+    }
+    if seat.sees_something(hoard)? {
+        return Err(Stop::Apart("a session has ended, and its viewer sees the file"));
+    }
+    Ok(())
 }
 
 // The master takes a message, and sweeps. Whether a session ended by that.
