@@ -26,9 +26,9 @@ class Server(threading.Thread):
     """A server that answers each greeting by the next of these, the last again and again. Behind a welcome it begins a session, answers
     each call by the next answer, or not at all, and keeps each Beat."""
 
-    def __init__(self, greetings: list, answers: tuple = (), tls: ssl.SSLContext = None):
+    def __init__(self, greetings: list, answers: tuple = (), tls: ssl.SSLContext = None, span: int = 60_000):
         super().__init__(daemon=True)
-        self.greetings, self.answers, self.tls = list(greetings), list(answers), tls
+        self.greetings, self.answers, self.tls, self.span = list(greetings), list(answers), tls, span
         self.door = socket.create_server(("127.0.0.1", 0))
         self.place = f"127.0.0.1:{self.door.getsockname()[1]}"
         self.hellos, self.streams = [], []
@@ -81,7 +81,7 @@ class Server(threading.Thread):
     def answer(self, stream: socket.socket, block: bytes) -> None:
         client, number = block[2:10], block[18:26]
         if block[1] == codec.START:
-            stream.sendall(codec.sized(bytes([2, codec.STARTED]) + client + codec.word(1) + block[10:18] + codec.word(60_000)))
+            stream.sendall(codec.sized(bytes([2, codec.STARTED]) + client + codec.word(1) + block[10:18] + codec.word(self.span)))
         elif block[1] == codec.CALL and self.answers:
             stream.sendall(codec.sized(bytes([2, codec.REPLY]) + client + codec.word(1) + number + self.answers.pop(0)))
 
@@ -150,6 +150,21 @@ class WrongTokens(WithServers):
         self.assertEqual((len(only.hellos), client.session.state), (2, "live"))
         with self.assertRaises(TurnedAway):
             client.open("/ls/c/f")
+
+
+class Silence(WithServers):
+    def test_a_server_that_answers_nothing_is_left_for_another(self):
+        silent, master = self.server(WELCOME, span=1000), self.server(WELCOME)
+        client = self.client(silent, master)
+        self.wait_until(lambda: master.hellos)
+        self.assertEqual((len(silent.hellos), master.hellos, client.session.state), (1, [codec.hello("ann", 7, 9)], "live"))
+
+    def test_one_that_is_known_alone_is_not(self):
+        only = self.server(WELCOME, span=1000)
+        client = self.client(only)
+        time.sleep(5)
+        self.assertEqual((len(only.hellos), client.session.state), (1, "live"))
+        self.assertEqual([client.events.get_nowait().kind], ["jeopardy"])
 
 
 class Faults(WithServers):

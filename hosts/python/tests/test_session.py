@@ -1,5 +1,6 @@
 """The rules of a session, by hand and without a server: each row is a rule of docs/PROTOCOL.md at its limit."""
 
+import math
 import unittest
 
 from tillermoss import Refusal, View, codec
@@ -203,6 +204,17 @@ class Schedules(unittest.TestCase):
             schedule.beaten(schedule.due, number, 0)
             dues.append(schedule.due)
         self.assertEqual(dues, [5400, 6200, 7800, 11_000, 17_400, 27_400, 37_400, 47_400])
+
+    def test_a_silent_server_is_left(self):
+        for until, wanted in [(0, 4000), (5000, 8000)]:
+            schedule = Schedule()
+            self.assertEqual(schedule.silent_from(), math.inf)
+            schedule.beaten(1000, 7, until)
+            self.assertEqual(schedule.silent_from(), wanted)
+            schedule.beaten(schedule.due, 8, until)
+            self.assertEqual(schedule.silent_from(), wanted)
+            schedule.heard(6000, message(codec.ALIVE, 8))
+            self.assertEqual(schedule.silent_from(), math.inf)
 
     def test_behind_an_answer(self):
         rows = [

@@ -1,5 +1,6 @@
 """A client that keeps its session by a thread of its own."""
 
+import math
 import os
 import queue
 import ssl
@@ -183,6 +184,9 @@ class Client:
             # (the next time another one)
             self.servers.append(self.servers.pop(0))
             raise
+        if server in self.servers:
+            at = self.servers.index(server)
+            self.servers = self.servers[at:] + self.servers[:at]
         return connection
 
     def welcomed(self, connection: Connection, greeting: bytes, server: str) -> tuple:
@@ -238,10 +242,14 @@ class Client:
             self.schedule.is_answered = True
             self.beat(is_again=True)
         while self.goes_on():
-            block = connection.next((self.schedule.due - now()) / 1000)
+            silent_from = self.schedule.silent_from() if len(self.servers) > 1 else math.inf
+            block = connection.next((min(self.schedule.due, silent_from) - now()) / 1000)
             with self.changed:
                 if block is not None:
                     self.take(codec.read_message(block))
+                if now() >= silent_from and not self.schedule.is_answered:
+                    self.servers.append(self.servers.pop(0))
+                    raise ConnectionError("the server is silent")
                 if now() >= self.schedule.due:
                     self.beat(is_again=not self.schedule.is_answered)
 

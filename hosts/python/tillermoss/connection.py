@@ -15,6 +15,8 @@ WRITING = 10.0
 ANSWER_PAUSES = 200, 10_000
 PACE = 20
 KEPT_LONG = 20_000
+# So long behind the end of its lease a client of several servers waits for an answer before it tries another.
+SILENCE = 3_000
 
 
 def kind_of(server: str) -> str:
@@ -33,18 +35,22 @@ class Schedule:
     """When the next Beat goes."""
 
     def __init__(self):
-        self.number, self.sent, self.first, self.due = None, 0, 0, 0
+        self.number, self.sent, self.first, self.until, self.due = None, 0, 0, 0, 0
         self.pause, self.usual, self.is_answered = ANSWER_PAUSES[0], 0, True
 
     def beaten(self, moment: int, number: int, until: int) -> None:
         """One was sent. None follows while its answer may be on its way, which a master keeps until the lease is near its end."""
         wait = max(until - moment, 0)
         if self.is_answered:
-            self.first, self.pause = moment, ANSWER_PAUSES[0]
+            self.first, self.until, self.pause = moment, until, ANSWER_PAUSES[0]
             wait = min(wait, self.usual // 2) if self.usual >= KEPT_LONG else wait
         else:
             self.pause = min(2 * self.pause, ANSWER_PAUSES[1])
         self.number, self.sent, self.due, self.is_answered = number, moment, moment + max(wait, self.pause), False
+
+    def silent_from(self) -> float:
+        """From when on the server has been silent for so long that another may be master."""
+        return math.inf if self.is_answered else max(self.first, self.until) + SILENCE
 
     def heard(self, moment: int, message: codec.Message) -> None:
         is_answer = message.kind != codec.NOTICE and message.kind != codec.REPLY and message.number == self.number

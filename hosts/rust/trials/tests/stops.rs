@@ -1,11 +1,15 @@
 //! A server, its master or both are stopped for a while and go on: no client is lost that comes back within its grace.
 
+use std::sync::{Mutex, PoisonError};
 use std::thread;
 use std::time::Duration;
 use trials::{Kind, Member, Noticed, Stopped, folder, stop_for};
 
 /// For so many seconds. (A client is lost 45 s after the end of its lease, which has 12 s.)
 const STOPS: [u64; 5] = [6, 9, 13, 20, 40];
+
+/// Held by a test whose cells stand in etcd: the members of two would take each other's disk.
+static ETCD: Mutex<()> = Mutex::new(());
 
 // Those at once that are stopped alike; over a file all at once.
 fn stop_all(kind: Kind, member: Option<&Member>) -> Vec<(Stopped, u64, Noticed)> {
@@ -23,6 +27,7 @@ fn stop_all(kind: Kind, member: Option<&Member>) -> Vec<(Stopped, u64, Noticed)>
 }
 
 fn nobody_is_lost(kind: Kind) {
+    let _alone = kind.is_over_etcd.then(|| ETCD.lock().unwrap_or_else(PoisonError::into_inner));
     let folder = folder("members");
     let member = kind.is_over_etcd.then(|| Member::start(&folder).unwrap());
     let all = stop_all(kind, member.as_ref());
