@@ -279,7 +279,9 @@ async fn run(options: Arc<Options>, path: PathBuf, rows: Option<Rows>, found: Fo
 async fn up(making: &Making, hall: &Arc<Hall>, is_alone: bool, reading: Option<Reading>) -> Result<Master> {
     let master = making.start(hall, is_alone, reading).await?;
     let epoch = hall.picture().epoch;
-    hall.numbers.lock().unwrap_or_else(PoisonError::into_inner).note(Epochs { last: epoch, coming: epoch + 1 })?;
+    let noting = hall.clone();
+    let note = move || noting.numbers.lock().unwrap_or_else(PoisonError::into_inner).note(Epochs { last: epoch, coming: epoch + 1 });
+    tokio::task::spawn_blocking(note).await??;
     info!(process = master.process(), epoch, "serving");
     Ok(master)
 }
