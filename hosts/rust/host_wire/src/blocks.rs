@@ -120,22 +120,48 @@ impl Blocks {
         self.came(read)
     }
 
+    /// How many bytes the next block has; None where that wasn't read yet.
+    ///
+    /// # Errors
+    ///
+    /// `InvalidData` for a block above the limit.
+    pub fn length(&self) -> io::Result<Option<usize>> {
+        let head = self.bytes[self.begin..self.end].first_chunk::<4>();
+        match head.map(|head| u32::from_be_bytes(*head) as usize) {
+            Some(length) if length > self.limit => Err(ErrorKind::InvalidData.into()),
+            length => Ok(length),
+        }
+    }
+
+    /// As `length`, of a stream that is waited for; None at its end. Where that is given up nothing is lost.
+    ///
+    /// # Errors
+    ///
+    /// As of `length` and `fill_of`.
+    pub async fn length_of(&mut self, stream: &mut (impl AsyncRead + Unpin)) -> io::Result<Option<usize>> {
+        loop {
+            if let Some(length) = self.length()? {
+                return Ok(Some(length));
+            }
+            if !self.fill_of(stream).await? {
+                return Ok(None);
+            }
+        }
+    }
+
     /// The next block of what was read; None where it isn't whole yet.
     ///
     /// # Errors
     ///
     /// `InvalidData` for a block above the limit.
     pub fn take(&mut self) -> io::Result<Option<&[u8]>> {
-        let Some((head, rest)) = self.bytes[self.begin..self.end].split_first_chunk::<4>() else {
+        let Some(length) = self.length()? else {
             return Ok(None);
         };
-        let length = u32::from_be_bytes(*head) as usize;
-        if length > self.limit {
-            return Err(ErrorKind::InvalidData.into());
-        }
-        let block = rest.get(..length);
+        let begin = self.begin + 4;
+        let block = self.bytes[..self.end].get(begin..begin + length);
         if block.is_some() {
-            self.begin += 4 + length;
+            self.begin = begin + length;
         }
         Ok(block)
     }

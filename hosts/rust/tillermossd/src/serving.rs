@@ -335,7 +335,9 @@ async fn first(making: &Making, hall: &Arc<Hall>, reading: Reading, going: &mut 
 async fn up(making: &Making, hall: &Arc<Hall>, is_alone: bool, reading: Option<Reading>) -> Result<Master> {
     let master = making.start(hall, is_alone, reading).await?;
     let epoch = hall.picture().epoch;
-    hall.numbers.lock().unwrap_or_else(PoisonError::into_inner).note_up(epoch)?;
+    let noting = hall.clone();
+    let note = move || noting.numbers.lock().unwrap_or_else(PoisonError::into_inner).note_up(epoch);
+    tokio::task::spawn_blocking(note).await??;
     info!(process = master.process(), epoch, "serving");
     Ok(master)
 }

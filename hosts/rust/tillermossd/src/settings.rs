@@ -33,6 +33,10 @@ pub struct Limits {
     pub rate_of_a_client: u32,
     /// Messages a second that all clients of a principal send.
     pub rate_of_a_principal: u32,
+    /// Bytes a second that a client sends; it has to wait with more.
+    pub byte_rate_of_a_client: u32,
+    /// Bytes a second that all clients of a principal send.
+    pub byte_rate_of_a_principal: u32,
     /// Nodes of the cell.
     pub nodes: u64,
     /// Bytes of all contents.
@@ -50,6 +54,8 @@ impl Default for Limits {
             silence: 180,
             rate_of_a_client: 2_000,
             rate_of_a_principal: 10_000,
+            byte_rate_of_a_client: 8 << 20,
+            byte_rate_of_a_principal: 32 << 20,
             nodes: 1_000_000,
             bytes: 1 << 30,
             bytes_of_a_principal: 1 << 29,

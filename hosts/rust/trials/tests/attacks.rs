@@ -1,7 +1,7 @@
 //! What the server has to bear: a table of attacks, each with what is refused, and with what stands behind it: a client that had
 //! come before still has its session and its handle, its file what it wrote, and a new client gets in.
 
-use host_wire::{Answer, Blocks, TurnedAway, write_block};
+use host_wire::{Answer, Asked, Blocks, REQUEST_LIMIT, Said, TurnedAway, write_block};
 use nix::sys::resource::{Resource, getrlimit, setrlimit};
 use nix::sys::signal::Signal;
 use nix::unistd::{SysconfVar, sysconf};
@@ -9,13 +9,14 @@ use rand::rngs::StdRng;
 use rand::{Rng, SeedableRng};
 use std::fs;
 use std::io::Write;
+use std::net::TcpStream;
 use std::path::{Path, PathBuf};
 use std::process::{Command, Stdio};
 use std::sync::atomic::{AtomicBool, Ordering};
 use std::thread;
 use std::time::{Duration, Instant};
 use tillermoss::{Admin, Client, Error, Handle, LockMode, Mode, Options, Refusal, own_principal};
-use trials::{Kill, Master, Plain, Server, Start, Stranger, again, answer, certificates, folder, forged, messages, new, start};
+use trials::{Kill, Master, Plain, Server, Start, Stranger, Talker, again, answer, certificates, folder, forged, messages, new, start};
 
 const SEED: u64 = 20_061_106;
 
@@ -307,7 +308,7 @@ fn overwrite_by_forging(server: &Server) -> String {
     // (no session begins before the master has heard of all clients)
     let begun = (0..300).find_map(|_| Plain::begin(server.place(), "mallory").map_err(|_| thread::sleep(Duration::from_millis(200))).ok());
     let mut talker = begun.unwrap();
-    let epoch = host_wire::Asked::read(&talker.beat().unwrap()).unwrap().epoch();
+    let epoch = Asked::read(&talker.beat().unwrap()).unwrap().epoch();
     assert!(epoch > 1);
     let set = forged(talker.client.number(), epoch, "/ls/c/acl/base", b"mallory\n").unwrap();
     loop {
@@ -414,6 +415,85 @@ fn flood(stage: &mut Stage) -> String {
     });
     println!("a write took {before} us alone, {during} us beside a flood");
     if during <= 3 * before { "slowed down".to_owned() } else { format!("{before} us alone, {during} us beside it") }
+}
+
+// Reads by a handle, of the master each time: the client doesn't learn the answer, so its cache has none.
+fn read_of_the_master(talker: &mut Talker, handle: u64) -> Option<()> {
+    let call = talker.read_call(handle)?;
+    let number = Asked::read(&call)?.number();
+    talker.connection.send(&call).ok()?;
+    while Said::read(&talker.connection.next_block()?).is_none_or(|said| said.number != number) {}
+    talker.forget(&call);
+    Some(())
+}
+
+// The longest read of a client, asked of the master fifty times a second until this is over, and how often it was read.
+fn longest_read(talker: &mut Talker, handle: u64, is_over: impl Fn() -> bool) -> (Duration, u32) {
+    let (mut longest, mut count) = (Duration::ZERO, 0);
+    while !is_over() {
+        let begun = Instant::now();
+        // (one that isn't answered in 20 s is over)
+        let answered = read_of_the_master(talker, handle);
+        (longest, count) = (longest.max(begun.elapsed()), count + 1);
+        if answered.is_none() {
+            break;
+        }
+        thread::sleep(Duration::from_millis(20));
+    }
+    (longest, count)
+}
+
+// Greets, and sends so many bytes of the longest block there is, as far as they are read within three seconds.
+fn send_large(place: &str, bytes: usize) -> Option<Plain> {
+    let (mut connection, welcome) = Plain::greet(place, &new("mallory")).ok()?;
+    welcome.ok()?;
+    connection.stream.set_write_timeout(Some(Duration::from_secs(3))).unwrap();
+    let mut block = (REQUEST_LIMIT as u32).to_be_bytes().to_vec();
+    block.resize(4 + bytes, 0);
+    // (what isn't read can't be sent)
+    let _ = connection.send_bytes(&block);
+    Some(connection)
+}
+
+// Of one principal: two hundred connections that don't end their blocks, and as many that send them whole, again and again.
+fn large_blocks(stage: &mut Stage) -> String {
+    let (place, before) = (stage.place().to_owned(), memory(&stage.server));
+    let mut other = Plain::begin(&place, "bob").unwrap();
+    let handle = other.open("/ls/c/read", b"").unwrap();
+    let alone = Instant::now();
+    let (read_alone, _) = longest_read(&mut other, handle, || alone.elapsed() > Duration::from_secs(1));
+    let more = thread::scope(|scope| {
+        let held: Vec<_> = (0..200).map(|_| scope.spawn(|| send_large(&place, REQUEST_LIMIT - 1))).collect();
+        let held: Vec<_> = held.into_iter().map(|sent| sent.join().unwrap()).collect();
+        assert!(held.iter().all(Option::is_some));
+        memory(&stage.server).saturating_sub(before)
+    });
+    let begun = Instant::now();
+    let is_over = || begun.elapsed() > Duration::from_secs(5);
+    let (read, count) = thread::scope(|scope| {
+        for _ in 0..200 {
+            scope.spawn(|| {
+                while !is_over() {
+                    send_large(&place, REQUEST_LIMIT).as_mut().map(Plain::is_ended);
+                }
+            });
+        }
+        longest_read(&mut other, handle, is_over)
+    });
+    println!("large blocks: {more} kB more; the longest of {count} reads {read:?}, {read_alone:?} alone");
+    let is_borne = more < 60_000 && read < Duration::from_secs(1).max(4 * read_alone);
+    if is_borne { "they wait for each other".to_owned() } else { format!("{more} kB more; the longest of {count} reads {read:?}") }
+}
+
+// As many as may be there, and more.
+fn idle_operators(stage: &mut Stage) -> String {
+    let place = stage.server.admin.as_deref().unwrap().strip_prefix("tcp:").unwrap();
+    let _idle: Vec<TcpStream> = (0..200).map(|_| TcpStream::connect(place).unwrap()).collect();
+    let agent = ureq::AgentBuilder::new().timeout(Duration::from_secs(10)).build();
+    match agent.get(&format!("http://{place}/healthz")).call() {
+        Ok(answer) => answer.status().to_string(),
+        Err(error) => error.to_string(),
+    }
 }
 
 // Whole exchanges with some of their bytes changed, lost or doubled.
@@ -523,6 +603,8 @@ fn attacks_are_refused_and_the_cell_stands() {
         ("half-open connections", "cut off", half_open_connections),
         ("replies that aren't read", "cut off", replies_that_are_not_read),
         ("floods of Beats", "slowed down", flood),
+        ("large blocks", "they wait for each other", large_blocks),
+        ("idle connections of operators", "200", idle_operators),
         ("too many connections", "FullForPrincipal behind 250", too_many_connections),
         ("too many nodes", "the limit nodes = 20 leaves no room for 1 more", too_many_nodes),
         ("too many bytes", "the limit bytes_of_a_principal = 1000000 leaves no room for 250000 more", too_many_bytes),

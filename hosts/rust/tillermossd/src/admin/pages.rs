@@ -5,6 +5,7 @@ use crate::etcd::standby::Known;
 use crate::master::child::Order;
 use crate::master::store;
 use crate::net::doors::listen_unix;
+use crate::net::lobby::Lobby;
 use anyhow::{Context, Result, bail};
 use host_wire::Address;
 use hyper::header::{CONTENT_SECURITY_POLICY, CONTENT_TYPE, HOST, HeaderValue};
@@ -13,11 +14,12 @@ use hyper::service::service_fn;
 use hyper::{Body, Method, Request, Response, StatusCode};
 use std::convert::Infallible;
 use std::io;
+use std::sync::atomic::{AtomicBool, Ordering};
 use std::sync::{Arc, PoisonError, RwLock};
 use std::time::Duration;
 use tokio::io::{AsyncRead, AsyncReadExt, AsyncWrite};
 use tokio::net::{TcpListener, UnixListener};
-use tokio::sync::{Semaphore, mpsc, oneshot};
+use tokio::sync::{OwnedSemaphorePermit, Semaphore, mpsc, oneshot};
 use tokio::time::{sleep, timeout};
 use tracing::{info, warn};
 
@@ -27,8 +29,11 @@ const STYLE: &str = include_str!("page.css");
 const SCRIPT: &str = include_str!("page.js");
 const POLICY: &str = "default-src 'none'; script-src 'self'; style-src 'self' 'unsafe-inline'; connect-src 'self'; img-src data:";
 
-/// So many connections of operators there are at once.
+/// So many connections of operators there are at once; with one more the oldest is cut off that takes no copy.
 const MOST: usize = 64;
+
+/// So many copies are taken at once.
+const COPIES: usize = 4;
 
 /// So long one may last.
 const PATIENCE: Duration = Duration::from_secs(300);
@@ -94,9 +99,8 @@ impl Desk {
 
     /// Answers those who come, until the server goes.
     pub async fn serve(self, counter: Counter) {
-        let places = Arc::new(Semaphore::new(MOST));
+        let (lobby, copies) = (Arc::new(Lobby::default()), Arc::new(Semaphore::new(COPIES)));
         loop {
-            let place = places.clone().acquire_owned().await;
             let taken: io::Result<Box<dyn Both>> = match &self {
                 Desk::Unix(listener) => listener.accept().await.map(|(stream, _)| Box::new(stream) as Box<dyn Both>),
                 Desk::Tcp(listener) => listener.accept().await.map(|(stream, _)| Box::new(stream) as Box<dyn Both>),
@@ -105,15 +109,35 @@ impl Desk {
                 sleep(Duration::from_millis(20)).await;
                 continue;
             };
-            let counter = counter.clone();
-            tokio::spawn(async move {
-                let service = service_fn(move |request| answer(counter.asked(), request));
-                // (whatever ends a connection of an operator, another may be made)
-                let _ = timeout(PATIENCE, Http::new().http1_only(true).serve_connection(stream, service)).await;
-                drop(place);
-            });
+            let (counter, lobby, copies) = (counter.clone(), lobby.clone(), copies.clone());
+            tokio::spawn(async move { attend(stream, &counter, &lobby, &copies).await });
         }
     }
+}
+
+// Answers one connection, until it ends or gives way to others.
+async fn attend(stream: Box<dyn Both>, counter: &Counter, lobby: &Lobby, copies: &Arc<Semaphore>) {
+    let place = lobby.enter(MOST);
+    let copying = Arc::new(AtomicBool::new(false));
+    let service = service_fn(|request| answer(counter.asked(), Copies { copying: copying.clone(), places: copies.clone() }, request));
+    let served = timeout(PATIENCE, Http::new().http1_only(true).serve_connection(stream, service));
+    tokio::pin!(served);
+    // (whatever ends a connection of an operator, another may be made)
+    let is_cut = tokio::select! {
+        _ = &mut served => false,
+        () = place.is_cut() => true,
+    };
+    if is_cut && copying.load(Ordering::Relaxed) {
+        let _ = served.await;
+    }
+}
+
+/// What who asks for a copy has to have.
+struct Copies {
+    // (of this connection)
+    copying: Arc<AtomicBool>,
+    // (of all)
+    places: Arc<Semaphore>,
 }
 
 /// A stream both ways.
@@ -127,7 +151,7 @@ fn is_own_host(request: &Request<Body>) -> bool {
     host.is_none_or(|host| format!("tcp:{host}").parse::<Address>().is_ok_and(|address| address.is_local()) || host == "localhost")
 }
 
-async fn answer(asked: Arc<Asked>, request: Request<Body>) -> Result<Response<Body>, Infallible> {
+async fn answer(asked: Arc<Asked>, copies: Copies, request: Request<Body>) -> Result<Response<Body>, Infallible> {
     if !is_own_host(&request) {
         return Ok(said(StatusCode::FORBIDDEN, "text/plain", "only under a name of this machine\n"));
     }
@@ -135,7 +159,7 @@ async fn answer(asked: Arc<Asked>, request: Request<Body>) -> Result<Response<Bo
         _ if (request.method(), request.uri().path()) == (&Method::GET, "/healthz") => said(StatusCode::OK, "text/plain", "ok\n"),
         Asked::ComesUp => said(StatusCode::SERVICE_UNAVAILABLE, "text/plain", "the master comes up\n"),
         Asked::StandsBy(known) => said(StatusCode::SERVICE_UNAVAILABLE, "text/plain", stands_by(known)),
-        Asked::Master(admin) => shown(admin, &request).await,
+        Asked::Master(admin) => shown(admin, &copies, &request).await,
     })
 }
 
@@ -146,7 +170,7 @@ fn stands_by(known: &Known) -> String {
     }
 }
 
-async fn shown(admin: &Admin, request: &Request<Body>) -> Response<Body> {
+async fn shown(admin: &Admin, copies: &Copies, request: &Request<Body>) -> Response<Body> {
     let showing = &admin.showing;
     let json = |shown: serde_json::Result<String>| match shown {
         Ok(text) => said(StatusCode::OK, "application/json", text),
@@ -165,7 +189,7 @@ async fn shown(admin: &Admin, request: &Request<Body>) -> Response<Body> {
         (&Method::GET, "/status") => json(serde_json::to_string(&showing.status())),
         (&Method::GET, "/sessions") => json(serde_json::to_string(&showing.sessions(usize::MAX))),
         (&Method::GET, "/locks") => json(serde_json::to_string(&showing.locks())),
-        (&Method::POST, "/backup") => backup(admin).await,
+        (&Method::POST, "/backup") => backup(admin, copies).await,
         (_, "/backup") => said(StatusCode::METHOD_NOT_ALLOWED, "text/plain", "only by POST\n"),
         _ => said(StatusCode::NOT_FOUND, "text/plain", "there is no such page\n"),
     }
@@ -186,11 +210,15 @@ fn ready(showing: &Showing) -> Response<Body> {
     }
 }
 
-async fn backup(admin: &Admin) -> Response<Body> {
+async fn backup(admin: &Admin, copies: &Copies) -> Response<Body> {
     if !admin.is_private {
         return said(StatusCode::FORBIDDEN, "text/plain", "a copy has the cell's secret: only at --admin unix:PATH\n");
     }
-    match copied(admin).await {
+    let Ok(place) = copies.places.clone().try_acquire_owned() else {
+        return said(StatusCode::SERVICE_UNAVAILABLE, "text/plain", "too many copies are taken at once\n");
+    };
+    copies.copying.store(true, Ordering::Relaxed);
+    match copied(admin, place).await {
         Ok(file) => {
             info!("a copy of the store was taken");
             said(StatusCode::OK, "application/vnd.sqlite3", file)
@@ -203,7 +231,7 @@ async fn backup(admin: &Admin) -> Response<Body> {
 }
 
 // The copy, as it is read. Its folder goes when it was, or when nobody reads it any more.
-async fn copied(admin: &Admin) -> Result<Body> {
+async fn copied(admin: &Admin, place: OwnedSemaphorePermit) -> Result<Body> {
     let (reply, copied) = oneshot::channel();
     admin.orders.send(Order::Copy(reply)).await.context("no master is up")?;
     let folder = copied.await.context("the master is gone")??;
@@ -224,7 +252,7 @@ async fn copied(admin: &Admin) -> Result<Body> {
                 }
             }
         }
-        drop(folder);
+        drop((folder, place));
     });
     Ok(body)
 }

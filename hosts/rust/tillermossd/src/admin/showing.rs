@@ -45,7 +45,7 @@ impl Showing {
             locks: picture.locks.len(),
             rights: picture.rights(),
             changes_waiting: picture.changes().0,
-            connections: self.hall.crowd().count,
+            connections: self.hall.crowd.count(),
         }
     }
 
@@ -56,7 +56,7 @@ impl Showing {
         let (changes, oldest) = picture.changes();
         Levels {
             greeting: self.hall.lobby.count(),
-            bound: self.hall.crowd().count,
+            bound: self.hall.crowd.count(),
             nodes: picture.nodes.len(),
             bytes: picture.bytes(),
             sessions: picture.sessions.len(),

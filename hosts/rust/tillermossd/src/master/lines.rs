@@ -14,7 +14,7 @@ pub struct Message {
     /// Its bytes.
     pub bytes: Vec<u8>,
     /// Its place among those of its connection, and its room among those of all, which are free again when it is taken.
-    pub place: (Option<OwnedSemaphorePermit>, Option<OwnedSemaphorePermit>),
+    pub place: Vec<OwnedSemaphorePermit>,
 }
 
 /// Those that wait in turn, each by a key, and what each waits with.
@@ -99,7 +99,7 @@ mod tests {
         let sent = ["a1", "a1", "a1", "a2", "b3", "b3", "c4"];
         for word in sent {
             let client = u64::from(word.as_bytes()[1] - b'0');
-            lines.push(Message { client, principal: word[..1].into(), bytes: word.into(), place: (None, None) });
+            lines.push(Message { client, principal: word[..1].into(), bytes: word.into(), place: Vec::new() });
         }
         let mut taken = Vec::new();
         while let Some(message) = lines.take() {

@@ -66,6 +66,14 @@ struct Taken {
     given: u64,
 }
 
+/// By what a client is known that was given a number.
+#[derive(Clone, Copy, Debug)]
+pub struct Given {
+    // (all that were given are below it)
+    next: u64,
+    key: [u8; 16],
+}
+
 /// Where numbers stand beside rows.
 #[derive(Debug)]
 struct Beside {
@@ -209,6 +217,14 @@ impl Numbers {
         Ok(found)
     }
 
+    /// What shows which numbers are given by now.
+    #[must_use]
+    pub fn given(&self) -> Given {
+        Given { next: self.taken.next(), key: self.key }
+    }
+}
+
+impl Given {
     /// What shows that this number was given to a client that acts for this principal.
     #[must_use]
     pub fn token(&self, number: u64, principal: &str) -> u64 {
@@ -218,7 +234,7 @@ impl Numbers {
     /// Whether this number was given, to a client that acts for this principal and got this token.
     #[must_use]
     pub fn is_token(&self, number: u64, principal: &str, token: u64) -> bool {
-        (1..self.taken.next()).contains(&number) && self.token(number, principal) == token
+        (1..self.next).contains(&number) && self.token(number, principal) == token
     }
 }
 
@@ -302,7 +318,7 @@ mod tests {
         assert_eq!((first.allot().unwrap(), first.allot().unwrap()), (1, 2));
         let mut second = Numbers::open(&path, true, None).unwrap();
         assert_eq!(second.allot().unwrap(), 101);
-        assert_eq!(second.token(1, "ann"), first.token(1, "ann"));
+        assert_eq!(second.given().token(1, "ann"), first.given().token(1, "ann"));
         assert_eq!(first.allot().unwrap(), 3);
     }
 
@@ -418,16 +434,16 @@ mod tests {
         let (_folder, path) = folder();
         let mut numbers = Numbers::open(&path, false, None).unwrap();
         let number = numbers.allot().unwrap();
-        let token = numbers.token(number, "ann");
+        let token = numbers.given().token(number, "ann");
         let rows = [
             (number, "ann", token, true),
             (number, "bob", token, false),
             (number, "ann", token ^ 1, false),
-            (number + 1, "ann", numbers.token(number + 1, "ann"), false),
-            (0, "ann", numbers.token(0, "ann"), false),
+            (number + 1, "ann", numbers.given().token(number + 1, "ann"), false),
+            (0, "ann", numbers.given().token(0, "ann"), false),
         ];
         for (number, principal, token, wanted) in rows {
-            assert_eq!(numbers.is_token(number, principal, token), wanted, "{number} {principal}");
+            assert_eq!(numbers.given().is_token(number, principal, token), wanted, "{number} {principal}");
         }
     }
 }

@@ -3,22 +3,22 @@
 use crate::admin::metrics::Metrics;
 use crate::etcd::mastership::Mastership;
 use crate::master::lines::{Lines, Message};
-use crate::master::numbers::Numbers;
+use crate::master::numbers::{Given, Numbers};
 use crate::master::picture::Picture;
+use crate::net::crowd::{Crowd, Rates, SMALL, Seat, UNIT};
 use crate::net::doors::{Door, Guest, Shown, Stream};
 use crate::net::lobby::Lobby;
 use crate::net::outgoing::Outgoing;
-use crate::net::rates::Rate;
 use crate::net::routes::Routes;
 use crate::settings::Limits;
-use anyhow::Result;
+use anyhow::{Context, Result};
 use host_wire::{Asked, Blocks, GREETING_LIMIT, Hello, Notice, REQUEST_LIMIT, Text, TurnedAway, Welcome, framed, write_store_refused};
-use std::collections::HashMap;
 use std::io;
 use std::sync::{Arc, Mutex, MutexGuard, PoisonError, RwLock};
 use std::time::{Duration, Instant};
-use tokio::io::{AsyncRead, AsyncWriteExt, ReadHalf};
-use tokio::sync::Semaphore;
+use tokio::io::{AsyncWriteExt, ReadHalf};
+use tokio::sync::{OwnedSemaphorePermit, Semaphore};
+use tokio::task::spawn_blocking;
 use tokio::time::{sleep, timeout};
 use tracing::{debug, error, info, warn};
 
@@ -31,15 +31,21 @@ const GREETING: Duration = Duration::from_secs(5);
 /// So many messages of one connection wait for the master; it is read no further meanwhile.
 const PLACES: usize = 4;
 
-/// So many bytes of messages wait for the master in all, in units.
+/// So many bytes of messages that aren't large wait for the master in all.
 const ROOM: usize = 64 << 20;
-const UNIT: usize = 1 << 10;
+
+/// So long a large message may take from when it has room until it is whole: others wait for that room.
+const WHOLE: Duration = Duration::from_secs(30);
 
 /// What all connections share.
 #[derive(Debug)]
 pub struct Hall {
-    /// The numbers that are given to new clients.
+    /// The numbers that are given to new clients. Who takes one may wait for a disk or for etcd, and so may who waits for that one.
     pub numbers: Mutex<Numbers>,
+    /// Which of them were given, for which nobody waits.
+    given: RwLock<Given>,
+    /// Whose turn it is to take one.
+    allotting: Arc<Semaphore>,
     /// Where the messages for clients go.
     pub routes: Routes,
     /// Where the messages of clients go.
@@ -55,24 +61,9 @@ pub struct Hall {
     /// Who hasn't greeted yet.
     pub lobby: Lobby,
     /// Who has, by principal.
-    pub crowd: Mutex<Crowd>,
+    pub crowd: Arc<Crowd>,
     /// The mastership of this server, where others stand by.
     pub mastership: Option<Arc<Mastership>>,
-}
-
-/// The connections that are bound.
-#[derive(Debug, Default)]
-pub struct Crowd {
-    /// How many there are.
-    pub count: usize,
-    principals: HashMap<Arc<str>, Share>,
-}
-
-/// Those of one principal, and how much they send.
-#[derive(Debug)]
-struct Share {
-    count: usize,
-    rate: Rate,
 }
 
 /// Whom a connection is bound to.
@@ -80,39 +71,7 @@ struct Share {
 struct Bound {
     client: u64,
     token: u64,
-    principal: Arc<str>,
-}
-
-impl Crowd {
-    fn enter(&mut self, principal: &str, limits: &Limits) -> Result<Arc<str>, TurnedAway> {
-        if self.count >= limits.connections {
-            return Err(TurnedAway::Full);
-        }
-        let key = self.principals.get_key_value(principal).map_or_else(|| principal.into(), |(key, _)| key.clone());
-        let new = || Share { count: 0, rate: Rate::new(limits.rate_of_a_principal, Instant::now()) };
-        let share = self.principals.entry(key.clone()).or_insert_with(new);
-        if share.count >= limits.connections_of_a_principal {
-            return Err(TurnedAway::FullForPrincipal);
-        }
-        share.count += 1;
-        self.count += 1;
-        Ok(key)
-    }
-
-    fn leave(&mut self, principal: &str) {
-        self.count -= 1;
-        if let Some(share) = self.principals.get_mut(principal) {
-            share.count -= 1;
-            if share.count == 0 {
-                self.principals.remove(principal);
-            }
-        }
-    }
-
-    fn wait(&mut self, principal: &str, limits: &Limits) -> Duration {
-        let share = self.principals.get_mut(principal);
-        share.map_or(Duration::ZERO, |share| share.rate.take(limits.rate_of_a_principal, Instant::now()))
-    }
+    seat: Seat,
 }
 
 /// Takes connections until the server goes, each with a task of its own.
@@ -135,7 +94,9 @@ impl Hall {
     /// The hall of a server that begins. It knows of no node and no session yet.
     pub fn new(numbers: Numbers, limits: &Limits, mastership: Option<Arc<Mastership>>) -> Result<Hall> {
         Ok(Hall {
+            given: RwLock::new(numbers.given()),
             numbers: Mutex::new(numbers),
+            allotting: Arc::new(Semaphore::new(1)),
             routes: Routes::default(),
             lines: Lines::default(),
             room: Arc::new(Semaphore::new(ROOM / UNIT)),
@@ -143,7 +104,7 @@ impl Hall {
             limits: RwLock::new(limits.clone()),
             metrics: Metrics::new()?,
             lobby: Lobby::default(),
-            crowd: Mutex::default(),
+            crowd: Arc::default(),
             mastership,
         })
     }
@@ -178,13 +139,8 @@ impl Hall {
         self.limits.read().unwrap_or_else(PoisonError::into_inner).clone()
     }
 
-    /// The connections that are bound, for one at a time.
-    pub fn crowd(&self) -> MutexGuard<'_, Crowd> {
-        self.crowd.lock().unwrap_or_else(PoisonError::into_inner)
-    }
-
     // A connection, from its greeting to its end.
-    async fn take(&self, guest: Guest) {
+    async fn take(self: Arc<Self>, guest: Guest) {
         let greeted = {
             let place = self.lobby.enter(self.limits().greetings);
             tokio::select! {
@@ -193,10 +149,7 @@ impl Hall {
             }
         };
         match greeted {
-            Ok(Some((stream, blocks, bound))) => {
-                self.carry(stream, blocks, &bound).await;
-                self.crowd().leave(&bound.principal);
-            }
+            Ok(Some((stream, blocks, bound))) => self.carry(stream, blocks, &bound).await,
             Ok(None) => {}
             Err(error) => {
                 self.metrics.turned_away("greeting");
@@ -206,13 +159,13 @@ impl Hall {
     }
 
     // Reads the hello, and answers one that is turned away.
-    async fn greet(&self, guest: Guest) -> Result<Option<(Box<dyn Stream>, Blocks, Bound)>> {
+    async fn greet(self: &Arc<Self>, guest: Guest) -> Result<Option<(Box<dyn Stream>, Blocks, Bound)>> {
         let (mut stream, shown) = guest.come_in().await?;
         let mut blocks = Blocks::new(GREETING_LIMIT);
         let Some(first) = blocks.next_of(&mut stream).await? else {
             return Ok(None);
         };
-        let bound = if self.is_replaced() { Err(TurnedAway::NotMaster) } else { self.bind(&first, &shown) };
+        let bound = if self.is_replaced() { Err(TurnedAway::NotMaster) } else { self.bind(&first, &shown).await };
         let reason = match bound {
             Ok(bound) => return Ok(Some((stream, blocks, bound))),
             // (a number that it doesn't know its successor may have given)
@@ -228,7 +181,7 @@ impl Hall {
     }
 
     // Whom the first block binds the connection to.
-    fn bind(&self, first: &[u8], shown: &Shown) -> Result<Bound, TurnedAway> {
+    async fn bind(self: &Arc<Self>, first: &[u8], shown: &Shown) -> Result<Bound, TurnedAway> {
         if matches!(shown, Shown::Other(_)) {
             return Err(TurnedAway::BadPrincipal);
         }
@@ -236,33 +189,43 @@ impl Hall {
         if matches!(shown, Shown::Principal(name) if name != hello.principal()) {
             return Err(TurnedAway::OtherPrincipal);
         }
-        let mut numbers = self.numbers.lock().unwrap_or_else(PoisonError::into_inner);
         if let Hello::Again { principal, client, token } = &hello
-            && !numbers.is_token(*client, principal, *token)
+            && !self.given.read().unwrap_or_else(PoisonError::into_inner).is_token(*client, principal, *token)
         {
             return Err(TurnedAway::WrongToken);
         }
-        let principal = self.crowd().enter(hello.principal(), &self.limits())?;
+        let seat = self.crowd.enter(hello.principal(), &self.limits())?;
         let numbered = match hello {
             Hello::Again { client, token, .. } => Ok((client, token)),
-            Hello::New { .. } => numbers.allot().map(|client| (client, numbers.token(client, &principal))),
+            Hello::New { .. } => self.allot(seat.principal.clone()).await,
         };
-        match numbered {
-            Ok((client, token)) => Ok(Bound { client, token, principal }),
-            Err(error) => {
-                warn!(reason = %format_args!("{error:#}"), "no number could be given");
-                self.crowd().leave(&principal);
-                Err(TurnedAway::NoNumber)
-            }
-        }
+        let (client, token) = numbered.map_err(|error| {
+            warn!(reason = %format_args!("{error:#}"), "no number could be given");
+            TurnedAway::NoNumber
+        })?;
+        Ok(Bound { client, token, seat })
+    }
+
+    // The next number, and its token. A thread that carries nothing waits until it is written down; the others wait for their turn.
+    async fn allot(self: &Arc<Self>, principal: Arc<str>) -> Result<(u64, u64)> {
+        let turn = self.allotting.clone().acquire_owned().await?;
+        let hall = self.clone();
+        let taken = spawn_blocking(move || {
+            let _turn = turn;
+            let mut numbers = hall.numbers.lock().unwrap_or_else(PoisonError::into_inner);
+            let client = numbers.allot()?;
+            *hall.given.write().unwrap_or_else(PoisonError::into_inner) = numbers.given();
+            Ok((client, numbers.given().token(client, &principal)))
+        });
+        taken.await.context("the thread that takes numbers is gone")?
     }
 
     // A connection that is bound, to its end.
     async fn carry(&self, stream: Box<dyn Stream>, mut blocks: Blocks, bound: &Bound) {
         blocks.set_limit(REQUEST_LIMIT);
-        let (client, principal) = (bound.client, &*bound.principal);
+        let (client, principal) = (bound.client, &*bound.seat.principal);
         let welcome = Welcome { client, token: bound.token };
-        let outgoing = Arc::new(Outgoing::new(&bound.principal));
+        let outgoing = Arc::new(Outgoing::new(&bound.seat.principal));
         let (read, write) = tokio::io::split(stream);
         let binding = self.routes.bind(client, outgoing.clone(), &Welcome::write(&Ok(welcome)));
         let writer = outgoing.clone();
@@ -291,41 +254,58 @@ impl Hall {
         binding: u64,
         outgoing: &Outgoing,
     ) -> Option<&'static str> {
-        let mut rate = Rate::new(self.limits().rate_of_a_client, Instant::now());
+        let mut rates = Rates::new(self.limits().pace_of_a_client(), Instant::now());
         let places = Arc::new(Semaphore::new(PLACES));
         loop {
-            let silence = Duration::from_secs(self.limits().silence);
-            let block = match next(&mut blocks, &mut read, silence).await {
-                Ok(Some(block)) => block,
+            let (block, mut place) = match self.next(&mut read, &mut blocks, &mut rates, bound).await {
+                Ok(Some(next)) => next,
                 Ok(None) => return None,
                 Err(error) => return Some(reason(&error)),
             };
-            let Some(asked) = Asked::read(&block).filter(|asked| asked.is_from(bound.client, &bound.principal)) else {
+            let principal = &bound.seat.principal;
+            let Some(asked) = Asked::read(&block).filter(|asked| asked.is_from(bound.client, principal)) else {
                 return Some("a message that isn't the client's");
             };
-            if !self.picture().is_of(bound.client, &bound.principal) {
+            if !self.picture().is_of(bound.client, principal) {
                 return Some("its session is another principal's");
             }
-            self.wait(&mut rate, bound).await;
-            let units = (block.len() / UNIT + 1) as u32;
-            let place = (places.clone().acquire_owned().await.ok(), self.room.clone().acquire_many_owned(units).await.ok());
+            if place.is_empty() {
+                place.extend(self.room.clone().acquire_many_owned((block.len() / UNIT + 1) as u32).await);
+            }
+            place.extend(places.clone().acquire_owned().await);
             if !self.routes.is_bound(bound.client, binding) {
                 return Some("its client has a later one");
             }
             if self.is_let_in(&asked, bound, outgoing) {
-                self.lines.push(Message { client: bound.client, principal: bound.principal.clone(), bytes: block, place });
+                self.lines.push(Message { client: bound.client, principal: principal.clone(), bytes: block, place });
             }
         }
     }
 
-    // What comes too fast waits.
-    async fn wait(&self, rate: &mut Rate, bound: &Bound) {
+    // The next message, and the room that it has where it is large. What comes too fast waits, and what is large waits for room, before
+    // it is read.
+    async fn next(
+        &self,
+        read: &mut ReadHalf<Box<dyn Stream>>,
+        blocks: &mut Blocks,
+        rates: &mut Rates,
+        bound: &Bound,
+    ) -> io::Result<Option<(Vec<u8>, Vec<OwnedSemaphorePermit>)>> {
+        let late = |_| io::Error::from(io::ErrorKind::TimedOut);
+        let silence = Duration::from_secs(self.limits().silence);
+        let Some(length) = timeout(silence, blocks.length_of(read)).await.map_err(late)?? else {
+            return Ok(None);
+        };
         let limits = self.limits();
-        let wait = rate.take(limits.rate_of_a_client, Instant::now()).max(self.crowd().wait(&bound.principal, &limits));
+        let wait = rates.take(length, limits.pace_of_a_client(), Instant::now()).max(bound.seat.take(length, &limits));
         if !wait.is_zero() {
             self.metrics.slowed();
             sleep(wait).await;
         }
+        let room = bound.seat.room(length).await;
+        let patience = if length > SMALL { WHOLE.min(silence) } else { silence };
+        let block = timeout(patience, blocks.next_of(read)).await.map_err(late)??;
+        Ok(block.map(|block| (block, room)))
     }
 
     // A call that goes beyond a limit is answered at once.
@@ -333,22 +313,18 @@ impl Hall {
         let Some(deed) = asked.deed() else {
             return true;
         };
-        let admitted = self.picture().admit(&deed, &bound.principal, &self.limits());
+        let admitted = self.picture().admit(&deed, &bound.seat.principal, &self.limits());
         let Err(reason) = admitted else {
             return true;
         };
         self.metrics.limited();
-        info!(client = bound.client, principal = &*bound.principal, %reason, name = deed.name, "a call was refused by a limit");
+        info!(client = bound.client, principal = &*bound.seat.principal, %reason, name = deed.name, "a call was refused by a limit");
         outgoing.send(&Notice { number: deed.number, reason }.write());
         if let Some(reply) = write_store_refused(deed.client, deed.epoch, deed.number) {
             outgoing.send(&reply);
         }
         false
     }
-}
-
-async fn next(blocks: &mut Blocks, read: &mut (impl AsyncRead + Unpin), silence: Duration) -> io::Result<Option<Vec<u8>>> {
-    timeout(silence, blocks.next_of(read)).await.unwrap_or_else(|_| Err(io::ErrorKind::TimedOut.into()))
 }
 
 fn reason(error: &io::Error) -> &'static str {

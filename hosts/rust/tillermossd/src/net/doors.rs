@@ -12,10 +12,15 @@ use std::io;
 use std::os::unix::fs::{FileTypeExt, PermissionsExt};
 use std::os::unix::net::UnixStream as StdUnixStream;
 use std::path::Path;
-use std::sync::{Arc, PoisonError, RwLock};
+use std::sync::{Arc, LazyLock, PoisonError, RwLock};
 use tokio::io::{AsyncRead, AsyncWrite};
 use tokio::net::{TcpListener, TcpStream, UnixListener, UnixStream};
+use tokio::sync::Semaphore;
+use tokio::task::spawn_blocking;
 use tokio_openssl::SslStream;
+
+/// So many users are looked up at once, each by a thread that does nothing else.
+static LOOKUPS: LazyLock<Semaphore> = LazyLock::new(|| Semaphore::new(4));
 
 /// A stream of bytes to a client.
 pub trait Stream: AsyncRead + AsyncWrite + Send + Unpin {}
@@ -135,13 +140,22 @@ impl Shown {
     }
 }
 
+// The name of a user of this machine, else its number. Where users stand in a directory elsewhere that takes its time.
+async fn name_of(user: u32) -> Result<String> {
+    let turn = LOOKUPS.acquire().await?;
+    let found = spawn_blocking(move || {
+        let _turn = turn;
+        User::from_uid(Uid::from_raw(user))
+    });
+    Ok(found.await??.map_or_else(|| user.to_string(), |user| user.name))
+}
+
 impl Guest {
     /// Lets it in, as far as its greeting: the stream to it, and whom it shows.
     pub async fn come_in(self) -> Result<(Box<dyn Stream>, Shown)> {
         match self {
             Guest::Unix(stream) => {
-                let user = stream.peer_cred()?.uid();
-                let name = User::from_uid(Uid::from_raw(user))?.map_or_else(|| user.to_string(), |user| user.name);
+                let name = name_of(stream.peer_cred()?.uid()).await?;
                 Ok((Box::new(stream), Shown::of(name)))
             }
             Guest::Tls(stream, certificates) => {

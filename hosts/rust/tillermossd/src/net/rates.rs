@@ -1,4 +1,4 @@
-//! How many messages a second are taken.
+//! How much is taken a second.
 
 use std::time::{Duration, Instant};
 
@@ -16,11 +16,11 @@ impl Rate {
         Rate { left: f64::from(a_second), at: now }
     }
 
-    /// Takes one; how long to wait before it is let in.
-    pub fn take(&mut self, a_second: u32, now: Instant) -> Duration {
+    /// Takes so many; how long to wait before they are let in.
+    pub fn take(&mut self, count: u32, a_second: u32, now: Instant) -> Duration {
         let a_second = f64::from(a_second.max(1));
         let gained = now.saturating_duration_since(self.at).as_secs_f64() * a_second;
-        self.left = (self.left + gained).min(a_second) - 1.0;
+        self.left = (self.left + gained).min(a_second) - f64::from(count);
         self.at = now;
         Duration::from_secs_f64((-self.left).max(0.0) / a_second)
     }
@@ -36,7 +36,7 @@ mod tests {
         let mut rate = Rate::new(4, begin);
         let rows = [(0, 0), (0, 0), (0, 0), (0, 0), (0, 250), (0, 500), (500, 250), (9000, 0), (9000, 0)];
         for (at, wanted) in rows {
-            assert_eq!(rate.take(4, begin + Duration::from_millis(at)), Duration::from_millis(wanted), "{at}");
+            assert_eq!(rate.take(1, 4, begin + Duration::from_millis(at)), Duration::from_millis(wanted), "{at}");
         }
     }
 }
