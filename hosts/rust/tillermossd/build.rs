@@ -1,28 +1,7 @@
-//! Links the library of crates/mastership, as `rt lib` builds it, and the kit's small C library. The library lies in the folder that
-//! MASTERSHIP_LIBRARY names, else in the one of CELL_CLIENT_LIBRARY, else in crates/mastership/out. The kit is the folder that
-//! RATTLE_KIT names, else the one of the page that `rt doc` prints.
+//! Links the library of crates/mastership.
 
-use std::path::{Path, PathBuf};
-use std::process::Command;
+include!("../linking.rs");
 
 fn main() {
-    for name in ["RATTLE_KIT", "MASTERSHIP_LIBRARY", "CELL_CLIENT_LIBRARY"] {
-        println!("cargo:rerun-if-env-changed={name}");
-    }
-    let kit = std::env::var("RATTLE_KIT").unwrap_or_else(|_| kit_of_rt());
-    let made = Path::new(env!("CARGO_MANIFEST_DIR")).join("../../../crates/mastership/out");
-    let named = std::env::var_os("MASTERSHIP_LIBRARY").or_else(|| std::env::var_os("CELL_CLIENT_LIBRARY"));
-    let folder = named.map_or(made, PathBuf::from);
-    println!("cargo:rerun-if-changed={}", folder.join("libmastership.a").display());
-    println!("cargo:rustc-link-search=native={}", folder.display());
-    println!("cargo:rustc-link-lib=static=mastership");
-    println!("cargo:rustc-link-search=native={kit}/c");
-    println!("cargo:rustc-link-lib=static=libc_c");
-}
-
-fn kit_of_rt() -> String {
-    let said = Command::new("rt").arg("doc").output().expect("rt, or RATTLE_KIT, is wanted");
-    let page = String::from_utf8(said.stdout).expect("rt doc prints a path");
-    let folder = Path::new(page.trim()).parent().expect("a page stands in a folder");
-    folder.display().to_string()
+    link("mastership", "MASTERSHIP_LIBRARY", "mastership");
 }
