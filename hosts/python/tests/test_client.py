@@ -43,8 +43,9 @@ class Server(threading.Thread):
             threading.Thread(target=self.serve, args=(stream,), daemon=True).start()
 
     def close(self) -> None:
-        self.door.shutdown(socket.SHUT_RDWR)
-        self.door.close()
+        if self.door.fileno() >= 0:
+            self.door.shutdown(socket.SHUT_RDWR)
+            self.door.close()
         self.cut()
 
     def cut(self) -> None:
@@ -150,6 +151,15 @@ class WrongTokens(WithServers):
         self.assertEqual((len(only.hellos), client.session.state), (2, "live"))
         with self.assertRaises(TurnedAway):
             client.open("/ls/c/f")
+
+
+class Sent(WithServers):
+    def test_a_client_of_one_server_that_stands_by_waits_for_a_master(self):
+        gone = self.server(WELCOME)
+        gone.close()
+        server = self.server(not_master(gone.place), not_master(), WELCOME)
+        client = self.client(server)
+        self.assertEqual((client.session.state, len(server.hellos)), ("live", 3))
 
 
 class Silence(WithServers):

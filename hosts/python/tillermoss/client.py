@@ -75,7 +75,7 @@ class Client:
 
     def __init__(self, servers: str, principal: str, patience: float = 90.0, tls: Optional[ssl.SSLContext] = None):
         self.principal, self.patience, self.tls = principal, patience, tls
-        self.servers, self.told = servers.split(","), ""
+        self.servers, self.told, self.was_told = servers.split(","), "", False
         # (which of them say that they don't know this client, since one took it)
         self.denying: set = set()
         self.set_apart()
@@ -167,7 +167,7 @@ class Client:
             try:
                 return self.greet(greeting)
             except OSError:
-                if len(self.servers) == 1 and not self.told or time.monotonic() >= ends:
+                if len(self.servers) == 1 and not self.was_told or time.monotonic() >= ends:
                     raise
                 time.sleep(PAUSES[0])
 
@@ -198,6 +198,8 @@ class Client:
         if number is not None:
             self.denying.clear()
             return number, other
+        # (one that stands by says that there are others, also where it is the only one that is known)
+        self.was_told = self.was_told or other == codec.NOT_MASTER
         if told in self.servers or is_followed(told, server):
             self.told = told
         reason = codec.TURNED_AWAY[other] if other < len(codec.TURNED_AWAY) else f"reason {other}"

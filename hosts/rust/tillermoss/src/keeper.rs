@@ -61,11 +61,18 @@ pub async fn greet(reach: &Reach, hello: &Hello) -> Result<Connection, Error> {
 pub async fn greet_any(reach: &Reach, hello: &Hello, patience: Duration) -> Result<Connection, Error> {
     let begun = Instant::now();
     let mut pause = PAUSES.0;
+    // (one that stands by says that there are others, also where it is the only one that is known)
+    let mut has_several = reach.has_several();
     loop {
         match greet(reach, hello).await {
             Err(Error::TurnedAway(reason)) if !reason.is_for_now() => return Err(Error::TurnedAway(reason)),
-            Err(Error::TurnedAway(TurnedAway::NotMaster)) if begun.elapsed() < patience => pause = Keeper::rest(pause).await,
-            Err(_) if reach.has_several() && begun.elapsed() < patience => pause = Keeper::rest(pause).await,
+            Err(error) if begun.elapsed() < patience => {
+                has_several |= matches!(error, Error::TurnedAway(TurnedAway::NotMaster)) || reach.has_several();
+                if !has_several {
+                    return Err(error);
+                }
+                pause = Keeper::rest(pause).await;
+            }
             greeted => return greeted,
         }
     }

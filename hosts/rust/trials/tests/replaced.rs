@@ -57,6 +57,21 @@ fn a_replaced_server_denies_nobody() {
     std::fs::remove_dir_all(folder).unwrap();
 }
 
+// It knows the second server alone, which sends it to the first until it is master itself: that one is stopped, and answers nothing.
+#[test]
+fn a_new_client_waits_for_the_next_master() {
+    let folder = folder("sent-to-one-that-is-stopped");
+    let member = Member::start(&folder).unwrap();
+    member.make("c").unwrap();
+    let first = server(&folder, "first", &member.rows("c")).with(&["--mastership", "15"]).start().unwrap();
+    let second = server(&folder, "second", &member.rows("c")).stand_by().unwrap();
+    first.signal(Signal::SIGSTOP).unwrap();
+    let client = Client::connect(&Options::new(&second.address, "ann")).unwrap();
+    client.create("/ls/c/f", b"").unwrap();
+    drop((client, first, second, member));
+    std::fs::remove_dir_all(folder).unwrap();
+}
+
 // A server that tells whoever comes that it doesn't know him.
 fn denier() -> SocketAddr {
     let listener = TcpListener::bind("127.0.0.1:0").unwrap();
