@@ -29,8 +29,9 @@ fn link(library: &str, variable: &str, made_by: &str) -> PathBuf {
 
 // The first folder that holds such a file; where none does, the one where it would be proved.
 fn built(file: &str, made_by: &str) -> PathBuf {
-    let hosts = Path::new(env!("CARGO_MANIFEST_DIR")).join("..");
-    let proved = hosts.join(format!("../../crates/{made_by}/out"));
+    let hosts = Path::new(env!("CARGO_MANIFEST_DIR")).parent().expect("a package stands in hosts/rust");
+    let top = hosts.ancestors().nth(2).expect("hosts/rust stands in the repository");
+    let proved = top.join("crates").join(made_by).join("out");
     let named = std::env::var_os("CELL_CLIENT_LIBRARY").map(PathBuf::from);
     let folders = [named, Some(proved.clone()), Some(hosts.join("target/proved")), Some(hosts.join("target/unproved"))];
     folders.into_iter().flatten().find(|it| it.join(file).exists()).unwrap_or(proved)
