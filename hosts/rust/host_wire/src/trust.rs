@@ -1,15 +1,18 @@
 //! By what the two ends of a `tls:` know each other, in OpenSSL: what both do alike.
 
+use foreign_types::ForeignTypeRef;
 use openssl::error::ErrorStack;
 use openssl::nid::Nid;
 use openssl::pkey::PKey;
 use openssl::ssl::{SslContextBuilder, SslRef, SslVerifyMode, SslVersion};
-use openssl::x509::store::X509StoreBuilder;
+use openssl::x509::store::{X509Lookup, X509StoreBuilder};
 use openssl::x509::verify::X509VerifyFlags;
 use openssl::x509::{X509, X509Ref, X509VerifyResult};
-use std::ffi::{c_int, c_long};
+use openssl_sys::X509_FILETYPE_PEM;
+use std::ffi::{CString, c_int, c_long};
 use std::fs;
 use std::io::{self, ErrorKind};
+use std::os::unix::ffi::OsStrExt;
 use std::path::Path;
 use std::ptr;
 
@@ -21,6 +24,9 @@ const CHAIN: c_long = 16_384;
 
 /// What `SSL_CTX_set_max_cert_list` of OpenSSL's `ssl.h` stands for.
 const SET_MAX_CERT_LIST: c_int = 51;
+
+/// What `X509_LOOKUP_load_file` of OpenSSL's `x509_vfy.h` stands for.
+const FILE_LOAD: c_int = 1;
 
 fn fault(text: String) -> io::Error {
     io::Error::new(ErrorKind::InvalidInput, text)
@@ -59,17 +65,19 @@ pub fn show_by(context: &mut SslContextBuilder, certificate: &Path, key: &Path) 
     show().map_err(|_| fault(format!("the key of {} isn't that of the certificate of {}", key.display(), certificate.display())))
 }
 
-/// Wants a certificate of the other end which one of these authorities signed, or one that these did; and no other is trusted.
-/// What the other end shows has its bounds.
+/// Wants a certificate of the other end which one of these authorities signed, or one that these did; and no other is trusted. Where
+/// lists of revoked certificates are named, whoever signed it has one there that hasn't run out, and that doesn't list it. What the other
+/// end shows has its bounds.
 ///
 /// # Errors
 ///
-/// Where the file can't be read, or has no certificate.
-pub fn trust(context: &mut SslContextBuilder, authorities: &Path) -> io::Result<()> {
+/// Where a file can't be read, or has no certificate, or no list.
+pub fn trust(context: &mut SslContextBuilder, authorities: &Path, revoked: Option<&Path>) -> io::Result<()> {
     let mut store = X509StoreBuilder::new()?;
     for authority in certificates(authorities)? {
         store.add_cert(authority)?;
     }
+    revoked.into_iter().try_for_each(|lists| add_lists(&mut store, lists))?;
     // (an authority between is trusted where it is named, whoever stands above it)
     store.set_flags(X509VerifyFlags::PARTIAL_CHAIN)?;
     context.set_cert_store(store.build());
@@ -77,6 +85,25 @@ pub fn trust(context: &mut SslContextBuilder, authorities: &Path) -> io::Result<
     context.set_verify_depth(DEPTH);
     limit_chain(context);
     context.set_min_proto_version(Some(SslVersion::TLS1_2))?;
+    Ok(())
+}
+
+// The lists of revoked certificates of a file in PEM.
+fn add_lists(store: &mut X509StoreBuilder, lists: &Path) -> io::Result<()> {
+    let none = || fault(format!("{} has no lists of revoked certificates, or something else too", lists.display()));
+    // (a certificate there would be trusted)
+    if String::from_utf8_lossy(&read(lists)?).contains("CERTIFICATE-----") {
+        return Err(none());
+    }
+    let path = CString::new(lists.as_os_str().as_bytes())?;
+    let lookup = store.add_lookup(X509Lookup::file())?;
+    // SAFETY: the lookup is a live one of files, and the path is a text of C that outlives the call, which hands nothing back.
+    let read =
+        unsafe { openssl_sys::X509_LOOKUP_ctrl(lookup.as_ptr(), FILE_LOAD, path.as_ptr(), X509_FILETYPE_PEM.into(), ptr::null_mut()) };
+    if read != 1 {
+        return Err(none());
+    }
+    store.set_flags(X509VerifyFlags::CRL_CHECK)?;
     Ok(())
 }
 

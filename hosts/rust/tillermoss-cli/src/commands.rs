@@ -3,7 +3,7 @@
 use crate::faults::{Fault, tell};
 use crate::files::{acl, get, list, make_directory, put, remove, stat};
 use crate::holding::{check, elect, lock, register};
-use crate::operating::{answers, backup, locks, sessions, status_of};
+use crate::operating::{answers, backup, end, locks, sessions, status_of};
 use crate::output::write;
 use crate::waiting::Waiting;
 use crate::watching::watch;
@@ -98,6 +98,7 @@ fn operate(asker: &Asker<'_>, verb: &Verb) -> Result<(), Fault> {
     match verb {
         Verb::Sessions => sessions(&asker.wanted_admin()?, asker.output),
         Verb::Locks => locks(&asker.wanted_admin()?, asker.output),
+        Verb::End { client, principal } => end(&asker.wanted_admin()?, asker.output, *client, principal.as_deref()),
         Verb::Backup { file } => backup(&asker.wanted_admin()?, asker.output, file),
         _ => match asker.reach.admin() {
             Some(admin) => status_of(&admin, asker.output),

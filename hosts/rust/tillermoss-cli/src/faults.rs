@@ -78,7 +78,7 @@ pub fn tell(words: &Words, name: Option<&str>, fault: &Fault) {
         _ => None,
     };
     let name = name.map(str::to_owned).or(own).map(|name| format!(" {name}")).unwrap_or_default();
-    let is_operators = matches!(verb, "sessions" | "locks" | "backup" | "status");
+    let is_operators = matches!(verb, "sessions" | "locks" | "end" | "backup" | "status");
     let server = words.reach.admin().filter(|_| is_operators).unwrap_or_else(|| words.reach.server());
     say(&format!("{verb}{name} at {server}: {}", fault.reason()));
     if let Some(cure) = fault.cure() {

@@ -98,6 +98,20 @@ fn listed(clients: &[u64]) -> String {
     clients.iter().map(u64::to_string).collect::<Vec<_>>().join(",")
 }
 
+/// Ends a client, or all of a principal.
+pub fn end(admin: &str, output: Output, client: Option<u64>, principal: Option<&str>) -> Result<(), Fault> {
+    let admin = Admin::new(admin)?;
+    let ended = match (client, principal) {
+        (Some(client), _) => admin.end(client)?,
+        (None, principal) => admin.end_all(principal.unwrap_or_default())?,
+    };
+    match output {
+        Output::Text => print(ended.iter().map(|client| format!("ended {client}\n")).collect::<String>().as_bytes())?,
+        Output::Json => print_json(&json!({ "ended": ended }))?,
+    }
+    Ok(())
+}
+
 /// Takes a copy of the store.
 pub fn backup(admin: &str, output: Output, file: &Path) -> Result<(), Fault> {
     let folder = file.parent().filter(|folder| !folder.as_os_str().is_empty()).unwrap_or(Path::new("."));

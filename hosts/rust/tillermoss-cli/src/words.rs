@@ -240,6 +240,16 @@ It first says on the standard error that it watches. Where two writes come close
     Sessions,
     /// Lists the locks that aren't free: name, mode, generation, who holds it and who waits. Wants --admin
     Locks,
+    /// Ends a client, or all of a principal: they are cut off and come back no more, and their sessions end with their leases. Wants
+    /// --admin unix:PATH
+    End {
+        /// The number of the client, as sessions prints it
+        #[arg(required_unless_present = "principal", conflicts_with = "principal")]
+        client: Option<u64>,
+        /// All clients that act for this principal now
+        #[arg(long)]
+        principal: Option<String>,
+    },
     /// Takes a copy of a running server's store, for tillermossd restore. Wants --admin unix:PATH
     Backup {
         /// The copy, which isn't there yet
@@ -396,6 +406,7 @@ impl Verb {
             Verb::Status => ("status", vec![]),
             Verb::Sessions => ("sessions", vec![]),
             Verb::Locks => ("locks", vec![]),
+            Verb::End { .. } => ("end", vec![]),
             Verb::Backup { .. } => ("backup", vec![]),
             Verb::Completions { .. } => ("completions", vec![]),
         }

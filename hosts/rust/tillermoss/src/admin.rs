@@ -166,13 +166,62 @@ impl Admin {
         taken
     }
 
+    /// Ends a client: it is cut off, and comes back no more. Its session ends once its lease has run out. The server does so over a
+    /// `unix:` alone.
+    ///
+    /// ```
+    /// # let server = trials::server_of_its_own();
+    /// # let address = server.admin.as_deref().unwrap();
+    /// # use tillermoss::*;
+    /// let client = Client::connect(&Options::new(&server.address, "ann"))?;
+    /// let admin = Admin::new(address)?;
+    /// assert_eq!(admin.end(client.number())?, [client.number()]);
+    /// assert!(admin.end(u64::MAX).is_err());
+    /// # Ok::<(), Error>(())
+    /// ```
+    ///
+    /// # Errors
+    ///
+    /// Where there is no such client, or the server ends none.
+    pub fn end(&self, client: u64) -> Result<Vec<u64>, Error> {
+        self.post(&format!("/end/client/{client}"))
+    }
+
+    /// The same of all clients of a principal; which these are.
+    ///
+    /// ```
+    /// # let server = trials::server_of_its_own();
+    /// # let address = server.admin.as_deref().unwrap();
+    /// # use tillermoss::*;
+    /// let client = Client::connect(&Options::new(&server.address, "bob"))?;
+    /// let admin = Admin::new(address)?;
+    /// assert_eq!(admin.end_all("bob")?, [client.number()]);
+    /// assert!(admin.end_all("carol").is_err());
+    /// # Ok::<(), Error>(())
+    /// ```
+    ///
+    /// # Errors
+    ///
+    /// As `end`.
+    pub fn end_all(&self, principal: &str) -> Result<Vec<u64>, Error> {
+        self.post(&format!("/end/principal/{principal}"))
+    }
+
     fn run<T>(&self, asked: impl Future<Output = Result<T, Error>>) -> Result<T, Error> {
         Builder::new_current_thread().enable_all().build()?.block_on(asked)
     }
 
     fn get<T: DeserializeOwned>(&self, path: &str) -> Result<T, Error> {
+        self.read(Method::GET, path)
+    }
+
+    fn post<T: DeserializeOwned>(&self, path: &str) -> Result<T, Error> {
+        self.read(Method::POST, path)
+    }
+
+    fn read<T: DeserializeOwned>(&self, method: Method, path: &str) -> Result<T, Error> {
         let bytes = self.run(async {
-            let answer = self.ask(Method::GET, path).await?;
+            let answer = self.ask(method, path).await?;
             hyper::body::to_bytes(answer.into_body()).await.map_err(io_error)
         })?;
         serde_json::from_slice(&bytes).map_err(|error| Error::Malformed(error.to_string()))

@@ -51,7 +51,7 @@ fn config(certificate: Option<&PathBuf>, own_key: Option<&PathBuf>, authority: O
         return Err(fault("tls: wants a certificate, its key, and the server's authority".to_owned()));
     };
     let mut connector = SslConnector::builder(SslMethod::tls_client())?;
-    trust(&mut connector, authority)?;
+    trust(&mut connector, authority, None)?;
     show_by(&mut connector, certificate, own_key)?;
     Ok(connector.build())
 }

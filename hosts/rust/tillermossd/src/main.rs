@@ -10,6 +10,7 @@ mod serving;
 mod settings;
 
 use clap::Parser;
+use nix::sys::stat::{Mode, umask};
 use options::{Command, Log, Options};
 use std::io;
 use std::process::ExitCode;
@@ -18,6 +19,8 @@ use tracing_subscriber::EnvFilter;
 
 fn main() -> ExitCode {
     let options = Options::parse();
+    // (whatever is made from here on is this user's alone)
+    umask(Mode::from_bits_truncate(0o077));
     begin_log(&options);
     let done = match &options.command {
         Some(Command::Restore { copy, store }) => master::restoring::restore(copy, store),

@@ -6,6 +6,7 @@ pub(crate) mod lines;
 pub(crate) mod locks;
 pub(crate) mod numbers;
 pub(crate) mod picture;
+pub(crate) mod program;
 pub(crate) mod pulse;
 pub(crate) mod restoring;
 pub(crate) mod starts;

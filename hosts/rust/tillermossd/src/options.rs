@@ -48,6 +48,9 @@ pub struct Options {
     /// The authorities that sign the certificates of clients, in PEM
     #[arg(long)]
     pub client_ca: Option<PathBuf>,
+    /// The lists of their certificates that are revoked, in PEM: one of each authority that signs some, which SIGHUP reads again
+    #[arg(long, requires = "client_ca")]
+    pub client_crl: Option<PathBuf>,
     /// Listens with tcp: on other addresses than loopback too: nothing is encrypted there, and who connects acts for anybody
     #[arg(long)]
     pub insecure: bool,
@@ -138,7 +141,7 @@ mod tests {
 
     #[test]
     fn each_option_is_read() {
-        let line = "7 unix:/s tls:h:8 --store s --settings t --master m --first 5 --cert c --key k --client-ca a --insecure \
+        let line = "7 unix:/s tls:h:8 --store s --settings t --master m --first 5 --cert c --key k --client-ca a --client-crl r --insecure \
                     --admin unix:/a --log json --trace";
         let wanted = Options {
             listen: ["7", "unix:/s", "tls:h:8"].map(|word| word.parse().unwrap()).to_vec(),
@@ -153,6 +156,7 @@ mod tests {
             cert: Some("c".into()),
             key: Some("k".into()),
             client_ca: Some("a".into()),
+            client_crl: Some("r".into()),
             insecure: true,
             admin: Some("unix:/a".parse().unwrap()),
             log: Log::Json,

@@ -10,6 +10,7 @@ use crate::master::child::{Ending, Making, Master, Order, StoreRefused};
 use crate::master::locks::take_lock;
 use crate::master::numbers::{Epochs, Numbers};
 use crate::master::picture::Picture;
+use crate::master::program::Program;
 use crate::master::store::{self, Head, beside};
 use crate::net::connections::{Hall, take_all};
 use crate::net::doors::{Certificates, Door};
@@ -18,7 +19,6 @@ use crate::settings::Settings;
 use anyhow::{Context, Result, bail};
 use host_wire::{Address, Notice};
 use nix::sys::resource::{Resource, getrlimit, setrlimit};
-use nix::sys::stat::{Mode, umask};
 use sd_notify::NotifyState;
 use std::fs;
 use std::io::{self, Write};
@@ -62,8 +62,6 @@ struct Found {
 
 /// Serves until it is told to go, and then goes in order; or answers why it can't, or why the master is gone.
 pub fn serve(options: Options) -> Result<()> {
-    // (whatever is made from here on is this user's alone)
-    umask(Mode::from_bits_truncate(0o077));
     if let Some(place) = &options.rows {
         return serve_rows(place.clone(), options);
     }
@@ -231,12 +229,29 @@ fn look(options: &Options, path: &Path) -> Result<Found> {
     if has_store && fs::metadata(path)?.permissions().mode() & 0o077 != 0 {
         warnings.push(format!("others than its user may read {}", path.display()));
     }
+    if !has_store {
+        wanted_principals(options, &settings)?;
+    }
     numbers.note(epochs)?;
     if has_store {
         return Ok(Found { picture, numbers, settings, warnings });
     }
     store::prepare(path).with_context(|| format!("making {}", path.display()))?;
     Ok(Found { picture, numbers, settings: settings.with_secret(), warnings })
+}
+
+// A new cell that others than this machine reach trusts those whom its settings name, and nobody else.
+fn wanted_principals(options: &Options, settings: &Settings) -> Result<()> {
+    // (another tcp: isn't listened at)
+    let is_reached = |address: &Address| matches!(address, Address::Tls(_)) || (matches!(address, Address::Tcp(_)) && options.insecure);
+    match options.listen.iter().find(|address| is_reached(address) && !address.is_local()) {
+        Some(address) if !settings.has_principals() => {
+            bail!(
+                "{address}: a new cell that others than this machine reach trusts nobody; say whom in its settings, as principals = [\"ann\"]"
+            )
+        }
+        _ => Ok(()),
+    }
 }
 
 // Whether the settings are those of the store; whom they name, and its ACL doesn't.
@@ -290,7 +305,8 @@ async fn run(
     };
     let mastership = rows.as_ref().map(|rows| rows.mastership.clone());
     let hall = Arc::new(Hall::new(found.numbers, &found.settings.limits, mastership)?);
-    let making = Making { program: options.master.clone().unwrap_or_else(cellctl), store: path, rows, settings: found.settings };
+    let program = Program::new(&options.master.clone().unwrap_or_else(cellctl));
+    let making = Making { program, store: path, rows, settings: found.settings };
     let (orders, ordered) = mpsc::channel(4);
     let Some(master) = first(&making, &hall, found.picture, &mut signals.going).await? else {
         return Ok(());

@@ -156,6 +156,12 @@ impl Settings {
         self
     }
 
+    /// Whether it is said whom a new cell trusts.
+    #[must_use]
+    pub fn has_principals(&self) -> bool {
+        self.cell.contains_key("principals")
+    }
+
     /// Whether the secret that is said is the one that everybody knows.
     #[must_use]
     pub fn has_known_secret(&self) -> bool {

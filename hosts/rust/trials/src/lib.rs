@@ -28,7 +28,7 @@ pub use members::Member;
 pub use plain::{Plain, Talker, again, answer, new, start};
 pub use proxy::{Counts, Proxy};
 pub use relay::{Passing, Relay};
-pub use servers::{Kill, Server, Start, certificates, folder, free, master_program, program, server_of_its_own, with_client};
+pub use servers::{Kill, Server, Start, certificates, folder, free, master_program, program, revoke, server_of_its_own, with_client};
 pub use stops::{Kind, Stopped, stop_for};
 pub use strangers::Stranger;
 pub use workers::{Deeds, FILES, Rules, Worker, check_deeds};

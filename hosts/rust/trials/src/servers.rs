@@ -105,6 +105,17 @@ pub fn certificates(folder: &Path, principals: &[&str]) -> PathBuf {
     made
 }
 
+/// Lists these certificates of a folder as revoked, in its `revoked.pem`, with those that are listed there.
+///
+/// # Panics
+///
+/// Where it can't be written.
+pub fn revoke(certificates: &Path, principals: &[&str]) {
+    let script = Path::new(env!("CARGO_MANIFEST_DIR")).join("../../certificates");
+    let status = Command::new(script).arg(certificates).arg("--revoke").args(principals).status();
+    assert!(status.expect("hosts/certificates can be run").success(), "hosts/certificates failed");
+}
+
 impl Start {
     /// Over this store, at a free port of loopback.
     #[must_use]
@@ -183,7 +194,10 @@ impl Start {
         if self.addresses() == 0 {
             command.arg("0");
         }
-        command.args(&self.words).arg("--master").arg(master_program());
+        command.args(&self.words);
+        if !self.words.iter().any(|word| word == "--master") {
+            command.arg("--master").arg(master_program());
+        }
         match &self.rows {
             Some(rows) => command.arg("--rows").arg(rows),
             None => command.arg("--store").arg(&self.store),

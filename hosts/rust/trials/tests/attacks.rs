@@ -15,8 +15,10 @@ use std::process::{Command, Stdio};
 use std::sync::atomic::{AtomicBool, Ordering};
 use std::thread;
 use std::time::{Duration, Instant};
-use tillermoss::{Admin, Client, Error, Handle, LockMode, Mode, Options, Refusal, own_principal};
-use trials::{Kill, Master, Plain, Server, Start, Stranger, Talker, again, answer, certificates, folder, forged, messages, new, start};
+use tillermoss::{Admin, Client, Error, Handle, LockMode, Mode, Options, Refusal, Right, own_principal};
+use trials::{
+    Kill, Master, Plain, Server, Start, Stranger, Talker, again, answer, certificates, folder, forged, messages, new, revoke, start,
+};
 
 const SEED: u64 = 20_061_106;
 
@@ -762,15 +764,100 @@ fn full_disk(_: &mut Stage) -> String {
     "a write waits until there is room again".to_owned()
 }
 
+// A client by TLS, as far as it is let in within five seconds.
+fn by_tls(certificates: &Path, place: &str, principal: &str) -> Result<Client, Error> {
+    let file = |name: String| Some(certificates.join(name));
+    Client::connect(&Options {
+        certificate: file(format!("{principal}.pem")),
+        key: file(format!("{principal}.key")),
+        authority: file("ca.pem".to_owned()),
+        patience: Duration::from_secs(5),
+        ..Options::new(&place.replace("127.0.0.1", "localhost"), principal)
+    })
+}
+
+// Bob is taken out of the ACL, his certificate is revoked, and then he is ended.
+#[test]
+fn who_is_let_out_stays_out() {
+    let folder = folder("out");
+    let (store, certificates) = (folder.join("store.db"), certificates(&folder, &["ann", "bob"]));
+    revoke(&certificates, &[]);
+    let (admin, list) = (format!("unix:{}", folder.join("admin").display()), certificates.join("revoked.pem").display().to_string());
+    let start = Start::new(&store).with(&["tcp:0", "--admin", &admin, "--client-crl", &list]).tls(&certificates);
+    let server = start.settings("principals = [\"ann\", \"bob\"]\nlease = 1000\n").start().unwrap();
+    let place = &server.addresses[1];
+    let (ann, bob) = (by_tls(&certificates, place, "ann").unwrap(), by_tls(&certificates, place, "bob").unwrap());
+    let of_ann = ann.create("/ls/c/f", b"first").unwrap();
+    let of_bob = bob.open("/ls/c/f", Mode::READ.and(Mode::WRITE)).unwrap();
+    bob.acquire(of_bob, LockMode::Exclusive).unwrap();
+    let base = ann.open("/ls/c/acl/base", Mode::WRITE).unwrap();
+    ann.set(base, b"ann\n", None).unwrap();
+    // (rights are tested when a node is opened)
+    bob.set(of_bob, b"by bob", None).unwrap();
+    assert_eq!(bob.open("/ls/c/f", Mode::WRITE).unwrap_err().refusal(), Some(Refusal::Denied(Right::Write)));
+    revoke(&certificates, &["bob"]);
+    server.signal(Signal::SIGHUP).unwrap();
+    assert!(server.has_logged("the certificates were read again"));
+    assert!(by_tls(&certificates, place, "bob").is_err() && server.has_logged("certificate revoked"));
+    assert!(by_tls(&certificates, place, "ann").is_ok());
+    bob.set(of_bob, b"by bob still", None).unwrap();
+    assert!(ann.try_acquire(of_ann, LockMode::Exclusive).is_err());
+    let begun = Instant::now();
+    assert_eq!(Admin::new(&admin).unwrap().end_all("bob").unwrap(), [bob.number()]);
+    assert!(bob.set(of_bob, b"by bob after the end", None).is_err());
+    ann.acquire(of_ann, LockMode::Exclusive).unwrap();
+    println!("the lock of a client that was ended is free after {:?}", begun.elapsed());
+    assert_eq!(ann.read(of_ann).unwrap().content, b"by bob still");
+    drop((ann, bob, server));
+    fs::remove_dir_all(folder).unwrap();
+}
+
+// (at tcp: too, where it isn't his certificate that keeps him out)
+#[test]
+fn who_was_ended_is_not_let_in_by_his_number() {
+    let server = trials::server_of_its_own();
+    let admin = Admin::new(server.admin.as_deref().unwrap()).unwrap();
+    let (_connection, welcome) = Plain::greet(server.place(), &new("ann")).unwrap();
+    let hello = again("ann", welcome.unwrap());
+    let (_held, taken) = Plain::greet(server.place(), &hello).unwrap();
+    assert!(taken.is_ok());
+    let client = Client::connect(&Options { patience: Duration::from_secs(5), ..Options::new(&server.address, "ann") }).unwrap();
+    assert_eq!(admin.end_all("ann").unwrap().len(), 2);
+    assert_eq!(Plain::greet(server.place(), &hello).unwrap().1, Err(TurnedAway::WrongToken));
+    assert!(client.create("/ls/c/f", b"").is_err());
+    assert!(Plain::greet(server.place(), &new("ann")).unwrap().1.is_ok());
+    assert!(admin.end_all("nobody").unwrap_err().to_string().contains("there is no such client"));
+}
+
+// What is put in the place of its program isn't started: it may be of another version.
+#[test]
+fn masters_are_of_the_version_of_their_server() {
+    let folder = folder("program");
+    let (program, next) = (folder.join("cellctl"), folder.join("next"));
+    fs::copy(trials::master_program(), &program).unwrap();
+    let server = Start::new(&folder.join("store.db")).with(&["--master", &program.display().to_string()]).start().unwrap();
+    let mut witness = Witness::new(&server.address);
+    fs::copy("/bin/false", &next).unwrap();
+    fs::rename(&next, &program).unwrap();
+    server.kill_master().unwrap();
+    assert!(server.has_logged("another takes its place"));
+    witness.check(&server.address, "another program");
+    drop((witness, server));
+    fs::remove_dir_all(folder).unwrap();
+}
+
 #[test]
 fn an_address_that_is_not_safe_wants_a_word() {
     let folder = folder("insecure");
-    let store = folder.join("store.db");
+    let (store, settings) = (folder.join("store.db"), folder.join("settings.toml"));
+    fs::write(&settings, "principals = [\"ann\"]\n").unwrap();
+    let settings = settings.display().to_string();
     let rows: &[(&[&str], Option<&str>)] = &[
         (&["tcp:0.0.0.0:0"], Some("only with --insecure")),
         (&["tls:0"], Some("wants --cert, --key and --client-ca")),
         (&["tcp:0", "--admin", "tcp:0.0.0.0:0"], Some("only unix:PATH, or tcp: on loopback")),
-        (&["tcp:0.0.0.0:0", "--insecure"], None),
+        (&["tcp:0.0.0.0:0", "--insecure"], Some("trusts nobody")),
+        (&["tcp:0.0.0.0:0", "--insecure", "--settings", &settings], None),
     ];
     for (words, wanted) in rows {
         let started = Start::new(&store).with(words).start();

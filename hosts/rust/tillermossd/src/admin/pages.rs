@@ -12,6 +12,7 @@ use hyper::header::{CONTENT_SECURITY_POLICY, CONTENT_TYPE, HOST, HeaderValue};
 use hyper::server::conn::Http;
 use hyper::service::service_fn;
 use hyper::{Body, Method, Request, Response, StatusCode};
+use std::collections::BTreeSet;
 use std::convert::Infallible;
 use std::io;
 use std::sync::atomic::{AtomicBool, Ordering};
@@ -190,6 +191,7 @@ async fn shown(admin: &Admin, copies: &Copies, request: &Request<Body>) -> Respo
         (&Method::GET, "/sessions") => json(serde_json::to_string(&showing.sessions(usize::MAX))),
         (&Method::GET, "/locks") => json(serde_json::to_string(&showing.locks())),
         (&Method::POST, "/backup") => backup(admin, copies).await,
+        (&Method::POST, path) if path.starts_with("/end/") => end(admin, path),
         (_, "/backup") => said(StatusCode::METHOD_NOT_ALLOWED, "text/plain", "only by POST\n"),
         _ => said(StatusCode::NOT_FOUND, "text/plain", "there is no such page\n"),
     }
@@ -207,6 +209,28 @@ fn ready(showing: &Showing) -> Response<Body> {
     match showing.status().is_ready {
         true => said(StatusCode::OK, "text/plain", "ready\n"),
         false => said(StatusCode::SERVICE_UNAVAILABLE, "text/plain", "no master is up that has recovered and may write\n"),
+    }
+}
+
+// `/end/client/NUMBER` ends one, `/end/principal/NAME` all of a principal.
+fn end(admin: &Admin, path: &str) -> Response<Body> {
+    if !admin.is_private {
+        return said(StatusCode::FORBIDDEN, "text/plain", "only at --admin unix:PATH: who may open that ends clients\n");
+    }
+    let hall = &admin.showing.hall;
+    let clients: BTreeSet<u64> = match path.strip_prefix("/end/").and_then(|whom| whom.split_once('/')) {
+        Some(("client", number)) => number.parse().ok().filter(|client| hall.has(*client)).into_iter().collect(),
+        Some(("principal", name)) => hall.picture().sessions_of(name).into_iter().chain(hall.routes.of(name)).collect(),
+        _ => BTreeSet::new(),
+    };
+    if clients.is_empty() {
+        return said(StatusCode::NOT_FOUND, "text/plain", "there is no such client\n");
+    }
+    hall.end(&clients);
+    clients.iter().for_each(|client| info!(client, "an operator has ended a client"));
+    match serde_json::to_string(&clients) {
+        Ok(text) => said(StatusCode::OK, "application/json", text),
+        Err(error) => said(StatusCode::INTERNAL_SERVER_ERROR, "text/plain", error.to_string()),
     }
 }
 

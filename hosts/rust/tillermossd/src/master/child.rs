@@ -4,6 +4,7 @@ use crate::etcd::Rows;
 use crate::etcd::pipes::Kept;
 use crate::master::clock::{Clock, Probe};
 use crate::master::lines::Message;
+use crate::master::program::Program;
 use crate::master::pulse::Pulse;
 use crate::master::starts::Starts;
 use crate::master::store::{self, Identity};
@@ -81,7 +82,7 @@ pub enum Ending {
 #[derive(Clone, Debug)]
 pub struct Making {
     /// The program.
-    pub program: PathBuf,
+    pub program: Program,
     /// The file of the store, where the rows stand in one.
     pub store: PathBuf,
     /// The rows in etcd, where they stand there.
@@ -211,14 +212,14 @@ impl Making {
 
     // In a process group of its own, so that what is typed at a terminal doesn't end it before its server.
     fn spawn(&self, settings: &Path, pipes: Option<&Path>) -> Result<Child> {
-        let mut command = std::process::Command::new(&self.program);
+        let mut command = self.program.command();
         match pipes {
             Some(folder) => command.arg("serve").arg("--rows").arg(folder),
             None => command.arg("serve").arg("--store").arg(&self.store),
         };
         command.arg("--settings").arg(settings);
         command.stdin(Stdio::piped()).stdout(Stdio::piped()).process_group(0);
-        Command::from(command).kill_on_drop(true).spawn().with_context(|| format!("starting {}", self.program.display()))
+        Command::from(command).kill_on_drop(true).spawn().with_context(|| format!("starting {}", self.program.path().display()))
     }
 }
 

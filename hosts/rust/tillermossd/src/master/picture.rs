@@ -163,6 +163,12 @@ impl Picture {
         self.sessions.get(&client).is_none_or(|session| session.principal.is_empty() || *session.principal == *principal)
     }
 
+    /// The clients of a principal that have sessions.
+    #[must_use]
+    pub fn sessions_of(&self, principal: &str) -> Vec<u64> {
+        self.sessions.iter().filter(|(_, session)| *session.principal == *principal).map(|(client, _)| *client).collect()
+    }
+
     /// The name of the node of an instance.
     #[must_use]
     pub fn name(&self, instance: u64) -> Option<&str> {

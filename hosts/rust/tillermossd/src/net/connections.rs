@@ -13,6 +13,7 @@ use crate::net::routes::Routes;
 use crate::settings::Limits;
 use anyhow::{Context, Result};
 use host_wire::{Asked, Blocks, GREETING_LIMIT, Hello, Notice, REQUEST_LIMIT, Text, TurnedAway, Welcome, framed, write_store_refused};
+use std::collections::{BTreeSet, HashSet};
 use std::io;
 use std::sync::{Arc, Mutex, MutexGuard, PoisonError, RwLock};
 use std::time::{Duration, Instant};
@@ -36,6 +37,9 @@ const ROOM: usize = 64 << 20;
 
 /// So long a large message may take from when it has room until it is whole: others wait for that room.
 const WHOLE: Duration = Duration::from_secs(30);
+
+/// Why the connection of a client is cut off that an operator has ended.
+const ENDED: &str = "an operator has ended its client";
 
 /// What all connections share.
 #[derive(Debug)]
@@ -64,6 +68,8 @@ pub struct Hall {
     pub crowd: Arc<Crowd>,
     /// The mastership of this server, where others stand by.
     pub mastership: Option<Arc<Mastership>>,
+    /// The clients that operators have ended: none of their greetings is taken any more.
+    ended: Mutex<HashSet<u64>>,
 }
 
 /// Whom a connection is bound to.
@@ -106,6 +112,7 @@ impl Hall {
             lobby: Lobby::default(),
             crowd: Arc::default(),
             mastership,
+            ended: Mutex::default(),
         })
     }
 
@@ -137,6 +144,22 @@ impl Hall {
     /// How much is let in now.
     pub fn limits(&self) -> Limits {
         self.limits.read().unwrap_or_else(PoisonError::into_inner).clone()
+    }
+
+    // The clients that were ended, for one at a time.
+    fn ended(&self) -> MutexGuard<'_, HashSet<u64>> {
+        self.ended.lock().unwrap_or_else(PoisonError::into_inner)
+    }
+
+    /// Whether a client has a session or a connection.
+    pub fn has(&self, client: u64) -> bool {
+        self.picture().sessions.contains_key(&client) || self.routes.principal(client).is_some()
+    }
+
+    /// Ends clients: each is cut off, and comes back no more. Their sessions end once their leases have run out.
+    pub fn end(&self, clients: &BTreeSet<u64>) {
+        self.ended().extend(clients);
+        clients.iter().for_each(|client| _ = self.routes.cut(*client, ENDED));
     }
 
     // A connection, from its greeting to its end.
@@ -190,7 +213,8 @@ impl Hall {
             return Err(TurnedAway::OtherPrincipal);
         }
         if let Hello::Again { principal, client, token } = &hello
-            && !self.given.read().unwrap_or_else(PoisonError::into_inner).is_token(*client, principal, *token)
+            && (!self.given.read().unwrap_or_else(PoisonError::into_inner).is_token(*client, principal, *token)
+                || self.ended().contains(client))
         {
             return Err(TurnedAway::WrongToken);
         }
@@ -228,6 +252,9 @@ impl Hall {
         let outgoing = Arc::new(Outgoing::new(&bound.seat.principal));
         let (read, write) = tokio::io::split(stream);
         let binding = self.routes.bind(client, outgoing.clone(), &Welcome::write(&Ok(welcome)));
+        if self.ended().contains(&client) {
+            outgoing.cut(ENDED);
+        }
         let writer = outgoing.clone();
         tokio::spawn(async move { writer.write_all(write).await });
         let end = tokio::select! {

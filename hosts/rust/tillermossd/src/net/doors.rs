@@ -60,7 +60,7 @@ impl Certificates {
         let (Some(cert), Some(key), Some(client_ca)) = (&options.cert, &options.key, &options.client_ca) else {
             bail!("tls: wants --cert, --key and --client-ca");
         };
-        server_config(cert, key, client_ca)
+        server_config(cert, key, client_ca, options.client_crl.as_deref())
     }
 
     /// Those of the options.

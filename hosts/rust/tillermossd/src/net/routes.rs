@@ -47,6 +47,20 @@ impl Routes {
         }
     }
 
+    /// Cuts off the connection of a client; whether it had one.
+    pub fn cut(&self, client: u64, why: &'static str) -> bool {
+        let table = self.table();
+        let open = table.open.get(&client);
+        open.into_iter().for_each(|(_, outgoing)| outgoing.cut(why));
+        open.is_some()
+    }
+
+    /// The clients of a principal that have a connection.
+    pub fn of(&self, principal: &str) -> Vec<u64> {
+        let table = self.table();
+        table.open.iter().filter(|(_, (_, outgoing))| *outgoing.principal == *principal).map(|(client, _)| *client).collect()
+    }
+
     /// Whether this binding is the client's present one.
     pub fn is_bound(&self, client: u64, binding: u64) -> bool {
         self.table().open.get(&client).is_some_and(|(bound, _)| *bound == binding)

@@ -20,17 +20,17 @@ const THREADS: usize = 2;
 /// By what an etcd is known, and by what this server is known there, where it shows itself.
 pub fn client_config(authority: &Path, own: Option<(&Path, &Path)>) -> Result<Arc<Connector>> {
     let mut connector = SslConnector::builder(SslMethod::tls_client())?;
-    trust(&mut connector, authority)?;
+    trust(&mut connector, authority, None)?;
     own.into_iter().try_for_each(|(certificate, key)| show_by(&mut connector, certificate, key))?;
     Ok(Arc::new(Connector(connector.build())))
 }
 
 /// How the server shows itself, and whose certificates it takes: only a client with one of these authorities gets in. No session is
 /// taken up again: each connection shows its certificate anew.
-pub fn server_config(certificate: &Path, own_key: &Path, client_ca: &Path) -> Result<SslContext> {
+pub fn server_config(certificate: &Path, own_key: &Path, client_ca: &Path, revoked: Option<&Path>) -> Result<SslContext> {
     let mut acceptor = SslAcceptor::mozilla_intermediate_v5(SslMethod::tls_server())?;
     show_by(&mut acceptor, certificate, own_key)?;
-    trust(&mut acceptor, client_ca)?;
+    trust(&mut acceptor, client_ca, revoked)?;
     let names = X509Name::load_client_ca_file(client_ca).with_context(|| format!("reading {}", client_ca.display()))?;
     acceptor.set_client_ca_list(names);
     acceptor.set_session_cache_mode(SslSessionCacheMode::OFF);
