@@ -163,7 +163,7 @@ class Leaving(WithServer):
 
 class Forks(WithServer):
     def said_by_a_child(self, deed) -> str:
-        """What this gives in a child process, which ends behind it."""
+        """What this gives in a child process, which ends after it."""
         reading, writing = os.pipe()
         child = os.fork()
         if child == 0:

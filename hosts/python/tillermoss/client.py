@@ -71,7 +71,7 @@ def now() -> int:
 
 class Client:
     """A client that keeps its session by a thread of its own, and connects again where a connection is lost. Of several servers,
-    with commas between, it goes to the one that is master. In a child process, behind `fork`, it is void: connect anew there."""
+    with commas between, it goes to the one that is master. In a child process, after `fork`, it is void: connect anew there."""
 
     def __init__(self, servers: str, principal: str, patience: float = 90.0, tls: Optional[ssl.SSLContext] = None):
         self.principal, self.patience, self.tls = principal, patience, tls

@@ -15,7 +15,7 @@ WRITING = 10.0
 ANSWER_PAUSES = 200, 10_000
 PACE = 20
 KEPT_LONG = 20_000
-# So long behind the end of its lease a client of several servers waits for an answer before it tries another.
+# So long after the end of its lease a client of several servers waits for an answer before it tries another.
 SILENCE = 3_000
 
 

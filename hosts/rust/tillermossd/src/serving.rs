@@ -335,7 +335,8 @@ async fn first(making: &Making, hall: &Arc<Hall>, reading: Reading, going: &mut 
         tokio::select! {
             biased;
             () = going.wait() => return Ok(None),
-            _ = beats.tick() => drop(sd_notify::notify(false, &[NotifyState::Watchdog])),
+            // (one that stood by has said that it is ready)
+            _ = beats.tick(), if making.rows.is_some() => drop(sd_notify::notify(false, &[NotifyState::Watchdog])),
             master = &mut coming => break master?,
         }
     };

@@ -52,7 +52,7 @@ impl Clock {
             return;
         }
         self.tell(now);
-        // (behind a stop it stands until what came is handed on. Where each reading is late it goes on: else it stood for good)
+        // (after a stop it stands until what came is handed on. Where each reading is late it goes on: else it stood for good)
         let is_late = now.saturating_duration_since(self.read) > STEP;
         self.stands = is_late && !self.is_late;
         (self.is_late, self.base, self.read) = (is_late, self.told, now);
@@ -73,7 +73,7 @@ impl Clock {
     }
 }
 
-/// By what a server knows that it has read what came: a byte that it sends to itself over a socket, behind all that waits in others.
+/// By what a server knows that it has read what came: a byte that it sends to itself over a socket, after all that waits in others.
 #[derive(Debug)]
 pub struct Probe {
     stream: UnixStream,
