@@ -1,0 +1,3 @@
+module tillermoss
+
+go 1.19
