@@ -284,6 +284,9 @@ uint32_t cell_client_read(struct client_exports *client, uint64_t now, uint64_t 
  * anything else: then length and room are as they were, and cell_client_read tells what to do. No step: nothing changes, no time is
  * noted, and the message, the lines and the content of the last step stay. So where the room was too small the same call again, with
  * `length` bytes of room, has it. It takes no memory; it costs a look-up of the handle, one of its name, and the copy.
+ *
+ * What it answered holds until the next step, while the lease runs. Who keeps it, as for other threads, forgets it before that step
+ * is made: after the message of a step, a Beat or a Leave, the master may change what was answered.
  */
 uint32_t cell_client_hit(struct client_exports *client, uint64_t now, uint64_t handle, uint8_t *room, size_t room_length, size_t *length);
 

@@ -387,3 +387,92 @@ impl State {
         self.watchers.retain(|watcher| watcher.handle != handle);
     }
 }
+
+#[cfg(test)]
+mod tests {
+    use super::*;
+    use std::io;
+    use std::pin::Pin;
+    use std::task::{Context, Poll};
+    use tokio::io::AsyncWrite;
+    use trials::Master;
+
+    const CLIENT: u64 = 7;
+
+    // What went out, each message with whether what a viewer had read stood still then.
+    type Sent = Arc<Mutex<Vec<(bool, Vec<u8>)>>>;
+
+    /// A stream that keeps what is written.
+    struct Watching {
+        core: Arc<Core>,
+        mark: Arc<Mutex<Mark>>,
+        sent: Sent,
+    }
+
+    impl AsyncWrite for Watching {
+        fn poll_write(self: Pin<&mut Self>, _: &mut Context<'_>, bytes: &[u8]) -> Poll<io::Result<usize>> {
+            let stood = self.core.stands_as(*self.mark.lock().unwrap(), clock::now());
+            // (in front of each message stands how long it is, in four bytes)
+            self.sent.lock().unwrap().push((stood, bytes[4..].to_vec()));
+            Poll::Ready(Ok(bytes.len()))
+        }
+
+        fn poll_flush(self: Pin<&mut Self>, _: &mut Context<'_>) -> Poll<io::Result<()>> {
+            Poll::Ready(Ok(()))
+        }
+
+        fn poll_shutdown(self: Pin<&mut Self>, _: &mut Context<'_>) -> Poll<io::Result<()>> {
+            Poll::Ready(Ok(()))
+        }
+    }
+
+    /// A client over such a stream, and its master.
+    struct Stage {
+        core: Arc<Core>,
+        mark: Arc<Mutex<Mark>>,
+        sent: Sent,
+        master: Master,
+    }
+
+    impl Stage {
+        fn new() -> Stage {
+            let core = Arc::new(Core::new(Library::open(CLIENT, "ann").unwrap()));
+            let (mark, sent) = (Arc::new(Mutex::new(Mark::NEVER)), Arc::default());
+            let stream = Watching { core: Arc::clone(&core), mark: Arc::clone(&mark), sent: Arc::clone(&sent) };
+            core.lock().connect(Arc::new(Outgoing::new(Box::new(stream))));
+            Stage { core, mark, sent, master: Master::start().unwrap() }
+        }
+
+        // A viewer reads now.
+        fn read(&self) {
+            *self.mark.lock().unwrap() = self.core.lock().mark();
+        }
+
+        // The master answers what went out, and the client hears it. Whether what was read stood still when it went out.
+        fn answer(&mut self) -> bool {
+            let (stood, message) = self.sent.lock().unwrap().pop().unwrap();
+            for (_, said) in self.master.ask(clock::now(), &message).unwrap() {
+                self.core.lock().give(&said);
+            }
+            stood
+        }
+    }
+
+    #[test]
+    fn what_a_viewer_read_ends_before_a_message_goes_out() {
+        let mut stage = Stage::new();
+        stage.core.lock().beat();
+        stage.answer();
+        stage.read();
+        assert!(stage.core.stands_as(*stage.mark.lock().unwrap(), clock::now()));
+        stage.core.lock().beat();
+        assert!(!stage.answer(), "a Beat");
+        stage.read();
+        assert!(matches!(stage.core.lock().call(&Call::Leave, None), Ok(Tried::Sent(_))));
+        stage.core.lock().send_again();
+        let again = stage.sent.lock().unwrap().pop().unwrap();
+        assert!(!again.0, "a Leave that goes out again");
+        assert!(!stage.answer(), "a Leave");
+        assert!(!stage.core.stands_as(*stage.mark.lock().unwrap(), clock::now()));
+    }
+}
