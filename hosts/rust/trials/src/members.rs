@@ -1,6 +1,8 @@
 //! An etcd of one member, for trials of servers whose rows stand there.
 
 use crate::servers::{free, master_program, program};
+use nix::sys::signal::{Signal, kill};
+use nix::unistd::Pid;
 use std::fs;
 use std::io;
 use std::net::{SocketAddr, TcpStream};
@@ -79,6 +81,21 @@ impl Member {
             &["copy", "--from", &store, "--to", &self.rows(cell), "--master", &master_program().display().to_string()],
         )?;
         fs::remove_file(store)
+    }
+}
+
+impl Member {
+    /// Lets it hang while this is done: who connects is taken by the system, and isn't answered.
+    ///
+    /// # Errors
+    ///
+    /// Where it is gone.
+    pub fn hang<T>(&self, during: impl FnOnce() -> T) -> io::Result<T> {
+        let process = Pid::from_raw(self.child.id().cast_signed());
+        kill(process, Signal::SIGSTOP)?;
+        let done = during();
+        kill(process, Signal::SIGCONT)?;
+        Ok(done)
     }
 }
 

@@ -17,7 +17,8 @@ use std::thread;
 use std::time::{Duration, Instant};
 use tillermoss::{Admin, Client, Error, Handle, LockMode, Mode, Options, Refusal, Right, own_principal};
 use trials::{
-    Kill, Master, Plain, Server, Start, Stranger, Talker, again, answer, certificates, folder, forged, messages, new, revoke, start,
+    Kill, Master, Member, Plain, Server, Start, Stranger, Talker, again, answer, certificates, folder, forged, free, messages, new, revoke,
+    start,
 };
 
 const SEED: u64 = 20_061_106;
@@ -827,6 +828,43 @@ fn who_was_ended_is_not_let_in_by_his_number() {
     assert!(client.create("/ls/c/f", b"").is_err());
     assert!(Plain::greet(server.place(), &new("ann")).unwrap().1.is_ok());
     assert!(admin.end_all("nobody").unwrap_err().to_string().contains("there is no such client"));
+}
+
+// A server over an etcd that hangs, and eight that greet: the next number has to be written there. Who is connected reads meanwhile.
+#[test]
+fn who_waits_for_a_number_holds_up_nobody() {
+    let folder = folder("hangs");
+    let member = Member::start(&folder).unwrap();
+    member.make("c").unwrap();
+    let start = Start::new(&folder.join("server")).with(&[&format!("tcp:{}", free()), "--mastership", "30"]);
+    let server = start.rows(&member.rows("c")).start().unwrap();
+    let place = server.place();
+    let mut other = Plain::begin(place, "bob").unwrap();
+    let handle = other.open("/ls/c/read", b"").unwrap();
+    // (a hundred are written down at once, and the next is the first of another hundred)
+    let held = loop {
+        let welcome = Plain::greet(place, &new("ann")).unwrap().1.unwrap();
+        if welcome.client.is_multiple_of(100) {
+            break welcome;
+        }
+    };
+    let hung = member.hang(|| {
+        thread::scope(|scope| {
+            (0..8).for_each(|_| drop(scope.spawn(|| Plain::greet(place, &new("ann")))));
+            thread::sleep(Duration::from_millis(200));
+            let begun = Instant::now();
+            let (read, count) = longest_read(&mut other, handle, || begun.elapsed() > Duration::from_secs(2));
+            let again_at = Instant::now();
+            let is_back = Plain::greet(place, &again("ann", held)).unwrap().1.is_ok();
+            (read, count, is_back, again_at.elapsed())
+        })
+    });
+    let (read, count, is_back, back) = hung.unwrap();
+    println!("an etcd that hangs: the longest of {count} reads {read:?}; a client came back in {back:?}");
+    assert!(is_back && count > 10 && read.max(back) < Duration::from_secs(1));
+    assert!(Plain::greet(place, &new("ann")).unwrap().1.is_ok());
+    drop((other, server, member));
+    fs::remove_dir_all(folder).unwrap();
 }
 
 // What is put in the place of its program isn't started: it may be of another version.

@@ -170,6 +170,12 @@ impl Drop for Seat {
 #[cfg(test)]
 mod tests {
     use super::*;
+    use tokio::time::timeout;
+
+    // Of how many parts the room is that a block of so many bytes gets at once.
+    async fn parts(seat: &Seat, bytes: usize) -> Option<usize> {
+        timeout(Duration::from_millis(20), seat.room(bytes)).await.ok().map(|room| room.len())
+    }
 
     #[tokio::test]
     async fn a_principal_has_its_own_room_and_no_more() {
@@ -182,12 +188,11 @@ mod tests {
         for _ in 0..7 {
             held.push(ann.room(large).await);
         }
-        let is_there = |seat: &'_ Seat| tokio::time::timeout(Duration::from_millis(20), seat.room(large));
-        assert!(is_there(&other_ann).await.is_err());
-        assert!(is_there(&bob).await.is_ok());
+        assert_eq!(parts(&other_ann, large).await, None);
+        assert_eq!(parts(&bob, large).await, Some(2));
         assert!(other_ann.room(SMALL).await.is_empty());
         held.pop();
-        assert_eq!(is_there(&other_ann).await.unwrap().len(), 2);
+        assert_eq!(parts(&other_ann, large).await, Some(2));
         drop((ann, other_ann));
         assert_eq!((crowd.count(), crowd.state().principals.len()), (1, 1));
     }
