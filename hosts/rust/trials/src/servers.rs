@@ -246,7 +246,8 @@ impl Start {
         let addresses = self.listens();
         let address = addresses.first().cloned().ok_or_else(|| io::Error::other("no address is among the words"))?;
         let admin = self.words.iter().position(|word| word == "--admin").and_then(|at| self.words.get(at + 1).cloned());
-        Ok(Server { child, address, addresses, admin, log: self.log.clone(), disk: None })
+        let admins = admin.iter().cloned().collect();
+        Ok(Server { child, address, addresses, admin, admins, log: self.log.clone(), disk: None })
     }
 
     /// Starts it, and waits until it listens.
