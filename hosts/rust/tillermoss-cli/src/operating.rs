@@ -117,8 +117,7 @@ fn listed(clients: &[u64]) -> String {
 }
 
 /// Ends a client, or all of a principal.
-pub fn end(admin: &str, output: Output, client: Option<u64>, principal: Option<&str>) -> Result<(), Fault> {
-    let admin = Admin::new(admin)?;
+pub fn end(admin: &Admin, output: Output, client: Option<u64>, principal: Option<&str>) -> Result<(), Fault> {
     let ended = match (client, principal) {
         (Some(client), _) => admin.end(client)?,
         (None, principal) => admin.end_all(principal.unwrap_or_default())?,
