@@ -5,8 +5,8 @@ use std::process::Command;
 
 // Links lib`library`.a, which the crate `made_by` makes, and the kit's small C library, by which it reaches malloc, realloc and free.
 // It gives back the folder of the library: the one that `variable` names; else that of CELL_CLIENT_LIBRARY, if it holds the library;
-// else the first that does of crates/*/out (proved, by `rt ci`), target/proved (by hosts/rust/build) and target/unproved (by
-// hosts/rust/build --try). The kit is the folder that RATTLE_KIT names, else the one of the page that `rt doc` prints.
+// else the first that does of crates/*/out (proved, by `rt ci`), target/proved (by hosts/rust/build), target/unproved (by
+// hosts/rust/build --try) and /usr/lib/tillermoss (by the package). The kit is the folder that RATTLE_KIT names, else the one of the page that `rt doc` prints.
 fn link(library: &str, variable: &str, made_by: &str) -> PathBuf {
     for name in ["RATTLE_KIT", variable, "CELL_CLIENT_LIBRARY"] {
         println!("cargo:rerun-if-env-changed={name}");
@@ -21,8 +21,11 @@ fn link(library: &str, variable: &str, made_by: &str) -> PathBuf {
     println!("cargo:rerun-if-changed={}", folder.join(&file).display());
     println!("cargo:rustc-link-search=native={}", folder.display());
     println!("cargo:rustc-link-lib=static={library}");
-    let kit = std::env::var("RATTLE_KIT").unwrap_or_else(|_| kit_of_rt());
-    println!("cargo:rustc-link-search=native={kit}/c");
+    // (the package has the kit's library beside this one)
+    if !folder.join("liblibc_c.a").exists() {
+        let kit = std::env::var("RATTLE_KIT").unwrap_or_else(|_| kit_of_rt());
+        println!("cargo:rustc-link-search=native={kit}/c");
+    }
     println!("cargo:rustc-link-lib=static=libc_c");
     folder
 }
@@ -33,7 +36,7 @@ fn built(file: &str, made_by: &str) -> PathBuf {
     let top = hosts.ancestors().nth(2).expect("hosts/rust stands in the repository");
     let proved = top.join("crates").join(made_by).join("out");
     let named = std::env::var_os("CELL_CLIENT_LIBRARY").map(PathBuf::from);
-    let folders = [named, Some(proved.clone()), Some(hosts.join("target/proved")), Some(hosts.join("target/unproved"))];
+    let folders = [named, Some(proved.clone()), Some(hosts.join("target/proved")), Some(hosts.join("target/unproved")), Some("/usr/lib/tillermoss".into())];
     folders.into_iter().flatten().find(|it| it.join(file).exists()).unwrap_or(proved)
 }
 

@@ -14,6 +14,7 @@ mod greetings;
 mod heard;
 mod library;
 mod notices;
+mod refusals;
 pub mod rows;
 mod said;
 mod shown;
@@ -27,8 +28,9 @@ pub use fields::Fields;
 pub use greetings::{GREETING_LIMIT, Hello, Malformed, TurnedAway, Welcome};
 pub use heard::{Frame, Heard, Locked, Printed, Put, Text, Told};
 pub use notices::Notice;
+pub use refusals::refusal_name;
 pub use said::{Answer, Said, write_store_refused};
-pub use shown::{LockShown, NodeShown, SessionShown, Shown, Status, WaitShown};
+pub use shown::{LockShown, NodeShown, RecoveryShown, SessionShown, Shown, Status, WaitShown};
 
 /// The longest block that a client sends, in bytes: a frame that carries it to the master has at most 1,048,576, ten of them
 /// before the message.

@@ -31,6 +31,20 @@ pub struct Status {
     pub changes_waiting: usize,
     /// How many connections have greeted.
     pub connections: usize,
+    /// What a master that came up waits for before it changes anything; None where it has recovered.
+    #[serde(default)]
+    pub recovery: Option<RecoveryShown>,
+}
+
+/// What a recovery waits for.
+#[derive(Clone, Debug, Default, PartialEq, Eq, Serialize, Deserialize)]
+pub struct RecoveryShown {
+    /// The clients of before that weren't heard of yet; the first hundred.
+    pub waits_for: Vec<SessionShown>,
+    /// How many these are.
+    pub count: usize,
+    /// So many milliseconds it lasts at most: then their sessions end.
+    pub left: u64,
 }
 
 /// A session that is live.

@@ -10,7 +10,7 @@ use crate::watching::watch;
 use crate::words::{Output, Reach, Verb, Words};
 use clap::CommandFactory;
 use host_wire::is_name;
-use tillermoss::{Client, Error};
+use tillermoss::{Admin, Client, Error};
 
 /// Who asks: where, and how answers are printed.
 pub struct Asker<'a> {
@@ -59,8 +59,8 @@ impl Asker<'_> {
         Ok(status)
     }
 
-    fn wanted_admin(&self) -> Result<String, Fault> {
-        self.reach.admin().ok_or(Fault::Admin)
+    fn operators(&self) -> Result<Admin, Fault> {
+        self.reach.operators()?.ok_or(Fault::Admin)
     }
 }
 
@@ -96,11 +96,11 @@ pub fn run(words: &Words) -> Result<u8, Fault> {
 
 fn operate(asker: &Asker<'_>, verb: &Verb) -> Result<(), Fault> {
     match verb {
-        Verb::Sessions => sessions(&asker.wanted_admin()?, asker.output),
-        Verb::Locks => locks(&asker.wanted_admin()?, asker.output),
-        Verb::End { client, principal } => end(&asker.wanted_admin()?, asker.output, *client, principal.as_deref()),
-        Verb::Backup { file } => backup(&asker.wanted_admin()?, asker.output, file),
-        _ => match asker.reach.admin() {
+        Verb::Sessions => sessions(&asker.operators()?, asker.output),
+        Verb::Locks => locks(&asker.operators()?, asker.output),
+        Verb::End { client, principal } => end(&asker.operators()?, asker.output, *client, principal.as_deref()),
+        Verb::Backup { file } => backup(&asker.operators()?, asker.output, file),
+        _ => match asker.reach.operators()? {
             Some(admin) => status_of(&admin, asker.output),
             None => answers(asker),
         },

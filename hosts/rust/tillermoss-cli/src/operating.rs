@@ -7,7 +7,7 @@ use crate::words::Output;
 use serde_json::json;
 use std::path::Path;
 use std::time::Instant;
-use tillermoss::{Admin, LockShown, Mode, SessionShown, Status};
+use tillermoss::{Admin, LockShown, Mode, RecoveryShown, SessionShown, Status};
 
 /// How long a session takes to begin, and an answer to come.
 pub fn answers(asker: &Asker<'_>) -> Result<(), Fault> {
@@ -31,8 +31,8 @@ pub fn answers(asker: &Asker<'_>) -> Result<(), Fault> {
 }
 
 /// How the server stands.
-pub fn status_of(admin: &str, output: Output) -> Result<(), Fault> {
-    let status = Admin::new(admin)?.status()?;
+pub fn status_of(admin: &Admin, output: Output) -> Result<(), Fault> {
+    let status = admin.status()?;
     match output {
         Output::Text => print(status_text(&status).as_bytes())?,
         Output::Json => print_json(&json!(status))?,
@@ -54,14 +54,32 @@ fn status_text(status: &Status) -> String {
         format!("rights {}", status.rights),
         format!("changes-waiting {}", status.changes_waiting),
     ];
+    if let Some(recovery) = &status.recovery {
+        lines.push(format!("recovering {}", recovering(recovery)));
+    }
     lines.extend(status.listening.iter().map(|address| format!("listening {address}")));
     lines.extend(status.warnings.iter().map(|warning| format!("warning {warning}")));
     lines.join("\n")
 }
 
+// Whom a master that came up waits for, and until when at the latest.
+fn recovering(recovery: &RecoveryShown) -> String {
+    let named = recovery.waits_for.iter().map(|session| format!("client {} ({})", session.client, session.principal));
+    let mut named: Vec<String> = named.collect();
+    if recovery.count > named.len() {
+        named.push(format!("{} more", recovery.count - named.len()));
+    }
+    let seconds = recovery.left.div_ceil(1000);
+    format!(
+        "for {} s at most, until it has heard of {}",
+        seconds,
+        if named.is_empty() { "nobody else".to_owned() } else { named.join(", ") }
+    )
+}
+
 /// The live sessions, one a line.
-pub fn sessions(admin: &str, output: Output) -> Result<(), Fault> {
-    let sessions = Admin::new(admin)?.sessions()?;
+pub fn sessions(admin: &Admin, output: Output) -> Result<(), Fault> {
+    let sessions = admin.sessions()?;
     match output {
         Output::Text => write(sessions.iter().map(session_line).collect::<String>().as_bytes())?,
         Output::Json => print_json(&json!(sessions))?,
@@ -76,8 +94,8 @@ fn session_line(session: &SessionShown) -> String {
 }
 
 /// The locks that aren't free, one a line.
-pub fn locks(admin: &str, output: Output) -> Result<(), Fault> {
-    let locks = Admin::new(admin)?.locks()?;
+pub fn locks(admin: &Admin, output: Output) -> Result<(), Fault> {
+    let locks = admin.locks()?;
     match output {
         Output::Text => write(locks.iter().map(lock_line).collect::<String>().as_bytes())?,
         Output::Json => print_json(&json!(locks))?,
@@ -99,8 +117,7 @@ fn listed(clients: &[u64]) -> String {
 }
 
 /// Ends a client, or all of a principal.
-pub fn end(admin: &str, output: Output, client: Option<u64>, principal: Option<&str>) -> Result<(), Fault> {
-    let admin = Admin::new(admin)?;
+pub fn end(admin: &Admin, output: Output, client: Option<u64>, principal: Option<&str>) -> Result<(), Fault> {
     let ended = match (client, principal) {
         (Some(client), _) => admin.end(client)?,
         (None, principal) => admin.end_all(principal.unwrap_or_default())?,
@@ -113,7 +130,7 @@ pub fn end(admin: &str, output: Output, client: Option<u64>, principal: Option<&
 }
 
 /// Takes a copy of the store.
-pub fn backup(admin: &str, output: Output, file: &Path) -> Result<(), Fault> {
+pub fn backup(admin: &Admin, output: Output, file: &Path) -> Result<(), Fault> {
     let folder = file.parent().filter(|folder| !folder.as_os_str().is_empty()).unwrap_or(Path::new("."));
     if file.symlink_metadata().is_ok() {
         return Err(Fault::Copy(file.to_owned(), "is there already"));
@@ -121,7 +138,7 @@ pub fn backup(admin: &str, output: Output, file: &Path) -> Result<(), Fault> {
     if !folder.is_dir() {
         return Err(Fault::Copy(file.to_owned(), "its folder isn't there"));
     }
-    let bytes = Admin::new(admin)?.backup(file)?;
+    let bytes = admin.backup(file)?;
     match output {
         Output::Text => print(format!("{bytes} bytes").as_bytes())?,
         Output::Json => print_json(&json!({ "file": file.display().to_string(), "bytes": bytes }))?,
@@ -143,5 +160,12 @@ mod tests {
         assert_eq!(lock_line(&lock), "/ls/c/l exclusive generation 2 held by 3 waited for by 4,5\n");
         let closed = LockShown { holders: vec![], waiters: vec![], is_shared: true, ..lock };
         assert_eq!(lock_line(&closed), "/ls/c/l shared generation 2 held by nobody waited for by nobody\n");
+    }
+
+    #[test]
+    fn a_recovery_names_whom_it_waits_for() {
+        let session = |client| SessionShown { client, principal: "ann".to_owned(), is_connected: false, lease_left: None };
+        let recovery = RecoveryShown { waits_for: vec![session(3), session(4)], count: 7, left: 12_001 };
+        assert_eq!(recovering(&recovery), "for 13 s at most, until it has heard of client 3 (ann), client 4 (ann), 5 more");
     }
 }

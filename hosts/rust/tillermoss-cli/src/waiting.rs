@@ -24,10 +24,11 @@ impl Waiting {
     pub fn begin(reach: &Reach, what: &str) -> Waiting {
         let (done, is_done) = channel();
         let client = Arc::new(AtomicU64::new(0));
-        let (own, admin, what) = (client.clone(), reach.admin(), what.to_owned());
+        // (without an address for operators it says what it knows by itself)
+        let (own, admin, what) = (client.clone(), reach.operators().ok().flatten(), what.to_owned());
         let server = reach.server();
         // (it asks an operators' address, which may take long itself: nobody waits for it)
-        thread::spawn(move || follow(&is_done, &own, admin.as_deref(), &server, &what));
+        thread::spawn(move || follow(&is_done, &own, admin.as_ref(), &server, &what));
         Waiting { client, _done: done }
     }
 
@@ -37,11 +38,11 @@ impl Waiting {
     }
 }
 
-fn follow(is_done: &Receiver<()>, client: &AtomicU64, admin: Option<&str>, server: &str, what: &str) {
+fn follow(is_done: &Receiver<()>, client: &AtomicU64, admin: Option<&Admin>, server: &str, what: &str) {
     let mut told = String::new();
     while let Err(RecvTimeoutError::Timeout) = is_done.recv_timeout(AWHILE) {
         let client = client.load(Ordering::SeqCst);
-        let shown = admin.and_then(|admin| Admin::new(admin).and_then(|admin| admin.all()).ok());
+        let shown = admin.and_then(|admin| admin.all().ok());
         let now = reason(shown.as_ref(), client, server);
         if matches!(is_done.try_recv(), Err(TryRecvError::Empty)) && now != told {
             say(&format!("{what} waits: {now}"));
@@ -59,7 +60,15 @@ fn reason(shown: Option<&Shown>, client: u64, server: &str) -> String {
         };
     };
     if !shown.status.is_ready {
-        return "a master comes up, and waits for the clients of before".to_owned();
+        let awaited = shown.status.recovery.as_ref().filter(|recovery| !recovery.waits_for.is_empty());
+        return awaited.map_or("a master comes up, and waits for the clients of before".to_owned(), |recovery| {
+            let clients: Vec<u64> = recovery.waits_for.iter().map(|session| session.client).collect();
+            format!(
+                "a master came up, which waits for {} s at most for {}",
+                recovery.left.div_ceil(1000),
+                named(&clients, &recovery.waits_for)
+            )
+        });
     }
     let found = shown.waits.iter().find(|wait| wait.client == client);
     match found {

@@ -2,10 +2,11 @@
 
 use clap::{Args, Parser, Subcommand, ValueEnum};
 use std::ffi::OsString;
+use std::fs;
 use std::os::unix::net::UnixStream;
 use std::path::{Path, PathBuf};
 use std::time::Duration;
-use tillermoss::{Options, own_principal};
+use tillermoss::{Admin, Error, Options, own_principal};
 
 /// What stands behind the options and the commands.
 const STATUSES: &str = "\
@@ -85,6 +86,9 @@ pub struct Reach {
     /// service of this machine, where no --server is named
     #[arg(long, global = true, env = "TILLERMOSS_ADMIN", value_name = "ADDRESS")]
     admin: Option<String>,
+    /// Beyond this machine, a file with the token of operators
+    #[arg(long, global = true, env = "TILLERMOSS_ADMIN_TOKEN", value_name = "FILE")]
+    admin_token: Option<PathBuf>,
     /// The cell of names that don't begin with /
     #[arg(long, global = true, env = "TILLERMOSS_CELL", default_value = "c")]
     pub cell: String,
@@ -108,6 +112,18 @@ impl Reach {
     pub fn admin(&self) -> Option<String> {
         let is_open = || self.server.is_none() && UnixStream::connect(OPERATORS).is_ok();
         self.admin.clone().or_else(|| is_open().then(|| format!("unix:{OPERATORS}")))
+    }
+
+    /// The same, as what it is asked by; None where it isn't known.
+    pub fn operators(&self) -> Result<Option<Admin>, Error> {
+        let Some(admin) = self.admin() else {
+            return Ok(None);
+        };
+        let admin = Admin::new(&admin)?;
+        Ok(Some(match &self.admin_token {
+            Some(file) => admin.with_token(fs::read_to_string(file)?.trim()),
+            None => admin,
+        }))
     }
 
     /// How a client is connected.

@@ -32,6 +32,7 @@ const PATIENCE: Duration = Duration::from_secs(60);
 #[derive(Clone, Debug)]
 pub struct Admin {
     address: Address,
+    token: Option<String>,
 }
 
 fn io_error(error: hyper::Error) -> Error {
@@ -52,9 +53,21 @@ impl Admin {
     /// Where that is no such address. Nothing is connected yet.
     pub fn new(address: &str) -> Result<Admin, Error> {
         match address.parse() {
-            Ok(address @ (Address::Unix(_) | Address::Tcp(_))) => Ok(Admin { address }),
+            Ok(address @ (Address::Unix(_) | Address::Tcp(_))) => Ok(Admin { address, token: None }),
             _ => Err(io::Error::new(ErrorKind::InvalidInput, format!("{address}: not unix:PATH or tcp:HOST:PORT")).into()),
         }
+    }
+
+    /// The same, which shows this token: a server beyond this machine wants it (`tillermossd --admin-token`).
+    ///
+    /// ```
+    /// # use tillermoss::Admin;
+    /// let admin = Admin::new("tcp:cell.example:7172")?.with_token("0123456789abcdef");
+    /// # Ok::<(), tillermoss::Error>(())
+    /// ```
+    #[must_use]
+    pub fn with_token(self, token: &str) -> Admin {
+        Admin { token: Some(token.to_owned()), ..self }
     }
 
     /// How the server stands.
@@ -228,7 +241,11 @@ impl Admin {
     }
 
     async fn ask(&self, method: Method, path: &str) -> Result<Response<Body>, Error> {
-        let request = Request::builder().method(method).uri(path).header("host", "localhost").body(Body::empty());
+        let mut request = Request::builder().method(method).uri(path).header("host", "localhost");
+        if let Some(token) = &self.token {
+            request = request.header("authorization", format!("Bearer {token}"));
+        }
+        let request = request.body(Body::empty());
         let request = request.map_err(io::Error::other)?;
         let answered = timeout(PATIENCE, self.send(request));
         let answer = answered.await.unwrap_or_else(|_| Err(io::Error::from(ErrorKind::TimedOut).into()))?;

@@ -100,7 +100,7 @@ pub use host_wire::TurnedAway;
 /// assert_eq!((nodes.last().unwrap().name.as_str(), &shown.waits[..]), ("/ls/c/f", &[] as &[WaitShown]));
 /// # Ok::<(), Error>(())
 /// ```
-pub use host_wire::{NodeShown, Shown, WaitShown};
+pub use host_wire::{NodeShown, RecoveryShown, Shown, WaitShown};
 pub use nodes::{Kind, LockMode, Mode, Right, Stat, View};
 pub use reaching::own_principal;
 pub use refusals::Refusal;

@@ -2,4 +2,5 @@
 
 pub(crate) mod metrics;
 pub(crate) mod pages;
+pub(crate) mod processes;
 pub(crate) mod showing;

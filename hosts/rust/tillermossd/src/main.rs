@@ -2,6 +2,7 @@
 //! it.
 
 mod admin;
+mod configuration;
 mod etcd;
 mod master;
 mod net;
@@ -9,16 +10,17 @@ mod options;
 mod serving;
 mod settings;
 
-use clap::Parser;
+use clap::error::ErrorKind;
+use clap::{CommandFactory, Parser};
 use nix::sys::stat::{Mode, umask};
 use options::{Command, Log, Options};
-use std::io;
+use std::io::{self, Write};
 use std::process::ExitCode;
 use tracing::error;
 use tracing_subscriber::EnvFilter;
 
 fn main() -> ExitCode {
-    let options = Options::parse();
+    let options = read();
     // (whatever is made from here on is this user's alone)
     umask(Mode::from_bits_truncate(0o077));
     begin_log(&options);
@@ -36,6 +38,19 @@ fn main() -> ExitCode {
             ExitCode::FAILURE
         }
     }
+}
+
+// Help, the version and a wrong command line end here, with 0 or 2.
+fn read() -> Options {
+    let complete = configuration::complete(std::env::args_os().collect());
+    let (words, file) = complete.unwrap_or_else(|fault| Options::command().error(ErrorKind::InvalidValue, format!("{fault:#}")).exit());
+    Options::try_parse_from(words).unwrap_or_else(|error| {
+        if let Some(file) = file.filter(|_| error.use_stderr()) {
+            // (where that is closed, nobody is told)
+            let _ = writeln!(io::stderr(), "tillermossd: with the table `server` of {}:", file.display());
+        }
+        error.exit()
+    })
 }
 
 fn begin_log(options: &Options) {

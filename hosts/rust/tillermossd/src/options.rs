@@ -30,7 +30,8 @@ pub struct Options {
     /// How etcd is reached by TLS
     #[command(flatten)]
     pub trust: Trust,
-    /// The settings of the cell and the limits of the server, in TOML
+    /// The settings of the cell and the limits of the server, in TOML; its table `server` has a key for each option here, with _ for -,
+    /// which holds where the command line doesn't say it
     #[arg(long)]
     pub settings: Option<PathBuf>,
     /// The program cellctl; without it the one beside this program, else the one on the path
@@ -54,9 +55,13 @@ pub struct Options {
     /// Listens with tcp: on other addresses than loopback too: nothing is encrypted there, and who connects acts for anybody
     #[arg(long)]
     pub insecure: bool,
-    /// Where operators look: unix:PATH, which also gives copies of the store, or tcp:HOST:PORT on loopback
+    /// Where operators look: unix:PATH, which also gives copies of the store, or tcp:HOST:PORT on loopback, or elsewhere with
+    /// --admin-token; or several of these
     #[arg(long)]
-    pub admin: Option<Address>,
+    pub admin: Vec<Address>,
+    /// A file whose text operators beyond this machine show, as `Authorization: Bearer TEXT`: 16 characters or more
+    #[arg(long, requires = "admin")]
+    pub admin_token: Option<PathBuf>,
     /// How the log on the standard error is written
     #[arg(long, value_enum, default_value_t = Log::Text)]
     pub log: Log,
@@ -158,7 +163,8 @@ mod tests {
             client_ca: Some("a".into()),
             client_crl: Some("r".into()),
             insecure: true,
-            admin: Some("unix:/a".parse().unwrap()),
+            admin: vec!["unix:/a".parse().unwrap()],
+            admin_token: None,
             log: Log::Json,
             trace: true,
             command: None,
@@ -179,7 +185,16 @@ mod tests {
 
     #[test]
     fn other_words_are_refused() {
-        let rows = ["", "7", "--store s", "7 --store", "7 --store s --who", "seven --store s", "7 --store s --first 0"];
+        let rows = [
+            "",
+            "7",
+            "--store s",
+            "7 --store",
+            "7 --store s --who",
+            "seven --store s",
+            "7 --store s --first 0",
+            "7 --store s --admin-token t",
+        ];
         let rows = rows.into_iter().chain([
             "7 --rows etcd://a:1/c --store s",
             "7 --rows a:1/c",

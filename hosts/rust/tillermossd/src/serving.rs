@@ -1,6 +1,6 @@
 //! The server, from its start to its end.
 
-use crate::admin::pages::{Admin, Asked, Counter, Desk};
+use crate::admin::pages::{Admin, Asked, Counter, Desk, Token};
 use crate::admin::showing::Showing;
 use crate::etcd::mastership::{Mastership, Seat};
 use crate::etcd::standby::{self, Known};
@@ -45,6 +45,9 @@ const OPERATIONS: usize = 10_000;
 /// So long behind a master whose epoch the store refused the next one is tried: each time in a row twice as long, from the first on
 /// until the last.
 const AGAIN: (Duration, Duration) = (Duration::from_millis(500), Duration::from_secs(5));
+
+/// What is told of a master that says so itself.
+const UNPROVED: &str = "the master was built without proof";
 
 /// How often the service manager hears that the server lives.
 const WATCHDOG: Duration = Duration::from_secs(5);
@@ -94,14 +97,14 @@ fn serve_rows(place: Place, options: Options) -> Result<()> {
     let gateway = place.gateway(&options.trust)?;
     let seat = Seat { address: standby::address(&options), server: hex::encode(rand::random::<[u8; 8]>()) };
     let waited = runtime.block_on(wait_for_mastership(&options, &gateway, &place.prefix(), seat))?;
-    let Some(Standing { mastership, mut signals, counter }) = waited else {
+    let Some(Standing { mastership, mut signals, counters }) = waited else {
         // (who waits for the mastership may wait on: it ends with the process)
         runtime.shutdown_background();
         return Ok(());
     };
     let rows = Rows { gateway, prefix: place.prefix(), mastership: mastership.clone() };
     let served = look_beside(&options, &rows)
-        .and_then(|found| runtime.block_on(run(options, PathBuf::new(), Some(rows), found, &mut signals, counter)));
+        .and_then(|found| runtime.block_on(run(options, PathBuf::new(), Some(rows), found, &mut signals, Some(counters))));
     runtime.shutdown_background();
     if served.is_ok() || signals.going.is_told || mastership.holds() {
         // (where etcd isn't reached the mastership ends by itself)
@@ -116,7 +119,7 @@ fn serve_rows(place: Place, options: Options) -> Result<()> {
 struct Standing {
     mastership: Arc<Mastership>,
     signals: Signals,
-    counter: Option<(Counter, Address)>,
+    counters: Vec<(Counter, Address)>,
 }
 
 // None where it is told to go first.
@@ -126,12 +129,12 @@ async fn wait_for_mastership(options: &Options, gateway: &Arc<Gateway>, prefix: 
     let certificates = if is_tls { Some(Arc::new(Certificates::new(options)?)) } else { None };
     let known: Known = Arc::default();
     let mut tasks = standby::stand_by(options, certificates.as_ref(), &known).await?;
-    let counter = open_counter(options.admin.as_ref()).await?;
-    if let Some((counter, _)) = &counter {
+    let counters = open_counters(options).await?;
+    for (counter, _) in &counters {
         counter.turn(Asked::StandsBy(known.clone()));
     }
     println!("standing by");
-    tell(&[], counter.as_ref().map(|(_, address)| address))?;
+    tell(&[], &counters)?;
     let (gateway, prefix, span) = (gateway.clone(), prefix.to_owned(), options.mastership);
     let mut waiting = tokio::task::spawn_blocking(move || {
         Mastership::wait(&gateway, &prefix, &seat, span, |other| *known.lock().unwrap_or_else(PoisonError::into_inner) = other)
@@ -150,18 +153,20 @@ async fn wait_for_mastership(options: &Options, gateway: &Arc<Gateway>, prefix: 
     };
     // (the addresses are free behind it)
     tasks.shutdown().await;
-    Ok(Some(Standing { mastership, signals, counter }))
+    Ok(Some(Standing { mastership, signals, counters }))
 }
 
-// Where operators come, if that was asked for.
-async fn open_counter(address: Option<&Address>) -> Result<Option<(Counter, Address)>> {
-    let Some(address) = address else {
-        return Ok(None);
-    };
-    let (desk, address) = Desk::open(address).await?;
-    let counter = Counter::default();
-    tokio::spawn(desk.serve(counter.clone()));
-    Ok(Some((counter, address)))
+// Where operators come, as that was asked for. (Who gets to an address of this machine is known by the machine, and shows no token.)
+async fn open_counters(options: &Options) -> Result<Vec<(Counter, Address)>> {
+    let token = options.admin_token.as_deref().map(Token::read).transpose()?;
+    let mut counters = Vec::new();
+    for address in &options.admin {
+        let (desk, opened) = Desk::open(address, token.is_some()).await?;
+        let counter = Counter::new(token.clone().filter(|_| !address.is_local()));
+        tokio::spawn(desk.serve(counter.clone()));
+        counters.push((counter, opened));
+    }
+    Ok(counters)
 }
 
 // What the rows in etcd are, and what stands beside them.
@@ -197,8 +202,11 @@ fn warnings(options: &Options, has_known_secret: bool) -> Vec<String> {
         let place = if address.is_local() { "this machine" } else { "everywhere" };
         warnings.push(format!("{address}: who connects from {place} acts for anybody, and nothing is encrypted"));
     }
+    for address in options.admin.iter().filter(|address| !address.is_local()) {
+        warnings.push(format!("{address}: nothing is encrypted there, so who listens between sees names, principals and the token"));
+    }
     if is_unproved(&options.master.clone().unwrap_or_else(cellctl)) {
-        warnings.push("the master was built without proof".to_owned());
+        warnings.push(UNPROVED.to_owned());
     }
     warnings
 }
@@ -293,18 +301,19 @@ async fn run(
     rows: Option<Rows>,
     found: Found,
     signals: &mut Signals,
-    counter: Option<(Counter, Address)>,
+    counters: Option<Vec<(Counter, Address)>>,
 ) -> Result<()> {
     for warning in &found.warnings {
         warn!("{warning}");
     }
     let (doors, certificates) = open(&options).await?;
-    let counter = match counter {
-        None => open_counter(options.admin.as_ref()).await?,
-        opened => opened,
+    let counters = match counters {
+        None => open_counters(&options).await?,
+        Some(opened) => opened,
     };
     let mastership = rows.as_ref().map(|rows| rows.mastership.clone());
     let hall = Arc::new(Hall::new(found.numbers, &found.settings.limits, mastership)?);
+    let store = rows.is_none().then(|| path.clone());
     let program = Program::new(&options.master.clone().unwrap_or_else(cellctl));
     let making = Making { program, store: path, rows, settings: found.settings };
     let (orders, ordered) = mpsc::channel(4);
@@ -317,10 +326,13 @@ async fn run(
         listening.push(address.to_string());
         tokio::spawn(take_all(door, hall.clone()));
     }
-    let showing = Arc::new(Showing { hall: hall.clone(), listening, warnings: found.warnings, begun: Instant::now() });
-    tell(&showing.listening, counter.as_ref().map(|(_, address)| address))?;
-    if let Some((counter, address)) = counter {
-        counter.turn(Asked::Master(Admin { showing, orders: orders.clone(), is_private: matches!(address, Address::Unix(_)) }));
+    let is_unproved = found.warnings.iter().any(|warning| warning == UNPROVED);
+    hall.metrics.tell_build(is_unproved)?;
+    let showing = Arc::new(Showing { hall: hall.clone(), listening, warnings: found.warnings, begun: Instant::now(), store });
+    tell(&showing.listening, &counters)?;
+    for (counter, address) in counters {
+        let is_private = matches!(address, Address::Unix(_));
+        counter.turn(Asked::Master(Admin { showing: showing.clone(), orders: orders.clone(), is_private }));
     }
     // (where no service manager waits for it nothing is told)
     let _ = sd_notify::notify(false, &[NotifyState::Ready]);
@@ -423,12 +435,12 @@ async fn is_ordered_down(orders: &mut mpsc::Receiver<Order>) {
     while !matches!(orders.recv().await, Some(Order::Down) | None) {}
 }
 
-fn tell(listening: &[String], admin: Option<&Address>) -> io::Result<()> {
+fn tell(listening: &[String], counters: &[(Counter, Address)]) -> io::Result<()> {
     let mut out = io::stdout();
     for address in listening {
         writeln!(out, "listening {address}")?;
     }
-    if let Some(address) = admin {
+    for (_, address) in counters {
         writeln!(out, "admin {address}")?;
     }
     out.flush()

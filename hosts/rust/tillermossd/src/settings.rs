@@ -1,5 +1,6 @@
 //! The settings: those of the cell, which its master reads, and the limits of the server, a table of their own.
 
+use crate::configuration::SERVER;
 use anyhow::{Context, Result, bail};
 use host_wire::is_component;
 use rusqlite::{Connection, OptionalExtension};
@@ -111,8 +112,11 @@ impl Settings {
         Settings::of_text(&text).with_context(|| format!("the settings of {}", path.display()))
     }
 
-    fn of_text(text: &str) -> Result<Settings> {
+    /// Those of a text.
+    pub fn of_text(text: &str) -> Result<Settings> {
         let mut cell: Table = toml::from_str(text)?;
+        // (the command line has taken these)
+        cell.remove(SERVER);
         let limits = cell.remove(LIMITS).map_or(Ok(Limits::default()), |limits| limits.try_into().context("the table limits"))?;
         let said: Cell = toml::Value::Table(cell.clone()).try_into()?;
         said.check()?;

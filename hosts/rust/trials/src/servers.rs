@@ -31,8 +31,10 @@ pub struct Server {
     pub address: String,
     /// Where it listens, in the order of its words.
     pub addresses: Vec<String>,
-    /// Where it shows itself to operators, where that was asked for.
+    /// Where it shows itself to operators first, where that was asked for.
     pub admin: Option<String>,
+    /// Where it does so, in the order of its words.
+    pub admins: Vec<String>,
     log: PathBuf,
     disk: Option<PathBuf>,
 }
@@ -244,7 +246,8 @@ impl Start {
         let addresses = self.listens();
         let address = addresses.first().cloned().ok_or_else(|| io::Error::other("no address is among the words"))?;
         let admin = self.words.iter().position(|word| word == "--admin").and_then(|at| self.words.get(at + 1).cloned());
-        Ok(Server { child, address, addresses, admin, log: self.log.clone(), disk: None })
+        let admins = admin.iter().cloned().collect();
+        Ok(Server { child, address, addresses, admin, admins, log: self.log.clone(), disk: None })
     }
 
     /// Starts it, and waits until it listens.
@@ -259,19 +262,21 @@ impl Start {
         let log = File::options().create(true).append(true).open(&self.log)?;
         let begun = log.metadata()?.len();
         let mut child = self.command().stdout(Stdio::piped()).stderr(log).spawn()?;
-        let (mut addresses, mut admin) = (Vec::new(), None);
+        let (mut addresses, mut admins) = (Vec::new(), Vec::new());
         let lines = child.stdout.take().map(|out| BufReader::new(out).lines()).into_iter().flatten();
-        let wanted = self.addresses().max(1) + usize::from(self.words.iter().any(|word| word == "--admin"));
+        let wanted = self.addresses().max(1) + self.words.iter().filter(|word| *word == "--admin").count();
         for line in lines.take(wanted) {
             let line = line?;
             match line.split_once(' ') {
                 Some(("listening", place)) => addresses.push(place.to_owned()),
-                Some(("admin", place)) => admin = Some(place.to_owned()),
+                Some(("admin", place)) => admins.push(place.to_owned()),
                 _ => {}
             }
         }
         match addresses.first().cloned() {
-            Some(address) => Ok(Server { child, address, addresses, admin, log: self.log.clone(), disk: self.disk() }),
+            Some(address) => {
+                Ok(Server { child, address, addresses, admin: admins.first().cloned(), admins, log: self.log.clone(), disk: self.disk() })
+            }
             None => {
                 let status = child.wait()?;
                 let mut logged = String::new();

@@ -86,7 +86,7 @@ fn whom_a_write_waits_for_is_shown() {
         let all = get(&server, "/all").1;
         assert!(all.contains(&format!("\"waits_for\":[{}]", writer.number() + 1)), "{all}");
         let metrics = get(&server, "/metrics").1;
-        assert!(metrics.contains("tillermoss_cell{of=\"changes_waiting\"} 1\n"));
+        assert!(metrics.contains("tillermoss_changes_waiting 1\n"));
         let oldest = metrics.lines().find_map(|line| line.strip_prefix("tillermoss_oldest_change_seconds ")).unwrap();
         assert!(oldest.parse::<f64>().unwrap() > 0.0, "{oldest}");
         written.join().unwrap().unwrap();
@@ -105,6 +105,11 @@ for family in text_string_to_metric_families(sys.stdin.read()):
         print(family.type, sample.name, *sorted(sample.labels.items()), sample.value)
 ";
 
+fn proof() -> &'static str {
+    let told = Command::new(master_program()).arg("--version").output().unwrap().stdout;
+    if String::from_utf8(told).unwrap().contains("without proof") { "without" } else { "proved" }
+}
+
 #[test]
 fn metrics_are_read_by_a_parser_of_their_format() {
     let folder = folder("metrics");
@@ -114,6 +119,7 @@ fn metrics_are_read_by_a_parser_of_their_format() {
     (0..3_u8).for_each(|turn| client.set(file, &[turn], None).unwrap());
     client.read(file).unwrap();
     assert!(matches!(client.open("/ls/c/none", Mode::READ), Err(Error::Refused(Refusal::NotFound))));
+    assert!(matches!(Client::connect(&Options::new(&server.address, "no principal")), Err(Error::TurnedAway(_))));
     let (status, text) = get(&server, "/metrics");
     assert_eq!(status, 200);
     let mut parser = Command::new("/usr/bin/python3").args(["-c", PARSER]).stdin(Stdio::piped()).stdout(Stdio::piped()).spawn().unwrap();
@@ -124,16 +130,34 @@ fn metrics_are_read_by_a_parser_of_their_format() {
     let wanted = [
         "counter tillermoss_events_total ('event', 'applied') 4.0",
         "counter tillermoss_events_total ('event', 'started') 1.0",
-        "counter tillermoss_refusals_total ('number', '6') 1.0",
+        "counter tillermoss_refusals_total ('number', '6') ('refusal', 'NotFound') 1.0",
         "histogram tillermoss_commit_seconds_count 5.0",
-        "gauge tillermoss_cell ('of', 'sessions') 1.0",
-        "gauge tillermoss_cell ('of', 'rights') 2.0",
-        "gauge tillermoss_cell ('of', 'bytes') 9.0",
+        "gauge tillermoss_sessions 1.0",
+        "gauge tillermoss_rights 2.0",
+        "gauge tillermoss_content_bytes 9.0",
         "gauge tillermoss_connections ('state', 'bound') 1.0",
         "gauge tillermoss_ready 1.0",
     ];
     for line in wanted {
         assert!(read.lines().any(|found| found == line), "{line} in\n{read}");
+    }
+    let build = format!("gauge tillermoss_build_info ('proof', '{}') ('version', '{}') 1.0", proof(), env!("CARGO_PKG_VERSION"));
+    assert!(read.lines().any(|found| found == build), "{build} in\n{read}");
+    for name in ["tillermoss_store_bytes", "tillermoss_master_resident_memory_bytes", "process_resident_memory_bytes", "process_open_fds"] {
+        let value =
+            read.lines().find_map(|line| line.strip_prefix(&format!("gauge {name} "))).unwrap_or_else(|| panic!("{name} in\n{read}"));
+        assert!(value.parse::<f64>().unwrap() > 0.0, "{name} {value}");
+    }
+    // (each name that the board and the rules ask for is told)
+    let told: Vec<&str> = text.lines().filter_map(|line| line.strip_prefix("# TYPE ")?.split(' ').next()).collect();
+    for file in [include_str!("../../../operators/board.json"), include_str!("../../../operators/alerts.yaml")] {
+        let words = file.split(|letter: char| !letter.is_ascii_lowercase() && letter != '_');
+        let asked: Vec<&str> = words.filter(|word| word.starts_with("tillermoss_") || word.starts_with("process_")).collect();
+        assert!(asked.len() > 3, "{asked:?}");
+        for name in asked {
+            let family = ["_bucket", "_sum", "_count"].iter().find_map(|end| name.strip_suffix(end)).unwrap_or(name);
+            assert!(told.contains(&family), "{name} of {told:?}");
+        }
     }
     fs::remove_dir_all(folder).unwrap();
 }
@@ -262,5 +286,57 @@ fn a_log_is_lines_of_json_where_that_is_asked_for() {
     let lines: Vec<serde_json::Value> = server.logged().lines().map(|line| serde_json::from_str(line).unwrap()).collect();
     let up = lines.iter().find(|line| line["message"] == "a master is up").unwrap();
     assert_eq!((up["level"].as_str(), up["epoch"].as_str()), (Some("INFO"), Some("1")));
+    fs::remove_dir_all(folder).unwrap();
+}
+
+// A socket for this machine's operators, and an address for those beyond it, who show a token. (It is heard at all addresses, of which one
+// is loopback: what matters is what it was opened as.)
+#[test]
+fn operators_beyond_the_machine_show_a_token() {
+    let folder = folder("token");
+    let token = folder.join("token");
+    let start = |words: &[&str]| Start::new(&folder.join("store.db")).with(&["tcp:0"]).with(words).start();
+    assert!(start(&["--admin", "tcp:0.0.0.0:0"]).unwrap_err().to_string().contains("elsewhere with --admin-token"));
+    fs::write(&token, "short\n").unwrap();
+    let file = token.to_str().unwrap();
+    assert!(start(&["--admin", "tcp:0.0.0.0:0", "--admin-token", file]).unwrap_err().to_string().contains("16 characters"));
+    fs::write(&token, "0123456789abcdef\n").unwrap();
+    let socket = format!("unix:{}", folder.join("admin").display());
+    let server = start(&["--admin", &socket, "--admin", "tcp:0.0.0.0:0", "--admin-token", file]).unwrap();
+    assert!(Admin::new(&socket).unwrap().status().unwrap().is_ready);
+    let far = server.admins[1].replace("0.0.0.0", "127.0.0.1");
+    let admin = Admin::new(&far).unwrap();
+    assert!(admin.status().unwrap_err().to_string().contains("Bearer"));
+    assert!(admin.clone().with_token("0123456789abcdee").sessions().is_err());
+    let known = admin.with_token("0123456789abcdef");
+    assert!(known.status().unwrap().is_ready);
+    assert!(known.backup(&folder.join("copy")).unwrap_err().to_string().contains("only at --admin unix:"));
+    let place = far.strip_prefix("tcp:").unwrap();
+    assert_eq!(ureq::get(&format!("http://{place}/readyz")).call().unwrap().status(), 200);
+    assert!(matches!(ureq::get(&format!("http://{place}/metrics")).call(), Err(ureq::Error::Status(401, _))));
+    let line = ["--server", &server.address, "--admin", &far, "--admin-token", file, "status"];
+    let told = Command::new(program("tillermoss")).args(line).output().unwrap();
+    assert!(String::from_utf8(told.stdout).unwrap().contains("ready yes"));
+    fs::remove_dir_all(folder).unwrap();
+}
+
+#[test]
+fn a_status_says_whom_a_recovery_waits_for() {
+    let folder = folder("recovering");
+    let mut server = begin(&folder).start().unwrap();
+    let gone = connect(&server, "bob");
+    let number = gone.number();
+    server.kill(Kill::Server).unwrap();
+    // (it goes on asking where no server is)
+    std::mem::forget(gone);
+    server = begin(&folder).start().unwrap();
+    let admin = Admin::new(server.admin.as_deref().unwrap()).unwrap();
+    let recovery = admin.status().unwrap().recovery.unwrap();
+    assert_eq!((recovery.count, recovery.waits_for[0].client, recovery.waits_for[0].principal.as_str()), (1, number, "bob"));
+    assert!((50_000..=60_002).contains(&recovery.left), "{}", recovery.left);
+    let line = ["--server", &server.address, "--admin", server.admin.as_deref().unwrap(), "status"];
+    let told = Command::new(program("tillermoss")).args(line).output().unwrap();
+    let told = String::from_utf8(told.stdout).unwrap();
+    assert!(told.contains(&format!("s at most, until it has heard of client {number} (bob)\n")), "{told}");
     fs::remove_dir_all(folder).unwrap();
 }

@@ -1,9 +1,10 @@
 //! What is counted, as Prometheus reads it.
 
-use host_wire::Printed;
+use crate::admin::processes::Used;
+use host_wire::{Printed, refusal_name};
 use prometheus::{
-    Gauge, Histogram, IntCounter, IntCounterVec, IntGauge, IntGaugeVec, Registry, TextEncoder, histogram_opts, opts,
-    register_gauge_with_registry, register_histogram_with_registry, register_int_counter_vec_with_registry,
+    Counter, Gauge, Histogram, IntCounter, IntCounterVec, IntGauge, IntGaugeVec, Registry, TextEncoder, histogram_opts, opts,
+    register_counter_with_registry, register_gauge_with_registry, register_histogram_with_registry, register_int_counter_vec_with_registry,
     register_int_counter_with_registry, register_int_gauge_vec_with_registry, register_int_gauge_with_registry,
 };
 use std::time::Duration;
@@ -29,9 +30,43 @@ pub struct Metrics {
     slowed: IntCounter,
     starts_let_go: IntCounter,
     connections: IntGaugeVec,
-    cell: IntGaugeVec,
+    nodes: IntGauge,
+    content_bytes: IntGauge,
+    sessions: IntGauge,
+    rights: IntGauge,
+    locks: IntGauge,
+    changes: IntGauge,
+    epoch: IntGauge,
     oldest: Gauge,
     is_ready: IntGauge,
+    is_recovering: IntGauge,
+    store_bytes: IntGauge,
+    master_memory: IntGauge,
+    master_seconds: Counter,
+    processes: Processes,
+}
+
+/// The server's own process, by the names that each program has.
+#[derive(Debug)]
+struct Processes {
+    registry: Registry,
+    memory: IntGauge,
+    seconds: Counter,
+    files: IntGauge,
+    started: Gauge,
+}
+
+impl Processes {
+    fn new() -> prometheus::Result<Processes> {
+        let r = Registry::new();
+        Ok(Processes {
+            memory: register_int_gauge_with_registry!("process_resident_memory_bytes", "Memory of the server.", r)?,
+            seconds: register_counter_with_registry!("process_cpu_seconds_total", "Processor time of the server.", r)?,
+            files: register_int_gauge_with_registry!("process_open_fds", "Descriptors that the server has open.", r)?,
+            started: register_gauge_with_registry!("process_start_time_seconds", "When the server began, since 1970.", r)?,
+            registry: r,
+        })
+    }
 }
 
 /// What is measured when somebody looks.
@@ -48,6 +83,12 @@ pub struct Levels {
     pub oldest: Duration,
     pub epoch: u64,
     pub is_ready: bool,
+    pub is_recovering: bool,
+    /// The store's file and its log; None where the rows stand in etcd.
+    pub store_bytes: Option<u64>,
+    /// What the server uses, and what its master does.
+    pub own: Used,
+    pub master: Used,
 }
 
 impl Metrics {
@@ -56,13 +97,18 @@ impl Metrics {
         let r = Registry::new_custom(Some("tillermoss".to_owned()), None)?;
         let seconds = |name: &str, help: &str| histogram_opts!(name, help, BOUNDS.to_vec());
         let by = |name: &str, help: &str| opts!(name, help);
+        let level = |name: &str, help: &str| register_int_gauge_with_registry!(by(name, help), r);
         Ok(Metrics {
             frames: register_int_counter_vec_with_registry!(by("frames_total", "Frames sent to the master."), &["kind"], r)?,
             frame_seconds: register_histogram_with_registry!(seconds("frame_seconds", "From a frame to its last answer."), r)?,
             commits: register_int_counter_with_registry!(by("commits_total", "Frames in which the store was written."), r)?,
             commit_seconds: register_histogram_with_registry!(seconds("commit_seconds", "The same of those that wrote the store."), r)?,
             events: register_int_counter_vec_with_registry!(by("events_total", "What the master told."), &["event"], r)?,
-            refusals: register_int_counter_vec_with_registry!(by("refusals_total", "Refusals, by their number."), &["number"], r)?,
+            refusals: register_int_counter_vec_with_registry!(
+                by("refusals_total", "Refusals, by number and name."),
+                &["number", "refusal"],
+                r
+            )?,
             recoveries: register_int_counter_with_registry!(by("recoveries_total", "Recoveries that ended."), r)?,
             replaced: register_int_counter_with_registry!(by("masters_replaced_total", "Masters that were replaced."), r)?,
             turned_away: register_int_counter_vec_with_registry!(by("turned_away_total", "Greetings refused."), &["reason"], r)?,
@@ -71,11 +117,29 @@ impl Metrics {
             slowed: register_int_counter_with_registry!(by("messages_slowed_total", "Messages that came too fast."), r)?,
             starts_let_go: register_int_counter_with_registry!(by("starts_let_go_total", "Starts of sessions that had begun often."), r)?,
             connections: register_int_gauge_vec_with_registry!(by("connections", "Connections."), &["state"], r)?,
-            cell: register_int_gauge_vec_with_registry!(by("cell", "How much the cell holds."), &["of"], r)?,
+            nodes: level("nodes", "Nodes of the cell.")?,
+            content_bytes: level("content_bytes", "Bytes of all contents.")?,
+            sessions: level("sessions", "Sessions that live.")?,
+            rights: level("rights", "Rights to cache a name that are held.")?,
+            locks: level("locks", "Locks that aren't free.")?,
+            changes: level("changes_waiting", "Changes that wait.")?,
+            epoch: level("epoch", "The master's epoch.")?,
             oldest: register_gauge_with_registry!(by("oldest_change_seconds", "How long the oldest change has waited."), r)?,
-            is_ready: register_int_gauge_with_registry!(by("ready", "1 where a master is up and has recovered."), r)?,
+            is_ready: level("ready", "1 where a master is up and has recovered.")?,
+            is_recovering: level("recovering", "1 where a master is up and waits for the clients of before.")?,
+            store_bytes: level("store_bytes", "Bytes of the store's file and its log; 0 over etcd.")?,
+            master_memory: level("master_resident_memory_bytes", "Memory of the master.")?,
+            master_seconds: register_counter_with_registry!(by("master_cpu_seconds_total", "Processor time of the master."), r)?,
+            processes: Processes::new()?,
             registry: r,
         })
+    }
+
+    /// Which program this is, and whether its master was built without proof.
+    pub fn tell_build(&self, is_unproved: bool) -> prometheus::Result<()> {
+        let build = register_int_gauge_vec_with_registry!(opts!("build_info", "The build."), &["version", "proof"], self.registry)?;
+        build.with_label_values(&[env!("CARGO_PKG_VERSION"), if is_unproved { "without" } else { "proved" }]).set(1);
+        Ok(())
     }
 
     /// A frame goes to the master.
@@ -106,7 +170,7 @@ impl Metrics {
 
     /// A call or a message was refused, by this number.
     pub fn refused(&self, number: u32) {
-        self.refusals.with_label_values(&[&number.to_string()]).inc();
+        self.refusals.with_label_values(&[&number.to_string(), refusal_name(number)]).inc();
     }
 
     /// A greeting came to nothing.
@@ -141,18 +205,36 @@ impl Metrics {
 
     /// All of them, with the present levels.
     pub fn text(&self, levels: &Levels) -> prometheus::Result<String> {
-        let set = |gauges: &IntGaugeVec, name: &str, value: u64| gauges.with_label_values(&[name]).set(value.cast_signed());
-        set(&self.connections, "greeting", levels.greeting as u64);
-        set(&self.connections, "bound", levels.bound as u64);
-        let cell = [("nodes", levels.nodes), ("sessions", levels.sessions), ("rights", levels.rights), ("locks", levels.locks)];
-        for (name, value) in cell.into_iter().chain([("changes_waiting", levels.changes)]) {
-            set(&self.cell, name, value as u64);
+        self.connections.with_label_values(&["greeting"]).set(levels.greeting as i64);
+        self.connections.with_label_values(&["bound"]).set(levels.bound as i64);
+        let counts = [
+            (&self.nodes, levels.nodes as u64),
+            (&self.content_bytes, levels.bytes),
+            (&self.sessions, levels.sessions as u64),
+            (&self.rights, levels.rights as u64),
+            (&self.locks, levels.locks as u64),
+            (&self.changes, levels.changes as u64),
+            (&self.epoch, levels.epoch),
+            (&self.is_ready, levels.is_ready.into()),
+            (&self.is_recovering, levels.is_recovering.into()),
+            (&self.store_bytes, levels.store_bytes.unwrap_or(0)),
+            (&self.master_memory, levels.master.memory),
+            (&self.processes.memory, levels.own.memory),
+            (&self.processes.files, levels.own.files),
+        ];
+        for (gauge, value) in counts {
+            gauge.set(value.cast_signed());
         }
-        set(&self.cell, "bytes", levels.bytes);
-        set(&self.cell, "epoch", levels.epoch);
         self.oldest.set(levels.oldest.as_secs_f64());
-        self.is_ready.set(levels.is_ready.into());
-        TextEncoder::new().encode_to_string(&self.registry.gather())
+        // (the kernel counts them)
+        for (counter, value) in [(&self.master_seconds, levels.master.seconds), (&self.processes.seconds, levels.own.seconds)] {
+            counter.reset();
+            counter.inc_by(value);
+        }
+        self.processes.started.set(levels.own.started);
+        let mut families = self.registry.gather();
+        families.extend(self.processes.registry.gather());
+        TextEncoder::new().encode_to_string(&families)
     }
 }
 
@@ -168,8 +250,13 @@ mod tests {
         metrics.answered(Duration::from_millis(2), false);
         metrics.refused(10);
         let text = metrics.text(&Levels { sessions: 3, ..Levels::default() }).unwrap();
-        let wanted = ["frames_total{kind=\"message\"} 1", "frame_seconds_count 2", "commits_total 1", "refusals_total{number=\"10\"} 1"];
-        for line in wanted.into_iter().chain(["cell{of=\"sessions\"} 3", "commit_seconds_bucket{le=\"0.003\"} 1"]) {
+        let wanted = [
+            "frames_total{kind=\"message\"} 1",
+            "frame_seconds_count 2",
+            "commits_total 1",
+            "refusals_total{number=\"10\",refusal=\"Denied\"} 1",
+        ];
+        for line in wanted.into_iter().chain(["sessions 3", "commit_seconds_bucket{le=\"0.003\"} 1"]) {
             assert!(text.contains(&format!("\ntillermoss_{line}\n")), "{line} in {text}");
         }
     }

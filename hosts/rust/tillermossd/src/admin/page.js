@@ -9,7 +9,18 @@ function made(kind, text, name) {
   return element;
 }
 
+// What was typed, and which directories are folded; a token that stands behind the # of the address.
+const folded = new Set();
+const token = new URLSearchParams(location.hash.slice(1)).get('token');
+let last = null;
+
+const wanted = (...texts) => {
+  const word = at('filter').value.trim().toLowerCase();
+  return !word || texts.some((text) => String(text).toLowerCase().includes(word));
+};
+
 function table(id, heads, rows) {
+  at('count-' + id).textContent = rows.length ? String(rows.length) : '';
   const lines = [made('tr')];
   lines[0].append(...heads.map((head) => made('th', head)));
   for (const row of rows) {
@@ -38,12 +49,33 @@ function lease(left) {
   return cell;
 }
 
+function fold(name) {
+  const mark = made('button', folded.has(name) ? '▸' : '▾', 'fold');
+  mark.title = folded.has(name) ? 'show what is in it' : 'hide what is in it';
+  mark.onclick = () => {
+    if (!folded.delete(name)) folded.add(name);
+    if (last) show(last);
+  };
+  return mark;
+}
+
+// Whether a directory above it is folded.
+function isHidden(name) {
+  for (let end = name.lastIndexOf('/'); end > 0; end = name.lastIndexOf('/', end - 1)) {
+    if (folded.has(name.slice(0, end))) return true;
+  }
+  return false;
+}
+
 function tree(nodes, total) {
-  const lines = nodes.map((node) => {
+  const isFiltered = at('filter').value.trim() !== '';
+  const shown = nodes.filter((node) => (isFiltered ? wanted(node.name) : !isHidden(node.name)));
+  const lines = shown.map((node) => {
     const parts = node.name.split('/');
     const line = made('div');
-    line.style.paddingLeft = (parts.length - 3) * 1.2 + 'em';
-    const name = parts.length > 3 ? parts[parts.length - 1] : node.name;
+    line.style.paddingLeft = (isFiltered ? 0 : (parts.length - 3) * 1.2) + 'em';
+    const name = parts.length > 3 && !isFiltered ? parts[parts.length - 1] : node.name;
+    line.append(node.is_file || isFiltered ? made('span', undefined, 'fold') : fold(node.name));
     line.append(made('span', name + (node.is_file ? '' : '/')));
     const more = (node.is_file ? node.length + ' bytes, generation ' + node.generation : '') + (node.is_ephemeral ? ', ephemeral' : '');
     line.append(made('span', more, 'more'));
@@ -53,7 +85,17 @@ function tree(nodes, total) {
   at('tree').replaceChildren(...lines);
 }
 
+function recovery(status) {
+  const found = status.recovery;
+  at('recovery').hidden = !found;
+  if (!found) return;
+  const named = found.waits_for.map((session) => session.client + ' (' + session.principal + ')');
+  if (found.count > named.length) named.push(found.count - named.length + ' more');
+  at('recovery').textContent = 'recovering: for ' + seconds(found.left) + ' at most, until it has heard of ' + (named.join(', ') || 'nobody else');
+}
+
 function show(all) {
+  last = all;
   const names = new Map(all.sessions.map((session) => [session.client, session.principal]));
   const who = (numbers) => numbers.map((number) => client(number, names)).join(', ');
   const status = all.status;
@@ -62,19 +104,21 @@ function show(all) {
   at('facts').textContent = 'epoch ' + status.epoch + ' · ' + status.nodes + ' nodes · ' + status.bytes + ' bytes · ' +
     status.sessions + ' sessions · ' + status.rights + ' rights · ' + status.connections + ' connections · ' + status.listening.join(' ');
   at('warnings').replaceChildren(...status.warnings.map((warning) => made('li', warning)));
+  recovery(status);
   tree(all.nodes, status.nodes);
-  table('waits', ['client', 'wants', 'of', 'since', 'waits for'], all.waits.map((wait) =>
+  table('waits', ['client', 'wants', 'of', 'since', 'waits for'], all.waits.filter((wait) => wanted(wait.name, wait.client, wait.principal, who(wait.waits_for))).map((wait) =>
     [client(wait.client, names), wait.act, wait.name, seconds(wait.waited), who(wait.waits_for) || 'its turn']));
-  table('locks', ['node', 'held', 'by', 'waiting', 'generation'], all.locks.map((lock) =>
+  table('locks', ['node', 'held', 'by', 'waiting', 'generation'], all.locks.filter((lock) => wanted(lock.name, who(lock.holders), who(lock.waiters))).map((lock) =>
     [lock.name, lock.is_shared ? 'shared' : 'exclusive', who(lock.holders) || 'nobody: lock-delay', who(lock.waiters), String(lock.generation)]));
-  table('sessions', ['client', 'principal', 'connection', 'lease'], all.sessions.map((session) =>
+  table('sessions', ['client', 'principal', 'connection', 'lease'], all.sessions.filter((session) => wanted(session.client, session.principal)).map((session) =>
     [String(session.client), session.principal, session.is_connected ? 'yes' : 'no', lease(session.lease_left)]));
 }
 
 async function follow() {
   for (;;) {
     try {
-      const answer = await fetch('/all');
+      const answer = await fetch('/all', token ? { headers: { Authorization: 'Bearer ' + token } } : {});
+      if (!answer.ok) throw new Error(answer.statusText);
       show(await answer.json());
     } catch {
       at('ready').textContent = 'not reached';
@@ -84,4 +128,5 @@ async function follow() {
   }
 }
 
+at('filter').oninput = () => last && show(last);
 follow();

@@ -6,15 +6,18 @@ use crate::master::child::Order;
 use crate::master::store;
 use crate::net::doors::listen_unix;
 use crate::net::lobby::Lobby;
-use anyhow::{Context, Result, bail};
+use anyhow::{Context, Result, anyhow, bail};
 use host_wire::Address;
-use hyper::header::{CONTENT_SECURITY_POLICY, CONTENT_TYPE, HOST, HeaderValue};
+use hyper::header::{AUTHORIZATION, CONTENT_SECURITY_POLICY, CONTENT_TYPE, HOST, HeaderValue};
 use hyper::server::conn::Http;
 use hyper::service::service_fn;
 use hyper::{Body, Method, Request, Response, StatusCode};
+use openssl::sha::sha256;
 use std::collections::BTreeSet;
 use std::convert::Infallible;
+use std::fs;
 use std::io;
+use std::path::Path;
 use std::sync::atomic::{AtomicBool, Ordering};
 use std::sync::{Arc, PoisonError, RwLock};
 use std::time::Duration;
@@ -36,6 +39,9 @@ const MOST: usize = 64;
 /// So many copies are taken at once.
 const COPIES: usize = 4;
 
+/// So many characters a token has at least.
+const SHORTEST: usize = 16;
+
 /// So long one may last.
 const PATIENCE: Duration = Duration::from_secs(300);
 
@@ -48,6 +54,31 @@ pub struct Admin {
     pub orders: mpsc::Sender<Order>,
     /// Only who may open the socket's file gets there, and so may have a copy of the store, with its secret.
     pub is_private: bool,
+}
+
+/// What operators show who come from elsewhere, by its sum: so how long a comparison takes tells nothing of it.
+#[derive(Clone, Debug)]
+pub struct Token([u8; 32]);
+
+impl Token {
+    fn of(text: &str) -> Token {
+        Token(sha256(text.as_bytes()))
+    }
+
+    /// That of a file.
+    pub fn read(path: &Path) -> Result<Token> {
+        let at = || format!("the token of {}", path.display());
+        let text = fs::read_to_string(path).with_context(at)?;
+        match text.trim() {
+            token if token.len() >= SHORTEST && token.bytes().all(|byte| byte.is_ascii_graphic()) => Ok(Token::of(token)),
+            _ => Err(anyhow!("it is {SHORTEST} characters or more, without spaces").context(at())),
+        }
+    }
+
+    fn is_shown(&self, request: &Request<Body>) -> bool {
+        let shown = request.headers().get(AUTHORIZATION).and_then(|shown| shown.to_str().ok());
+        shown.and_then(|shown| shown.strip_prefix("Bearer ")).is_some_and(|shown| Token::of(shown).0 == self.0)
+    }
 }
 
 /// Of what kind of server something is asked.
@@ -64,16 +95,26 @@ pub enum Asked {
 
 /// Where operators ask. What kind of server that is changes when it becomes master.
 #[derive(Clone, Debug, Default)]
-pub struct Counter(Arc<RwLock<Arc<Asked>>>);
+pub struct Counter {
+    asked: Arc<RwLock<Arc<Asked>>>,
+    // (who comes shows it, where there is one: without it only who is on this machine gets there)
+    token: Option<Token>,
+}
 
 impl Counter {
+    /// One at which this token has to be shown, where one is named.
+    #[must_use]
+    pub fn new(token: Option<Token>) -> Counter {
+        Counter { token, ..Counter::default() }
+    }
+
     /// From here on it is asked of one of this kind.
     pub fn turn(&self, asked: Asked) {
-        *self.0.write().unwrap_or_else(PoisonError::into_inner) = Arc::new(asked);
+        *self.asked.write().unwrap_or_else(PoisonError::into_inner) = Arc::new(asked);
     }
 
     fn asked(&self) -> Arc<Asked> {
-        self.0.read().unwrap_or_else(PoisonError::into_inner).clone()
+        self.asked.read().unwrap_or_else(PoisonError::into_inner).clone()
     }
 }
 
@@ -86,15 +127,17 @@ pub enum Desk {
 
 impl Desk {
     /// Listens at an address; gives it with the port that it has.
-    pub async fn open(address: &Address) -> Result<(Desk, Address)> {
+    pub async fn open(address: &Address, has_token: bool) -> Result<(Desk, Address)> {
         match address {
             Address::Unix(path) => Ok((Desk::Unix(listen_unix(path, 0o600)?), address.clone())),
-            Address::Tcp(place) if address.is_local() => {
+            Address::Tcp(place) if address.is_local() || has_token => {
                 let listener = TcpListener::bind(place).await.with_context(|| format!("listening at {address}"))?;
                 let address = address.at(listener.local_addr()?);
                 Ok((Desk::Tcp(listener), address))
             }
-            _ => bail!("--admin {address}: only unix:PATH, or tcp: on loopback; nothing there is encrypted"),
+            _ => bail!(
+                "--admin {address}: only unix:PATH, or tcp: on loopback; elsewhere with --admin-token, since nothing there is encrypted"
+            ),
         }
     }
 
@@ -120,7 +163,8 @@ impl Desk {
 async fn attend(stream: Box<dyn Both>, counter: &Counter, lobby: &Lobby, copies: &Arc<Semaphore>) {
     let place = lobby.enter(MOST);
     let copying = Arc::new(AtomicBool::new(false));
-    let service = service_fn(|request| answer(counter.asked(), Copies { copying: copying.clone(), places: copies.clone() }, request));
+    let copies = || Copies { copying: copying.clone(), places: copies.clone() };
+    let service = service_fn(|request| answer(counter.asked(), counter.token.clone(), copies(), request));
     let served = timeout(PATIENCE, Http::new().http1_only(true).serve_connection(stream, service));
     tokio::pin!(served);
     // (whatever ends a connection of an operator, another may be made)
@@ -152,9 +196,18 @@ fn is_own_host(request: &Request<Body>) -> bool {
     host.is_none_or(|host| format!("tcp:{host}").parse::<Address>().is_ok_and(|address| address.is_local()) || host == "localhost")
 }
 
-async fn answer(asked: Arc<Asked>, copies: Copies, request: Request<Body>) -> Result<Response<Body>, Infallible> {
-    if !is_own_host(&request) {
-        return Ok(said(StatusCode::FORBIDDEN, "text/plain", "only under a name of this machine\n"));
+fn is_open_to_all(path: &str) -> bool {
+    matches!(path, "/" | "/page.css" | "/page.js" | "/healthz" | "/readyz")
+}
+
+async fn answer(asked: Arc<Asked>, token: Option<Token>, copies: Copies, request: Request<Body>) -> Result<Response<Body>, Infallible> {
+    match &token {
+        // (probes show nothing, and are told nothing but that; the page asks for the rest with what it was given)
+        Some(token) if !is_open_to_all(request.uri().path()) && !token.is_shown(&request) => {
+            return Ok(said(StatusCode::UNAUTHORIZED, "text/plain", "wants Authorization: Bearer and the token\n"));
+        }
+        None if !is_own_host(&request) => return Ok(said(StatusCode::FORBIDDEN, "text/plain", "only under a name of this machine\n")),
+        _ => {}
     }
     Ok(match &*asked {
         _ if (request.method(), request.uri().path()) == (&Method::GET, "/healthz") => said(StatusCode::OK, "text/plain", "ok\n"),

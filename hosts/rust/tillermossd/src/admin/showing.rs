@@ -1,18 +1,28 @@
 //! What is shown to operators, as it stands.
 
 use crate::admin::metrics::Levels;
+use crate::admin::processes::Used;
 use crate::master::picture::Picture;
+use crate::master::store::beside;
 use crate::net::connections::Hall;
-use host_wire::{Act, LockShown, NodeShown, SessionShown, Shown, Status, WaitShown};
+use host_wire::{Act, LockShown, NodeShown, RecoveryShown, SessionShown, Shown, Status, WaitShown};
 use std::collections::BTreeMap;
+use std::fs;
+use std::path::{Path, PathBuf};
 use std::sync::Arc;
-use std::time::Instant;
+use std::time::{Duration, Instant};
 
 /// So many of each are shown at most.
 const MOST: usize = 1000;
 
 /// So long a call has to have waited before it is shown: most are answered at once.
 const AWHILE: u128 = 20;
+
+/// So many clients that a recovery waits for are shown at most.
+const AWAITED: usize = 100;
+
+/// So long a recovery lasts at most.
+const RECOVERY: Duration = Duration::from_millis(60_002);
 
 /// What is known of the server from its start on.
 #[derive(Debug)]
@@ -25,6 +35,8 @@ pub struct Showing {
     pub warnings: Vec<String>,
     /// Since when it serves.
     pub begun: Instant,
+    /// The store, where it is a file.
+    pub store: Option<PathBuf>,
 }
 
 impl Showing {
@@ -46,6 +58,7 @@ impl Showing {
             rights: picture.rights(),
             changes_waiting: picture.changes().0,
             connections: self.hall.crowd.count(),
+            recovery: recovery(&picture),
         }
     }
 
@@ -66,6 +79,10 @@ impl Showing {
             oldest: oldest.map(|since| since.elapsed()).unwrap_or_default(),
             epoch: picture.epoch,
             is_ready: picture.is_ready(),
+            is_recovering: picture.is_up && picture.is_recovering,
+            store_bytes: self.store.as_deref().map(bytes_of),
+            own: Used::of("self"),
+            master: Used::of_master(),
         }
     }
 
@@ -130,6 +147,26 @@ impl Showing {
         locks.truncate(MOST);
         Shown { mark: 0, status, nodes: self.nodes(), sessions: self.sessions(MOST), locks, waits: self.waits() }
     }
+}
+
+// Whom the master waits for that came up, and for how long at most.
+fn recovery(picture: &Picture) -> Option<RecoveryShown> {
+    let since = picture.up_since.filter(|_| picture.is_up && picture.is_recovering)?;
+    let awaited = || picture.sessions.iter().filter(|(client, _)| !picture.heard.contains(client));
+    let shown = awaited().take(AWAITED).map(|(client, session)| SessionShown {
+        client: *client,
+        principal: session.principal.to_string(),
+        is_connected: false,
+        lease_left: None,
+    });
+    let left = RECOVERY.saturating_sub(since.elapsed()).as_millis() as u64;
+    Some(RecoveryShown { waits_for: shown.collect(), count: awaited().count(), left })
+}
+
+// (a file that isn't there has none)
+fn bytes_of(store: &Path) -> u64 {
+    let length = |path: &Path| fs::metadata(path).map_or(0, |file| file.len());
+    length(store) + length(&beside(store, "wal"))
 }
 
 // Who waits for the lock of which instance.

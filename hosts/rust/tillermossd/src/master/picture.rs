@@ -65,6 +65,9 @@ pub struct Picture {
     pub is_up: bool,
     pub is_recovering: bool,
     pub is_refused: bool,
+    /// When the master came up, and of which clients it was heard since.
+    pub up_since: Option<Instant>,
+    pub heard: BTreeSet<u64>,
     pub nodes: BTreeMap<String, Node>,
     pub sessions: BTreeMap<u64, Session>,
     pub locks: BTreeMap<u64, Lock>,
@@ -227,6 +230,8 @@ impl Picture {
     fn begin(&mut self, epoch: u64) {
         self.epoch = epoch;
         self.is_up = true;
+        self.up_since = Some(Instant::now());
+        self.heard.clear();
         self.is_recovering = !self.sessions.is_empty();
         self.rights.clear();
         self.caching.clear();
@@ -294,6 +299,9 @@ impl Picture {
     pub fn lease(&mut self, client: u64, span: Duration) {
         if let Some(session) = self.sessions.get_mut(&client) {
             session.lease = Instant::now().checked_add(span);
+            if self.is_recovering {
+                self.heard.insert(client);
+            }
         }
     }
 
