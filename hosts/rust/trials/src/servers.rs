@@ -262,12 +262,15 @@ impl Start {
         let (mut addresses, mut admin) = (Vec::new(), None);
         let lines = child.stdout.take().map(|out| BufReader::new(out).lines()).into_iter().flatten();
         let wanted = self.addresses().max(1) + usize::from(self.words.iter().any(|word| word == "--admin"));
-        for line in lines.take(wanted) {
+        for line in lines {
             let line = line?;
             match line.split_once(' ') {
                 Some(("listening", place)) => addresses.push(place.to_owned()),
                 Some(("admin", place)) => admin = Some(place.to_owned()),
                 _ => {}
+            }
+            if addresses.len() + usize::from(admin.is_some()) == wanted {
+                break;
             }
         }
         match addresses.first().cloned() {

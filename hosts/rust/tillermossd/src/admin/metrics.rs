@@ -1,11 +1,14 @@
 //! What is counted, as Prometheus reads it.
 
+use crate::etcd::Rows;
+use crate::etcd::mastership::Mastership;
 use host_wire::Printed;
 use prometheus::{
     Gauge, Histogram, IntCounter, IntCounterVec, IntGauge, IntGaugeVec, Registry, TextEncoder, histogram_opts, opts,
     register_gauge_with_registry, register_histogram_with_registry, register_int_counter_vec_with_registry,
     register_int_counter_with_registry, register_int_gauge_vec_with_registry, register_int_gauge_with_registry,
 };
+use std::sync::{Arc, OnceLock};
 use std::time::Duration;
 
 /// The bounds of times, in seconds.
@@ -32,6 +35,7 @@ pub struct Metrics {
     cell: IntGaugeVec,
     oldest: Gauge,
     is_ready: IntGauge,
+    mastership: OnceLock<(Arc<Mastership>, Gauge)>,
 }
 
 /// What is measured when somebody looks.
@@ -75,7 +79,20 @@ impl Metrics {
             oldest: register_gauge_with_registry!(by("oldest_change_seconds", "How long the oldest change has waited."), r)?,
             is_ready: register_int_gauge_with_registry!(by("ready", "1 where a master is up and has recovered."), r)?,
             registry: r,
+            mastership: OnceLock::new(),
         })
+    }
+
+    /// Those of etcd too, and how long the mastership lasts still.
+    pub fn watch(&self, rows: &Rows) -> prometheus::Result<()> {
+        let health = rows.gateway.health();
+        self.registry.register(Box::new(health.seconds.clone()))?;
+        self.registry.register(Box::new(health.failures.clone()))?;
+        self.registry.register(Box::new(health.has_no_room.clone()))?;
+        let help = "For how long this server is still master, where it can't renew that.";
+        let rest = register_gauge_with_registry!(opts!("mastership_seconds", help), self.registry)?;
+        self.mastership.get_or_init(|| (rows.mastership.clone(), rest));
+        Ok(())
     }
 
     /// A frame goes to the master.
@@ -152,6 +169,9 @@ impl Metrics {
         set(&self.cell, "epoch", levels.epoch);
         self.oldest.set(levels.oldest.as_secs_f64());
         self.is_ready.set(levels.is_ready.into());
+        if let Some((mastership, rest)) = self.mastership.get() {
+            rest.set(mastership.rest().as_secs_f64());
+        }
         TextEncoder::new().encode_to_string(&self.registry.gather())
     }
 }

@@ -182,12 +182,15 @@ mod tests {
         for _ in 0..7 {
             held.push(ann.room(large).await);
         }
-        let is_there = |seat: &'_ Seat| tokio::time::timeout(Duration::from_millis(20), seat.room(large));
-        assert!(is_there(&other_ann).await.is_err());
-        assert!(is_there(&bob).await.is_ok());
+        async fn is_there(seat: &Seat, bytes: usize) -> Option<usize> {
+            let room = tokio::time::timeout(Duration::from_millis(20), seat.room(bytes));
+            room.await.ok().map(|room| room.len())
+        }
+        assert_eq!(is_there(&other_ann, large).await, None);
+        assert!(is_there(&bob, large).await.is_some());
         assert!(other_ann.room(SMALL).await.is_empty());
         held.pop();
-        assert_eq!(is_there(&other_ann).await.unwrap().len(), 2);
+        assert_eq!(is_there(&other_ann, large).await, Some(2));
         drop((ann, other_ann));
         assert_eq!((crowd.count(), crowd.state().principals.len()), (1, 1));
     }
