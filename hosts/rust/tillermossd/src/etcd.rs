@@ -11,18 +11,22 @@ pub mod pipes;
 pub mod pretended;
 pub mod rows;
 pub(crate) mod standby;
+pub mod upkeep;
+pub mod warm;
 
+use crate::etcd::found::Found;
 use crate::etcd::gateway::Gateway;
 use crate::etcd::keeper::Keeper;
 use crate::etcd::mastership::Mastership;
 use crate::etcd::pipes::Kept;
 use crate::net::tls::client_config;
-use anyhow::{Error, bail};
+use anyhow::{Context, Error, bail};
 use clap::Args;
 use host_wire::is_component;
+use std::fs;
 use std::path::PathBuf;
 use std::str::FromStr;
-use std::sync::Arc;
+use std::sync::{Arc, Mutex, PoisonError};
 
 /// Where the rows of a cell stand.
 #[derive(Clone, Debug, PartialEq, Eq)]
@@ -45,6 +49,25 @@ pub struct Trust {
     /// The key of that certificate, in PEM
     #[arg(long, requires = "etcd_cert")]
     pub etcd_key: Option<PathBuf>,
+    /// The user of etcd that this program asks as, where etcd wants one
+    #[arg(long, requires = "etcd_password")]
+    pub etcd_user: Option<String>,
+    /// The file that has this user's password, in its first line
+    #[arg(long, requires = "etcd_user")]
+    pub etcd_password: Option<PathBuf>,
+}
+
+impl Trust {
+    // The user and his password.
+    fn user(&self) -> Result<Option<(String, String)>, Error> {
+        let Some((name, path)) = self.etcd_user.as_ref().zip(self.etcd_password.as_ref()) else {
+            return Ok(None);
+        };
+        let text = fs::read_to_string(path).with_context(|| format!("reading the password in {}", path.display()))?;
+        let password = text.lines().next().filter(|line| !line.is_empty());
+        let password = password.with_context(|| format!("there is no password in the first line of {}", path.display()))?;
+        Ok(Some((name.clone(), password.to_owned())))
+    }
 }
 
 /// The rows of a cell in etcd, by the mastership of this server.
@@ -56,12 +79,15 @@ pub struct Rows {
     pub prefix: String,
     /// The mastership.
     pub mastership: Arc<Mastership>,
+    /// What was found there before the first master, which needn't be read again where nothing was written since.
+    pub found: Arc<Mutex<Option<Found>>>,
 }
 
 impl Rows {
     /// Makes the pipes by which a master keeps them, once nothing that an earlier keeper sent can be done any more. It waits for etcd.
     pub fn keep(&self) -> Result<Kept, Error> {
-        pipes::keep(Keeper::open(self.gateway.clone(), &self.prefix, self.mastership.clone())?)
+        let found = self.found.lock().unwrap_or_else(PoisonError::into_inner).take();
+        pipes::keep(Keeper::open(&self.gateway, &self.prefix, self.mastership.clone(), found)?)
     }
 }
 
@@ -85,7 +111,7 @@ impl Place {
     pub fn gateway(&self, trust: &Trust) -> Result<Arc<Gateway>, Error> {
         let own = trust.etcd_cert.as_deref().zip(trust.etcd_key.as_deref());
         let config = trust.etcd_ca.as_ref().map(|authority| client_config(authority, own)).transpose()?;
-        Ok(Arc::new(Gateway::new(&self.members, config)))
+        Ok(Arc::new(Gateway::new(&self.members, config, trust.user()?)))
     }
 
     /// What stands in front of the cell's keys.

@@ -7,6 +7,9 @@ use host_wire::Address;
 use std::path::PathBuf;
 use std::str::FromStr;
 
+/// So long etcd keeps what stood there before, unless an operator says otherwise.
+const HISTORY: u64 = 300;
+
 /// Serves a cell: starts `cellctl serve`, and carries the messages of clients to it.
 #[derive(Debug, PartialEq, Eq, Parser)]
 #[command(version, args_conflicts_with_subcommands = true, subcommand_negates_reqs = true, after_help = AFTER)]
@@ -27,6 +30,9 @@ pub struct Options {
     /// So many seconds a mastership lasts that its server doesn't renew: for so long a cell has no master whose server was killed
     #[arg(long, requires = "rows", conflicts_with = "store", default_value_t = SPAN, value_parser = clap::value_parser!(u64).range(2..=60))]
     pub mastership: u64,
+    /// For so many seconds etcd keeps what stood there before; the server that is master has it forget what is older. 0: it doesn't
+    #[arg(long, requires = "rows", conflicts_with = "store", default_value_t = HISTORY)]
+    pub etcd_history: u64,
     /// How etcd is reached by TLS
     #[command(flatten)]
     pub trust: Trust,
@@ -154,6 +160,7 @@ mod tests {
             rows: None,
             advertise: None,
             mastership: 5,
+            etcd_history: 300,
             trust: Trust::default(),
             settings: Some("t".into()),
             master: Some("m".into()),
@@ -173,9 +180,11 @@ mod tests {
         let options = read("7 --rows etcd://a:1,b:2/c --advertise h:7").unwrap();
         assert_eq!(options.rows, Some(Place { members: vec!["a:1".to_owned(), "b:2".to_owned()], cell: "c".to_owned() }));
         assert_eq!(options.advertise, Some("h:7".parse().unwrap()));
-        let trust = Trust { etcd_ca: Some("a".into()), etcd_cert: Some("c".into()), etcd_key: Some("k".into()) };
+        let trust = Trust { etcd_ca: Some("a".into()), etcd_cert: Some("c".into()), etcd_key: Some("k".into()), ..Trust::default() };
         let by_tls = "--etcd-ca a --etcd-cert c --etcd-key k";
         assert_eq!(read(&format!("7 --rows etcd://a:1/c {by_tls}")).unwrap().trust, trust);
+        let as_user = read("7 --rows etcd://a:1/c --etcd-user ann --etcd-password p").unwrap().trust;
+        assert_eq!(as_user, Trust { etcd_user: Some("ann".to_owned()), etcd_password: Some("p".into()), ..Trust::default() });
         let copy = read(&format!("copy --from s --to etcd://a:1/c {by_tls}")).unwrap().command;
         let to = End::Etcd(Place { members: vec!["a:1".to_owned()], cell: "c".to_owned() });
         assert_eq!(copy, Some(Command::Copy { from: End::File("s".into()), to, master: None, trust }));
@@ -203,6 +212,8 @@ mod tests {
             "7 --rows etcd://a:1/c --mastership 1",
             "7 --rows etcd://a:1/c --etcd-cert c --etcd-key k",
             "7 --rows etcd://a:1/c --etcd-ca a --etcd-cert c",
+            "7 --rows etcd://a:1/c --etcd-user ann",
+            "7 --store s --etcd-history 0",
         ]);
         for line in rows.chain(["65536 --store s", "7 --store s --cert c", "restore c", "7 --store s --log x"]) {
             assert!(read(line).is_err(), "{line}");

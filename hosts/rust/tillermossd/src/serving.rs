@@ -4,7 +4,8 @@ use crate::admin::pages::{Admin, Asked, Counter, Desk, Token};
 use crate::admin::showing::Showing;
 use crate::etcd::mastership::{Mastership, Seat};
 use crate::etcd::standby::{self, Known};
-use crate::etcd::{self, gateway::Gateway};
+use crate::etcd::warm::Warm;
+use crate::etcd::{self, gateway::Gateway, upkeep};
 use crate::etcd::{Place, Rows};
 use crate::master::child::{Ending, Making, Master, Order, StoreRefused};
 use crate::master::locks::take_lock;
@@ -27,7 +28,8 @@ use std::os::unix::process::CommandExt;
 use std::path::{Path, PathBuf};
 use std::pin::pin;
 use std::process::Command;
-use std::sync::{Arc, PoisonError};
+use std::sync::{Arc, OnceLock, PoisonError};
+use std::thread;
 use std::time::{Duration, Instant};
 use tokio::runtime::Runtime;
 use tokio::signal::unix::{Signal, SignalKind, signal};
@@ -48,6 +50,8 @@ const AGAIN: (Duration, Duration) = (Duration::from_millis(500), Duration::from_
 
 /// What is told of a master that says so itself.
 const UNPROVED: &str = "the master was built without proof";
+/// By which a server that stands by anew, as a new process, knows the mastership that it had.
+const LAST_SERVER: &str = "TILLERMOSSD_LAST_SERVER";
 
 /// How often the service manager hears that the server lives.
 const WATCHDOG: Duration = Duration::from_secs(5);
@@ -96,14 +100,17 @@ fn serve_rows(place: Place, options: Options) -> Result<()> {
     let options = Arc::new(options);
     let gateway = place.gateway(&options.trust)?;
     let seat = Seat { address: standby::address(&options), server: hex::encode(rand::random::<[u8; 8]>()) };
+    let server = seat.server.clone();
+    let warm = Warm::begin(&gateway, &place.prefix());
+    look_ahead(&options, &gateway, &place.prefix());
     let waited = runtime.block_on(wait_for_mastership(&options, &gateway, &place.prefix(), seat))?;
     let Some(Standing { mastership, mut signals, counters }) = waited else {
         // (who waits for the mastership may wait on: it ends with the process)
         runtime.shutdown_background();
         return Ok(());
     };
-    let rows = Rows { gateway, prefix: place.prefix(), mastership: mastership.clone() };
-    let served = look_beside(&options, &rows)
+    let rows = Rows { gateway, prefix: place.prefix(), mastership: mastership.clone(), found: Arc::default() };
+    let served = look_beside(&options, &rows, warm)
         .and_then(|found| runtime.block_on(run(options, PathBuf::new(), Some(rows), found, &mut signals, Some(counters))));
     runtime.shutdown_background();
     if served.is_ok() || signals.going.is_told || mastership.holds() {
@@ -112,7 +119,7 @@ fn serve_rows(place: Place, options: Options) -> Result<()> {
         return served;
     }
     warn!("standing by again");
-    Err(Command::new(std::env::current_exe()?).args(std::env::args_os().skip(1)).exec().into())
+    Err(Command::new(std::env::current_exe()?).args(std::env::args_os().skip(1)).env(LAST_SERVER, server).exec().into())
 }
 
 // What a server has that stood by, and is master now.
@@ -133,11 +140,15 @@ async fn wait_for_mastership(options: &Options, gateway: &Arc<Gateway>, prefix: 
     for (counter, _) in &counters {
         counter.turn(Asked::StandsBy(known.clone()));
     }
-    println!("standing by");
-    tell(&[], &counters)?;
+    // (whoever started it may listen no more)
+    let _ = writeln!(io::stdout(), "standing by");
+    let _ = tell(&[], &counters);
     let (gateway, prefix, span) = (gateway.clone(), prefix.to_owned(), options.mastership);
     let mut waiting = tokio::task::spawn_blocking(move || {
-        Mastership::wait(&gateway, &prefix, &seat, span, |other| *known.lock().unwrap_or_else(PoisonError::into_inner) = other)
+        let last = std::env::var(LAST_SERVER).ok();
+        Mastership::wait(&gateway, &prefix, &seat, span, last.as_deref(), |other| {
+            *known.lock().unwrap_or_else(PoisonError::into_inner) = other
+        })
     });
     // (where no service manager waits for it nothing is told)
     let _ = sd_notify::notify(false, &[NotifyState::Ready]);
@@ -169,15 +180,39 @@ async fn open_counters(options: &Options) -> Result<Vec<(Counter, Address)>> {
     Ok(counters)
 }
 
+// What a server that stands by may know before it is master, so that it comes up the sooner.
+fn look_ahead(options: &Arc<Options>, gateway: &Arc<Gateway>, prefix: &str) {
+    let (options, gateway, prefix) = (options.clone(), gateway.clone(), prefix.to_owned());
+    thread::spawn(move || {
+        is_unproved(&options.master.clone().unwrap_or_else(cellctl));
+        // (where no member answers it is asked later)
+        let _ = takes(&gateway, &prefix);
+    });
+}
+
+// Whether etcd takes as many operations in a transaction as a commit may have. It is asked once.
+fn takes(gateway: &Gateway, prefix: &str) -> Result<bool> {
+    static TAKES: OnceLock<bool> = OnceLock::new();
+    if let Some(takes) = TAKES.get() {
+        return Ok(*takes);
+    }
+    let takes = gateway.takes(OPERATIONS, prefix)?;
+    Ok(*TAKES.get_or_init(|| takes))
+}
+
 // What the rows in etcd are, and what stands beside them.
-fn look_beside(options: &Options, rows: &Rows) -> Result<Found> {
+fn look_beside(options: &Options, rows: &Rows, warm: Warm) -> Result<Found> {
     let settings = Settings::read(options.settings.as_deref())?;
-    let found = etcd::found::Found::read(&rows.gateway, &rows.prefix)?;
+    let own = rows.gateway.get(&format!("{}meta", rows.prefix))?;
+    let found = match own.and_then(|own| warm.take(own.changed)) {
+        Some(found) => found,
+        None => etcd::found::Found::read(&rows.gateway, &rows.prefix, || rows.mastership.check())?,
+    };
     let mut numbers = Numbers::beside(rows, found.first_client())?;
     let head = Head { epoch: found.epoch(), coming: found.epoch() + 1, has_known_secret: found.has_known_secret() };
     let epochs = head.check(numbers.epochs())?;
     let mut warnings = warnings(options, head.has_known_secret);
-    if !rows.gateway.takes(OPERATIONS, &rows.prefix)? {
+    if !takes(&rows.gateway, &rows.prefix)? {
         warnings.push(format!(
             "etcd takes no transaction of {OPERATIONS} operations, and refuses a commit of more than it takes: set --max-txn-ops {OPERATIONS}"
         ));
@@ -187,6 +222,7 @@ fn look_beside(options: &Options, rows: &Rows) -> Result<Found> {
         warnings.extend(check(options, &settings, &tables)?.iter().map(stranger));
     }
     numbers.note(epochs)?;
+    *rows.found.lock().unwrap_or_else(PoisonError::into_inner) = Some(found);
     let picture = Box::new(move || Picture::of(&tables));
     Ok(Found { picture, numbers, settings, warnings })
 }
@@ -272,10 +308,11 @@ fn stranger(principal: &String) -> String {
     format!("the settings name {principal}, whom the ACL base doesn't: they are those of a new store")
 }
 
-// Whether the master says so itself. (One that can't be started is told of when it is.)
+// Whether the master says so itself; it is asked once. (One that can't be started is told of when it is.)
 fn is_unproved(master: &Path) -> bool {
-    let told = Command::new(master).arg("--version").output();
-    told.is_ok_and(|told| String::from_utf8_lossy(&told.stdout).contains("without proof"))
+    static IS_UNPROVED: OnceLock<bool> = OnceLock::new();
+    let told = || Command::new(master).arg("--version").output();
+    *IS_UNPROVED.get_or_init(|| told().is_ok_and(|told| String::from_utf8_lossy(&told.stdout).contains("without proof")))
 }
 
 /// The program beside this one, else the one on the path.
@@ -314,6 +351,10 @@ async fn run(
     let mastership = rows.as_ref().map(|rows| rows.mastership.clone());
     let hall = Arc::new(Hall::new(found.numbers, &found.settings.limits, mastership)?);
     let store = rows.is_none().then(|| path.clone());
+    if let Some(rows) = &rows {
+        hall.metrics.watch(rows)?;
+        upkeep::begin(rows.clone(), Duration::from_secs(options.etcd_history));
+    }
     let program = Program::new(&options.master.clone().unwrap_or_else(cellctl));
     let making = Making { program, store: path, rows, settings: found.settings };
     let (orders, ordered) = mpsc::channel(4);
@@ -329,7 +370,8 @@ async fn run(
     let is_unproved = found.warnings.iter().any(|warning| warning == UNPROVED);
     hall.metrics.tell_build(is_unproved)?;
     let showing = Arc::new(Showing { hall: hall.clone(), listening, warnings: found.warnings, begun: Instant::now(), store });
-    tell(&showing.listening, &counters)?;
+    // (whoever started it may listen no more, as where it stood by before)
+    let _ = tell(&showing.listening, &counters);
     for (counter, address) in counters {
         let is_private = matches!(address, Address::Unix(_));
         counter.turn(Asked::Master(Admin { showing: showing.clone(), orders: orders.clone(), is_private }));

@@ -1,9 +1,11 @@
 //! What server, clients and command line are tested with.
 
 mod disks;
+mod etcd;
 mod fail_overs;
 mod far;
 mod history;
+mod holder;
 mod holds;
 mod masters;
 mod members;
@@ -16,12 +18,14 @@ mod strangers;
 mod workers;
 
 pub use disks::{Filled, fill};
+pub use etcd::{Etcd, rows};
 pub use fail_overs::{
     Noticed, fail_over, start_behind_clients_that_left, write_beside_one_that_keeps, write_beside_one_that_starts,
     write_beside_one_that_stays_behind,
 };
 pub use far::far_from;
 pub use history::{Read, Write, check_history};
+pub use holder::Holder;
 pub use holds::{Hold, check_holds};
 pub use masters::{Master, forged, messages, opening};
 pub use members::Member;

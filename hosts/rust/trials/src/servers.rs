@@ -265,12 +265,15 @@ impl Start {
         let (mut addresses, mut admins) = (Vec::new(), Vec::new());
         let lines = child.stdout.take().map(|out| BufReader::new(out).lines()).into_iter().flatten();
         let wanted = self.addresses().max(1) + self.words.iter().filter(|word| *word == "--admin").count();
-        for line in lines.take(wanted) {
+        for line in lines {
             let line = line?;
             match line.split_once(' ') {
                 Some(("listening", place)) => addresses.push(place.to_owned()),
                 Some(("admin", place)) => admins.push(place.to_owned()),
                 _ => {}
+            }
+            if addresses.len() + admins.len() == wanted {
+                break;
             }
         }
         match addresses.first().cloned() {

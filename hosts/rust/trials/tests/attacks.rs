@@ -884,6 +884,27 @@ fn masters_are_of_the_version_of_their_server() {
     fs::remove_dir_all(folder).unwrap();
 }
 
+// The numbers beside the store are wound back by hand, so that the next new client gets the one that a live session has.
+#[test]
+fn who_gets_another_clients_number_does_not_act_for_it() {
+    let mut stage = Stage::new("number-twice");
+    let number = stage.witness.client.number();
+    stage.stop();
+    let path = beside(&stage.store, "-numbers");
+    let lines = fs::read_to_string(&path).unwrap();
+    let wound_back = lines.lines().map(|line| if line.starts_with("next ") { format!("next {number}\n") } else { format!("{line}\n") });
+    fs::write(&path, wound_back.collect::<String>()).unwrap();
+    stage.server = stage.again().start().unwrap();
+    let (mut connection, welcome) = Plain::greet(stage.place(), &new("bob")).unwrap();
+    assert_eq!(welcome.unwrap().client, number);
+    let [_, beat, _] = messages(&mut Master::of_epoch(2).unwrap(), number, "bob").unwrap();
+    connection.send(&beat).unwrap();
+    let refused = said(answer(&mut connection));
+    println!("attack: a number that is given twice, and a Beat in another's session: {refused}");
+    assert_eq!(refused, "cut off", "the log: {}", tail(&stage.server.logged()));
+    assert!(stage.server.has_logged("its session is another principal's"));
+}
+
 #[test]
 fn an_address_that_is_not_safe_wants_a_word() {
     let folder = folder("insecure");

@@ -1,12 +1,15 @@
 //! What is counted, as Prometheus reads it.
 
 use crate::admin::processes::Used;
+use crate::etcd::Rows;
+use crate::etcd::mastership::Mastership;
 use host_wire::{Printed, refusal_name};
 use prometheus::{
     Counter, Gauge, Histogram, IntCounter, IntCounterVec, IntGauge, IntGaugeVec, Registry, TextEncoder, histogram_opts, opts,
     register_counter_with_registry, register_gauge_with_registry, register_histogram_with_registry, register_int_counter_vec_with_registry,
     register_int_counter_with_registry, register_int_gauge_vec_with_registry, register_int_gauge_with_registry,
 };
+use std::sync::{Arc, OnceLock};
 use std::time::Duration;
 
 /// The bounds of times, in seconds.
@@ -44,6 +47,7 @@ pub struct Metrics {
     master_memory: IntGauge,
     master_seconds: Counter,
     processes: Processes,
+    mastership: OnceLock<(Arc<Mastership>, Gauge)>,
 }
 
 /// The server's own process, by the names that each program has.
@@ -132,6 +136,7 @@ impl Metrics {
             master_seconds: register_counter_with_registry!(by("master_cpu_seconds_total", "Processor time of the master."), r)?,
             processes: Processes::new()?,
             registry: r,
+            mastership: OnceLock::new(),
         })
     }
 
@@ -139,6 +144,18 @@ impl Metrics {
     pub fn tell_build(&self, is_unproved: bool) -> prometheus::Result<()> {
         let build = register_int_gauge_vec_with_registry!(opts!("build_info", "The build."), &["version", "proof"], self.registry)?;
         build.with_label_values(&[env!("CARGO_PKG_VERSION"), if is_unproved { "without" } else { "proved" }]).set(1);
+        Ok(())
+    }
+
+    /// Those of etcd too, and how long the mastership lasts still.
+    pub fn watch(&self, rows: &Rows) -> prometheus::Result<()> {
+        let health = rows.gateway.health();
+        self.registry.register(Box::new(health.seconds.clone()))?;
+        self.registry.register(Box::new(health.failures.clone()))?;
+        self.registry.register(Box::new(health.has_no_room.clone()))?;
+        let help = "For how long this server is still master, where it can't renew that.";
+        let rest = register_gauge_with_registry!(opts!("mastership_seconds", help), self.registry)?;
+        self.mastership.get_or_init(|| (rows.mastership.clone(), rest));
         Ok(())
     }
 
@@ -226,6 +243,9 @@ impl Metrics {
             gauge.set(value.cast_signed());
         }
         self.oldest.set(levels.oldest.as_secs_f64());
+        if let Some((mastership, rest)) = self.mastership.get() {
+            rest.set(mastership.rest().as_secs_f64());
+        }
         // (the kernel counts them)
         for (counter, value) in [(&self.master_seconds, levels.master.seconds), (&self.processes.seconds, levels.own.seconds)] {
             counter.reset();

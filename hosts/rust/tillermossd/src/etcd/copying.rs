@@ -12,6 +12,7 @@ use anyhow::{Context, Result, bail};
 use std::fs;
 use std::path::Path;
 use std::process::{Command, Stdio};
+use std::sync::Arc;
 
 /// So many pairs, and about so many bytes, are put at once.
 const DEEDS: usize = 64;
@@ -30,7 +31,7 @@ pub fn copy(from: &End, to: &End, trust: &Trust, program: &Path) -> Result<()> {
         }
         (End::Etcd(place), End::File(path)) => {
             let held = Held::take(place, trust)?;
-            let found = Found::read(&held.0.gateway, &held.0.prefix)?;
+            let found = Found::read(&held.0.gateway, &held.0.prefix, || held.0.mastership.check())?;
             make(path, &found, program)?;
             Numbers::beside(&held.0, found.first_client())?.note(Epochs::behind(found.epoch()))
         }
@@ -52,8 +53,11 @@ impl Held {
     fn take(place: &Place, trust: &Trust) -> Result<Held> {
         let gateway = place.gateway(trust)?;
         let seat = Seat { address: String::new(), server: format!("copy {}", std::process::id()) };
-        let mastership = Mastership::wait(&gateway, &place.prefix(), &seat, SPAN, |_| {});
-        Ok(Held(Rows { gateway, prefix: place.prefix(), mastership }))
+        let mastership = match Mastership::take_at_once(&gateway, &place.prefix(), &seat, SPAN)? {
+            Ok(mastership) => mastership,
+            Err(other) => bail!("a server is master there, at {}: its servers have to be down", other.address),
+        };
+        Ok(Held(Rows { gateway, prefix: place.prefix(), mastership, found: Arc::default() }))
     }
 }
 

@@ -1,13 +1,20 @@
 //! All rows of a cell: as they stand in etcd, as they are told, and as they stand in a SQLite file.
 
-use crate::etcd::gateway::{Gateway, Pair};
+use crate::etcd::gateway::{Gateway, Lost, Pair};
 use crate::etcd::rows::{Content, KINDS, LIVES, Lock, LockKey, Meta, Node, STATES, Session, chosen, place};
 use anyhow::{Context, Result};
 use rusqlite::{Connection, params};
 use std::collections::{BTreeMap, HashMap};
+use std::thread;
+use std::time::Duration;
 
-/// So many pairs are read at once: 200 of the longest contents are 100 MB.
-const PAGE: usize = 200;
+/// So many pairs are read at first, and so many at most, in a page of about so many bytes.
+const FIRST_PAGE: usize = 64;
+const LONGEST_PAGE: usize = 1024;
+const BYTES: usize = 4 << 20;
+
+/// So long before a page is asked for again.
+const PAUSE: Duration = Duration::from_millis(100);
 
 /// So much higher clients' numbers go on where nobody knows the last one.
 const CLIENTS: u64 = 1 << 20;
@@ -24,6 +31,8 @@ const TABLES: &str = "
 /// What was found.
 #[derive(Debug, Default, PartialEq, Eq)]
 pub struct Found {
+    /// At which revision it stood there; 0 of what stands elsewhere.
+    pub revision: i64,
     /// The cell's own row, and the revision that changed it last.
     pub meta: Option<(Meta, i64)>,
     /// By name.
@@ -52,21 +61,43 @@ fn key_of(text: &str) -> Option<LockKey> {
     }
 }
 
+// How many pairs the next page has, by the longest of the last one; at most twice as many, since longer ones may come.
+fn next_page(pairs: &[Pair]) -> usize {
+    let longest = pairs.iter().map(|pair| pair.key.len() + pair.value.len()).max().unwrap_or(0);
+    (BYTES / longest.max(1)).clamp(FIRST_PAGE / 4, LONGEST_PAGE).min(2 * pairs.len())
+}
+
 impl Found {
-    /// All that stands there now, page by page at one revision.
-    pub fn read(gateway: &Gateway, prefix: &str) -> Result<Found> {
+    /// All that stands there now, page by page at one revision. Where no member answers it is tried again for as long as the check
+    /// holds.
+    pub fn read(gateway: &Gateway, prefix: &str, check: impl Fn() -> Result<()>) -> Result<Found> {
         let mut found = Found::default();
-        let (mut from, mut at) = (prefix.to_owned(), 0);
+        let (mut from, mut at, mut count) = (prefix.to_owned(), 0, FIRST_PAGE);
         loop {
-            let (pairs, revision) = gateway.page(prefix, &from, at, PAGE)?;
-            at = revision;
+            let (pairs, revision) = match gateway.page(prefix, &from, at, count) {
+                Ok(page) => page,
+                Err(Lost::Unknown(_)) => {
+                    check()?;
+                    thread::sleep(PAUSE);
+                    continue;
+                }
+                // (what stood at that revision is forgotten meanwhile)
+                Err(Lost::Refused(fault)) if fault.to_string().contains("compacted") => {
+                    check()?;
+                    (found, from, at) = (Found::default(), prefix.to_owned(), 0);
+                    continue;
+                }
+                Err(refused) => return Err(refused.into()),
+            };
+            (at, found.revision) = (revision, revision);
             for pair in &pairs {
                 found.take(pair, prefix).with_context(|| format!("{} isn't understood", pair.key))?;
             }
             match pairs.last() {
-                Some(last) if pairs.len() == PAGE => from = format!("{}\0", last.key),
+                Some(last) if pairs.len() == count => from = format!("{}\0", last.key),
                 _ => return Ok(found),
             }
+            count = next_page(&pairs);
         }
     }
 
@@ -83,6 +114,35 @@ impl Found {
             _ => {}
         }
         Ok(())
+    }
+
+    /// Follows what changed by a revision: each pair as it stands then, or that a key is gone. Whether all of it is understood.
+    pub fn follow(&mut self, prefix: &str, revision: i64, changes: &[Result<Pair, String>]) -> bool {
+        self.revision = revision;
+        changes.iter().all(|change| match change {
+            Ok(pair) => self.take(pair, prefix).is_ok(),
+            Err(gone) => gone.strip_prefix(prefix).is_some_and(|key| self.forget(key)),
+        })
+    }
+
+    fn forget(&mut self, key: &str) -> bool {
+        let (kind, rest) = key.split_once('/').unwrap_or((key, ""));
+        match kind {
+            "meta" => self.meta = None,
+            "nodes" => drop(self.nodes.remove(&format!("/{rest}"))),
+            "generations" => drop(self.generations.remove(&format!("/{rest}"))),
+            "sessions" => return rest.parse().is_ok_and(|client| self.sessions.remove(&client).is_some()),
+            "locks" => return key_of(rest).is_some_and(|key| self.locks.remove(&key).is_some()),
+            "numbers" => self.numbers = None,
+            _ => {}
+        }
+        true
+    }
+
+    /// The revision that changed the cell's own row last.
+    #[must_use]
+    pub fn changed(&self) -> Option<i64> {
+        self.meta.as_ref().map(|(_, changed)| *changed)
     }
 
     /// The epoch of the last master; 0 where no cell stands there.
@@ -256,6 +316,15 @@ impl Found {
 #[cfg(test)]
 mod tests {
     use super::*;
+
+    #[test]
+    fn pages_have_about_as_many_bytes() {
+        let pairs = |count, length| vec![Pair { key: String::new(), value: vec![0; length], created: 1, changed: 1, lease: 0 }; count];
+        let rows = [(64, 100, 128), (1024, 100, 1024), (64, 1 << 16, 64), (64, 1 << 18, 16), (16, 1 << 18, 16), (16, 100, 32)];
+        for (count, length, wanted) in rows {
+            assert_eq!(next_page(&pairs(count, length)), wanted, "{count} {length}");
+        }
+    }
 
     fn found() -> Found {
         let meta = Meta { cell: "c".to_owned(), secret: "00".repeat(32), epoch: 3, next_instance: 5, number: 0, by: 0, keeper: 0, turn: 0 };

@@ -13,7 +13,7 @@ use std::sync::Arc;
 use std::sync::atomic::{AtomicBool, Ordering};
 use std::thread;
 use std::time::Duration;
-use tracing::{error, warn};
+use tracing::error;
 
 /// So long before etcd is asked again.
 const PAUSE: Duration = Duration::from_millis(100);
@@ -31,7 +31,7 @@ struct Known {
 /// Keeps the rows for one master.
 #[derive(Debug)]
 pub struct Keeper {
-    gateway: Arc<Gateway>,
+    gateway: Gateway,
     prefix: String,
     /// The key of the cell's own row, which each of its transactions compares and swaps.
     key: String,
@@ -39,6 +39,8 @@ pub struct Keeper {
     /// Its own number, and the turn of its last transaction.
     own: Turn,
     known: Known,
+    /// What the rows are, where they were found before it wrote.
+    found: Option<Found>,
     is_loaded: bool,
     is_ended: Arc<AtomicBool>,
 }
@@ -127,14 +129,22 @@ impl Change {
 impl Keeper {
     /// One of a cell, for a mastership. It has written the cell's own row anew, under a number of its own: so nothing that an earlier
     /// keeper sent is done any more, however late it comes. It waits for etcd while the mastership lasts.
-    pub fn open(gateway: Arc<Gateway>, prefix: &str, mastership: Arc<Mastership>) -> Result<Keeper> {
+    /// What was found there before needn't be read again, where it is of the same revision of that row.
+    pub fn open(gateway: &Gateway, prefix: &str, mastership: Arc<Mastership>, found: Option<Found>) -> Result<Keeper> {
         let own = Turn { keeper: rand::thread_rng().gen_range(1..u64::MAX), turn: 1 };
         let (key, is_ended) = (format!("{prefix}meta"), Arc::default());
+        let gateway = gateway.until(&is_ended);
         let (meta, changed) = (Meta::default(), 0);
         let known = Known { meta, changed, instances: HashMap::new() };
-        let mut keeper = Keeper { gateway, prefix: prefix.to_owned(), key, mastership, own, known, is_loaded: false, is_ended };
+        let mut keeper = Keeper { gateway, prefix: prefix.to_owned(), key, mastership, own, known, found, is_loaded: false, is_ended };
         while !keeper.write_anew()? {}
         Ok(keeper)
+    }
+
+    /// Whether etcd takes no write, for want of room.
+    #[must_use]
+    pub fn wants_room(&self) -> bool {
+        !self.gateway.health().has_room()
     }
 
     /// By which another thread ends it: then it asks etcd nothing more.
@@ -171,9 +181,9 @@ impl Keeper {
             match self.gateway.get(&self.key) {
                 Ok(Some(pair)) => return Ok((serde_json::from_slice(&pair.value)?, pair.changed)),
                 Ok(None) => bail!("{} isn't there: no cell stands there", self.key),
-                Err(lost) => warn!(reason = %lost, "a commit isn't settled yet"),
+                // (where none answers the gateway says so)
+                Err(_) => thread::sleep(PAUSE),
             }
-            thread::sleep(PAUSE);
         }
     }
 
@@ -191,6 +201,8 @@ impl Keeper {
     fn write_anew(&mut self) -> Result<bool> {
         let turn = self.next_turn();
         (self.known.meta, self.known.changed) = self.read()?;
+        // (each commit changes this row)
+        self.found.take_if(|found| found.changed() != Some(self.known.changed));
         loop {
             match self.write_own(turn, &self.known.meta)? {
                 Ok(Some(revision)) => {
@@ -198,7 +210,7 @@ impl Keeper {
                     return Ok(true);
                 }
                 Ok(None) => self.mastership.check_key()?,
-                Err(lost) => warn!(reason = %lost, "the cell's own row isn't written anew yet"),
+                Err(_) => {}
             }
             let (meta, revision) = self.read()?;
             match outcome(turn, self.known.changed, meta.written_by(), revision) {
@@ -214,14 +226,20 @@ impl Keeper {
 
     // All rows at one revision.
     fn load(&mut self) -> Result<Answer> {
-        let found = Found::read(&self.gateway, &self.prefix)?;
-        let (meta, changed) = found.meta.clone().with_context(|| format!("{} isn't there: no cell stands there", self.key))?;
-        if changed != self.known.changed {
-            bail!("another keeper has written the rows");
-        }
+        let (found, meta) = match self.found.take() {
+            Some(found) => (found, self.known.meta.clone()),
+            None => {
+                let found = Found::read(&self.gateway, &self.prefix, || self.check())?;
+                let (meta, changed) = found.meta.clone().with_context(|| format!("{} isn't there: no cell stands there", self.key))?;
+                if changed != self.known.changed {
+                    bail!("another keeper has written the rows");
+                }
+                (found, meta)
+            }
+        };
         let (count, rows) = found.rows()?;
         let told = Answer::rows(&meta, count, rows)?;
-        self.known = Known { meta, changed, instances: found.instances() };
+        (self.known.meta, self.known.instances) = (meta, found.instances());
         self.is_loaded = true;
         self.check()?;
         Ok(told)
@@ -240,6 +258,8 @@ impl Keeper {
             let tried = self.gateway.change(&[Compare::Changed(&self.key, self.known.changed), self.mastership.fence()], &deeds);
             let settled = match tried {
                 Ok(Some(revision)) => Some(revision),
+                // (the gateway says that etcd has no room)
+                Err(Lost::Refused(_)) if !self.gateway.health().has_room() => return Ok(false),
                 Err(Lost::Refused(fault)) => {
                     error!(reason = %fault, deeds = deeds.len(), "etcd refuses a commit; where it has too many operations, set --max-txn-ops");
                     return Ok(false);
@@ -284,7 +304,7 @@ impl Keeper {
                     }
                     // (where its key is there the lost one was done meanwhile)
                     Ok(None) => self.mastership.check_key()?,
-                    Err(lost) => warn!(reason = %lost, "a commit isn't settled yet"),
+                    Err(_) => {}
                 },
             }
             thread::sleep(PAUSE);
@@ -305,12 +325,12 @@ mod tests {
         let gateway = etcd.gateway();
         gateway.change(&[], &[Deed::Put("c/meta".to_owned(), META.as_bytes().to_vec())]).unwrap();
         let seat = Seat { address: String::new(), server: "first".to_owned() };
-        let mastership = Mastership::wait(&gateway, "c/", &seat, 60, |_| {});
-        loaded(gateway, mastership)
+        let mastership = Mastership::wait(&gateway, "c/", &seat, 60, None, |_| {});
+        loaded(&gateway, mastership)
     }
 
-    fn loaded(gateway: Arc<Gateway>, mastership: Arc<Mastership>) -> Keeper {
-        let mut keeper = Keeper::open(gateway, "c/", mastership).unwrap();
+    fn loaded(gateway: &Gateway, mastership: Arc<Mastership>) -> Keeper {
+        let mut keeper = Keeper::open(gateway, "c/", mastership, None).unwrap();
         keeper.load().unwrap();
         keeper
     }
@@ -376,7 +396,7 @@ mod tests {
         etcd.go(&[Way::Held]);
         let late = thread::spawn(move || first.commit(1, &edits()));
         etcd.wait_for_held(1);
-        let mut second = loaded(etcd.gateway(), mastership);
+        let mut second = loaded(&etcd.gateway(), mastership);
         etcd.let_through();
         let session = host_wire::rows::Session { principal: "bob".to_owned(), is_live: true };
         let told = second.commit(1, &[Edit::PutSession(8, session)]).ok();

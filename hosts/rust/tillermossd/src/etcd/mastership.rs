@@ -6,6 +6,7 @@ use crate::etcd::gateway::{Compare, Deed, Gateway, Lost, Pair};
 use anyhow::{Result, bail};
 use nix::time::{ClockId, clock_gettime};
 use serde::{Deserialize, Serialize};
+use std::mem;
 use std::sync::atomic::{AtomicU64, Ordering};
 use std::sync::{Arc, Mutex, PoisonError};
 use std::thread;
@@ -52,16 +53,6 @@ pub struct Mastership {
     end: AtomicU64,
 }
 
-// Only the first of many faults is logged.
-fn note_reached(was_reached: bool, fault: Option<&Lost>) -> bool {
-    match fault {
-        Some(lost) if was_reached => warn!(reason = %lost, "etcd isn't reached"),
-        None if !was_reached => info!("etcd is reached again"),
-        _ => {}
-    }
-    fault.is_none()
-}
-
 /// By which lease the key stands there.
 #[derive(Clone, Copy, Debug)]
 struct Grant {
@@ -70,25 +61,61 @@ struct Grant {
     changed: i64,
 }
 
+// Takes the key of a mastership away as it stands there; whether that was done.
+fn remove(gateway: &Gateway, pair: &Pair) -> bool {
+    let same = [Compare::Created(&pair.key, pair.created), Compare::Changed(&pair.key, pair.changed)];
+    gateway.change(&same, &[Deed::Delete(pair.key.clone())]).is_ok_and(|done| done.is_some())
+}
+
 impl Mastership {
     /// Waits until no other server is master, and takes over, for so many seconds at a time. Tells each other one of it that it sees
-    /// meanwhile.
-    pub fn wait(gateway: &Arc<Gateway>, prefix: &str, seat: &Seat, span: u64, mut tell: impl FnMut(Option<Seat>)) -> Arc<Mastership> {
+    /// meanwhile. One whose time ended before this same process began anew is taken back at once: nobody has been master since.
+    pub fn wait(
+        gateway: &Arc<Gateway>,
+        prefix: &str,
+        seat: &Seat,
+        span: u64,
+        last: Option<&str>,
+        mut tell: impl FnMut(Option<Seat>),
+    ) -> Arc<Mastership> {
         let key = format!("{prefix}master");
-        let mut is_reached = true;
+        let mut is_refused = false;
         loop {
-            let found = gateway.get(&key);
-            is_reached = note_reached(is_reached, found.as_ref().err());
-            match found {
-                Ok(Some(other)) => tell(serde_json::from_slice(&other.value).ok()),
+            match gateway.get(&key) {
+                Ok(Some(other)) => {
+                    let known: Option<Seat> = serde_json::from_slice(&other.value).ok();
+                    if known.as_ref().is_some_and(|seat| Some(seat.server.as_str()) == last) && remove(gateway, &other) {
+                        continue;
+                    }
+                    tell(known);
+                }
                 Ok(None) => match Mastership::take(gateway, &key, seat, span) {
                     Ok(Some(taken)) => return taken,
                     Ok(None) => continue,
-                    Err(error) => warn!(reason = %format_args!("{error:#}"), "the mastership can't be taken"),
+                    Err(error) => {
+                        // (only the first of many faults is logged)
+                        if !mem::replace(&mut is_refused, true) {
+                            warn!(reason = %format_args!("{error:#}"), "the mastership can't be taken");
+                        }
+                        let _ = gateway.look_for_room();
+                    }
                 },
                 Err(_) => tell(None),
             }
             thread::sleep(PAUSE);
+        }
+    }
+
+    /// Takes it where no other server is master; else tells which one is.
+    pub fn take_at_once(gateway: &Arc<Gateway>, prefix: &str, seat: &Seat, span: u64) -> Result<Result<Arc<Mastership>, Seat>> {
+        let key = format!("{prefix}master");
+        loop {
+            if let Some(other) = gateway.get(&key)? {
+                return Ok(Err(serde_json::from_slice(&other.value)?));
+            }
+            if let Some(taken) = Mastership::take(gateway, &key, seat, span)? {
+                return Ok(Ok(taken));
+            }
         }
     }
 
@@ -118,11 +145,20 @@ impl Mastership {
 
     // Renews it until it has ended.
     fn renew(&self, span: u64) {
+        let mut is_renewed = true;
         while self.holds() {
             thread::sleep(Duration::from_millis(span * 1000 / RENEWALS));
             match self.renew_once(span) {
-                Ok(end) => self.lengthen(end),
-                Err(error) => warn!(reason = %format_args!("{error:#}"), "the mastership wasn't renewed"),
+                Ok(end) => {
+                    is_renewed = true;
+                    self.lengthen(end);
+                }
+                Err(error) => {
+                    // (only the first of many faults is logged)
+                    if mem::replace(&mut is_renewed, false) {
+                        warn!(reason = %format_args!("{error:#}"), "the mastership wasn't renewed");
+                    }
+                }
             }
         }
         warn!("the mastership has ended");
@@ -140,7 +176,11 @@ impl Mastership {
         let mut grant = self.grant.lock().unwrap_or_else(PoisonError::into_inner);
         self.check()?;
         let sent = now();
-        let (lease, seconds) = self.gateway.lend(span)?;
+        let lent = if self.gateway.health().has_room() { self.gateway.lend(span) } else { return self.renew_in_place(grant.lease) };
+        let (lease, seconds) = match lent {
+            Err(_) if !self.gateway.health().has_room() => return self.renew_in_place(grant.lease),
+            lent => lent?,
+        };
         // (of puts that got lost none can be done behind this one)
         let same = [self.fence(), Compare::Changed(&self.key, grant.changed)];
         let next = match self.gateway.change(&same, &[Deed::Lend(self.key.clone(), self.value.clone(), lease)]) {
@@ -157,6 +197,22 @@ impl Mastership {
         Ok(end_of(sent, seconds))
     }
 
+    // Where etcd has no room it makes no lease: the one that there is is kept alive. That is done by whichever member thinks that it
+    // leads; so it counts only where most members then still follow the same one.
+    fn renew_in_place(&self, lease: i64) -> Result<u64> {
+        let sent = now();
+        let (seconds, term) = self.gateway.keep_alive(lease)?;
+        let (pair, later) = self.gateway.get_of_term(&self.key)?;
+        if pair.is_none_or(|pair| pair.created != self.revision || pair.lease != lease) {
+            self.end.store(0, Ordering::SeqCst);
+            bail!("its key is gone");
+        }
+        if term != later {
+            bail!("etcd has another leader meanwhile");
+        }
+        Ok(end_of(sent, seconds))
+    }
+
     // How the key stands there.
     fn read_grant(&self) -> Result<Grant> {
         match self.gateway.get(&self.key)? {
@@ -166,6 +222,12 @@ impl Mastership {
                 bail!("its key is gone")
             }
         }
+    }
+
+    /// How long it lasts still.
+    #[must_use]
+    pub fn rest(&self) -> Duration {
+        Duration::from_millis(self.end.load(Ordering::SeqCst).saturating_sub(now()))
     }
 
     /// Whether it lasts still: then all that was done up to now was done before another server could be master.

@@ -31,6 +31,7 @@ const PAUSE: Duration = Duration::from_millis(5);
 pub struct Kept {
     folder: TempDir,
     has_ended: Arc<AtomicBool>,
+    waits_for_room: Arc<AtomicBool>,
     is_to_end: Arc<AtomicBool>,
     keeping: JoinHandle<()>,
 }
@@ -46,6 +47,12 @@ impl Kept {
     #[must_use]
     pub fn has_ended(&self) -> bool {
         self.has_ended.load(Ordering::SeqCst)
+    }
+
+    /// Whether that is so since etcd had no room: this master goes on without commits until there is some.
+    #[must_use]
+    pub fn waits_for_room(&self) -> bool {
+        self.waits_for_room.load(Ordering::SeqCst)
     }
 
     /// Ends the keeper of a master that is gone, and waits for its thread: for an answer of etcd at most.
@@ -72,9 +79,9 @@ pub fn keep(mut keeper: Keeper) -> Result<Kept> {
     for name in [ASKED, ANSWERED] {
         mkfifo(&folder.path().join(name), Mode::S_IRUSR | Mode::S_IWUSR)?;
     }
-    let (is_to_end, has_ended) = (keeper.is_ended(), Arc::new(AtomicBool::new(false)));
-    let (path, noted) = (folder.path().to_owned(), has_ended.clone());
-    let keeping = thread::spawn(move || match serve(&mut keeper, &path, &noted) {
+    let (is_to_end, has_ended, waits_for_room) = (keeper.is_ended(), Arc::new(AtomicBool::new(false)), Arc::new(AtomicBool::new(false)));
+    let (path, noted, waiting) = (folder.path().to_owned(), has_ended.clone(), waits_for_room.clone());
+    let keeping = thread::spawn(move || match serve(&mut keeper, &path, &noted, &waiting) {
         // (one that goes in order is gone before all that it told is heard)
         Ok(()) => debug!("the master asks no more"),
         Err(fault) => {
@@ -82,18 +89,20 @@ pub fn keep(mut keeper: Keeper) -> Result<Kept> {
             noted.store(true, Ordering::SeqCst);
         }
     });
-    Ok(Kept { folder, has_ended, is_to_end, keeping })
+    Ok(Kept { folder, has_ended, waits_for_room, is_to_end, keeping })
 }
 
 // (behind a commit that was refused a master is told of no other; the answer goes out behind the note of it)
-fn serve(keeper: &mut Keeper, folder: &Path, has_ended: &AtomicBool) -> Result<()> {
+fn serve(keeper: &mut Keeper, folder: &Path, has_ended: &AtomicBool, waits_for_room: &AtomicBool) -> Result<()> {
     let mut asked = File::open(folder.join(ASKED))?;
     let mut answered = File::options().write(true).open(folder.join(ANSWERED))?;
     let mut blocks = Blocks::new(ANSWER_LIMIT);
     while let Some(block) = blocks.next(&mut asked)? {
         let answer = keeper.answer(&block);
-        if matches!(answer, Err(_) | Ok(Answer::Verdict(false))) {
-            has_ended.store(true, Ordering::SeqCst);
+        match &answer {
+            Ok(Answer::Verdict(false)) if keeper.wants_room() => waits_for_room.store(true, Ordering::SeqCst),
+            Err(_) | Ok(Answer::Verdict(false)) => has_ended.store(true, Ordering::SeqCst),
+            Ok(_) => {}
         }
         match answer? {
             Answer::Rows(front, rows) => {

@@ -170,7 +170,7 @@ impl Pretended {
 
     /// By which it is asked.
     pub fn gateway(&self) -> Arc<Gateway> {
-        Arc::new(Gateway::new(std::slice::from_ref(&self.place), None))
+        Arc::new(Gateway::new(std::slice::from_ref(&self.place), None, None))
     }
 
     /// What becomes of the next transactions.

@@ -143,6 +143,15 @@ struct Raised {
     next: Option<u64>,
 }
 
+// Opens a keeper. (Where etcd has no room it is opened later.)
+async fn keep(rows: Rows) -> Result<(Rows, Kept)> {
+    let gateway = rows.gateway.clone();
+    match spawn_blocking(move || rows.keep().map(|kept| (rows, kept))).await? {
+        Err(fault) if !gateway.health().has_room() => Err(StoreRefused(format!("{fault:#}")).into()),
+        kept => kept,
+    }
+}
+
 // Behind this nothing that a master which is gone has asked for is sent to etcd.
 async fn end_keeper(rows: Option<(Rows, Kept)>) {
     let ended = spawn_blocking(|| rows.into_iter().for_each(|(_, kept)| kept.end())).await;
@@ -156,7 +165,7 @@ impl Making {
     /// frame at a time for a while.
     pub async fn start(&self, hall: &Arc<Hall>, is_alone: bool, reading: Option<Reading>) -> Result<Master> {
         let rows = match self.rows.clone() {
-            Some(rows) => Some(spawn_blocking(move || rows.keep().map(|kept| (rows, kept))).await??),
+            Some(rows) => Some(keep(rows).await?),
             None => None,
         };
         let raised = match self.raise(hall, rows.as_ref().map(|(_, kept)| kept.folder()), reading).await {
@@ -339,6 +348,7 @@ impl Master {
     async fn serve(&mut self, orders: &mut mpsc::Receiver<Order>) -> Result<Ending> {
         loop {
             self.check_mastership()?;
+            self.check_room()?;
             if let Some(fault) = self.fill()? {
                 return Ok(Ending::StoreGone(fault));
             }
@@ -376,7 +386,8 @@ impl Master {
 
     fn is_alone(&self) -> bool {
         let is_short = || self.identity.as_ref().is_some_and(|store| store.is_short_of(GROUP_ROOM));
-        self.alone_until.is_some_and(|until| Instant::now() < until) || is_short()
+        let has_no_room = || self.rows.as_ref().is_some_and(|(rows, _)| !rows.gateway.health().has_room());
+        self.alone_until.is_some_and(|until| Instant::now() < until) || is_short() || has_no_room()
     }
 
     // (the disk is looked at once for what is sent together, and only where there is a second frame)
@@ -464,6 +475,16 @@ impl Master {
 
     fn check_mastership(&self) -> Result<()> {
         self.rows.as_ref().map_or(Ok(()), |(rows, _)| rows.mastership.check())
+    }
+
+    // A master that etcd had no room for goes on without commits, and gives way once there is some.
+    fn check_room(&self) -> Result<()> {
+        match &self.rows {
+            Some((rows, kept)) if kept.waits_for_room() && rows.gateway.health().has_room() => {
+                bail!("etcd has room again for the next one")
+            }
+            _ => Ok(()),
+        }
     }
 
     // All that was read of what the master tells; then each connection for which something came is woken once.

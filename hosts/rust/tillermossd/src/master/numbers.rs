@@ -300,6 +300,7 @@ mod tests {
     use super::*;
     use crate::etcd::mastership::{Mastership, Seat};
     use crate::etcd::pretended::{Pretended, Way};
+    use std::sync::Arc;
     use std::thread;
     use tempfile::TempDir;
 
@@ -399,8 +400,9 @@ mod tests {
     #[test]
     fn a_number_is_given_once_beside_rows() {
         let etcd = Pretended::start();
-        let mastership = Mastership::wait(&etcd.gateway(), "c/", &Seat { address: String::new(), server: "first".to_owned() }, 60, |_| {});
-        let rows = Rows { gateway: etcd.gateway(), prefix: "c/".to_owned(), mastership };
+        let mastership =
+            Mastership::wait(&etcd.gateway(), "c/", &Seat { address: String::new(), server: "first".to_owned() }, 60, None, |_| {});
+        let rows = Rows { gateway: etcd.gateway(), prefix: "c/".to_owned(), mastership, found: Arc::default() };
         let numbers = || Numbers::beside(&rows, 1).unwrap();
         let mut given = vec![numbers().allot().unwrap()];
         etcd.go(&[Way::Held]);

@@ -2,7 +2,7 @@
 
 use crate::Tried;
 use serde_json::{Value, json};
-use std::collections::BTreeMap;
+use std::collections::{BTreeMap, BTreeSet};
 use std::io::{BufRead, BufReader};
 use std::time::Duration;
 use ureq::{Agent, AgentBuilder};
@@ -14,6 +14,9 @@ pub struct Commit {
     pub number: u64,
     /// The mastership that did it.
     pub by: i64,
+    /// The keeper that wrote it, and which of its transactions did.
+    pub keeper: u64,
+    pub turn: u64,
 }
 
 /// The members of an etcd, as a trial asks them.
@@ -92,8 +95,7 @@ impl Etcd {
                     END => return Ok(true),
                     "c/meta" => {
                         let meta: Value = serde_json::from_str(&text(&event["kv"]["value"])?)?;
-                        let (number, by) = (meta["number"].as_u64(), meta["by"].as_i64());
-                        found.push(Commit { number: number.ok_or("a row without a number")?, by: by.ok_or("a row without a mastership")? });
+                        found.push(Commit::of(&meta)?);
                     }
                     _ => {}
                 }
@@ -104,13 +106,31 @@ impl Etcd {
     }
 }
 
-/// Whether each commit is the next one, by the mastership of the one before or a later one. One may stand there once more.
-pub fn check_commits(commits: &[Commit]) -> Tried<()> {
-    for pair in commits.windows(2) {
-        let is_next = pair[1].number == pair[0].number + 1 && pair[1].by >= pair[0].by;
-        if !is_next && pair[0] != pair[1] {
-            return Err(format!("a replaced master committed: {:?} behind {:?}", pair[1], pair[0]).into());
-        }
+impl Commit {
+    fn of(meta: &Value) -> Tried<Commit> {
+        let (number, by) = (meta["number"].as_u64(), meta["by"].as_i64());
+        let (keeper, turn) = (meta["keeper"].as_u64(), meta["turn"].as_u64());
+        Ok(Commit {
+            number: number.ok_or("a row without a number")?,
+            by: by.ok_or("a row without a mastership")?,
+            keeper: keeper.ok_or("a row without a keeper")?,
+            turn: turn.ok_or("a row without a turn")?,
+        })
     }
-    if commits.len() < 100 { Err("too few commits were seen".into()) } else { Ok(()) }
+}
+
+/// Whether each commit is the next one, by the mastership of the one before or a later one; a keeper may write its row once more as it
+/// stands. Each keeper writes in a row, in rising turns, and no more once another has written. So many keepers wrote.
+pub fn check_commits(commits: &[Commit]) -> Tried<usize> {
+    let mut keepers = BTreeSet::new();
+    for pair in commits.windows(2) {
+        let [before, now] = [pair[0], pair[1]];
+        let is_next = (now.number == before.number || now.number == before.number + 1) && now.by >= before.by;
+        let is_new = now.keeper != before.keeper && !keepers.contains(&now.keeper) && now.number == before.number;
+        if !is_next || !(is_new || (now.keeper == before.keeper && now.turn > before.turn)) {
+            return Err(format!("a replaced master committed: {now:?} after {before:?}").into());
+        }
+        keepers.insert(before.keeper);
+    }
+    if commits.len() < 100 { Err("too few commits were seen".into()) } else { Ok(keepers.len()) }
 }

@@ -14,7 +14,7 @@ use std::sync::atomic::Ordering;
 use std::thread;
 use std::time::{Duration, Instant};
 use tempfile::TempDir;
-use trials::{Passing, Proxy, Relay, master_program, program};
+use trials::{Holder, Passing, Proxy, Relay, master_program, program};
 
 /// So many members, and so many servers.
 const MACHINES: usize = 3;
@@ -32,6 +32,17 @@ const MEMBERS_STOPPED: Duration = Duration::from_secs(10);
 
 /// So long a server may take to go beside a master that is stuck.
 const GOING: Duration = Duration::from_secs(25);
+/// So long the next master has to come up while a commit of the one before it is held back.
+const COMING_UP: Duration = Duration::from_secs(1);
+
+/// What a server says that has shot its master.
+const REPLACED: &str = "the master is gone; another takes its place";
+
+/// What one says whose mastership was over before.
+const ENDED: &str = "the mastership has ended";
+
+/// So often a commit is held back until the server shoots its master.
+const TRIES: usize = 5;
 
 /// So long there may be no master.
 const WITHOUT: Duration = Duration::from_secs(60);
@@ -53,6 +64,10 @@ pub enum Trouble {
     Members,
     /// It is told to go while its master is stopped, and comes back.
     Stuck,
+    /// Its master alone is killed.
+    Child,
+    /// A commit is held back until the server has shot its master and started the next one, and is done then.
+    Shot,
     /// It is cut off for longer than any session lasts that no master hears of, while its clients only read and another writes.
     Quiet,
 }
@@ -69,8 +84,10 @@ impl FromStr for Trouble {
             "wake" => Ok(Trouble::Wake),
             "members" => Ok(Trouble::Members),
             "stuck" => Ok(Trouble::Stuck),
+            "child" => Ok(Trouble::Child),
+            "shot" => Ok(Trouble::Shot),
             "quiet" => Ok(Trouble::Quiet),
-            _ => Err(format!("{word}: kill, stop, cut, member, wake, members, stuck or quiet")),
+            _ => Err(format!("{word}: kill, stop, cut, member, wake, members, stuck, child, shot or quiet")),
         }
     }
 }
@@ -82,6 +99,7 @@ struct Server {
     log: PathBuf,
     proxy: Proxy,
     relays: Vec<Relay>,
+    holders: Vec<Holder>,
 }
 
 /// All of it.
@@ -182,13 +200,14 @@ impl Cell {
     fn server(&self, at: usize, clients: &[SocketAddr], seed: u64) -> Tried<Server> {
         let address = free()?;
         let proxy = Proxy::start(address, seed + at as u64)?;
-        let relays = clients.iter().map(|client| Relay::start(*client)).collect::<Result<Vec<_>, _>>()?;
+        let holders = clients.iter().map(|client| Holder::start(*client, "c/meta")).collect::<Result<Vec<_>, _>>()?;
+        let relays = holders.iter().map(|holder| Relay::start(holder.address())).collect::<Result<Vec<_>, _>>()?;
         let places: Vec<SocketAddr> = relays.iter().map(Relay::address).collect();
         let (rows, told) = (rows(&places, "c"), format!("tcp:{}", proxy.address()));
         let words = [&format!("tcp:{address}"), "--rows", &rows, "--advertise", &told, "--master", &master_program().display().to_string()];
         let words: Vec<String> = words.iter().map(|word| (*word).to_owned()).collect();
         let log = PathBuf::from(self.path(&format!("server{at}.log")));
-        Ok(Server { child: start_server(&words, &log)?, words, log, proxy, relays })
+        Ok(Server { child: start_server(&words, &log)?, words, log, proxy, relays, holders })
     }
 
     fn path(&self, name: &str) -> String {
@@ -264,6 +283,8 @@ impl Cell {
                 stop_for(&stopped.collect::<Vec<u32>>(), MEMBERS_STOPPED);
             }
             Trouble::Stuck => self.go_beside_a_stuck_master(at)?,
+            Trouble::Child => children(process).into_iter().for_each(|it| tell(it, Signal::SIGKILL)),
+            Trouble::Shot => self.hold_back()?,
             Trouble::Quiet => return Err("that is made elsewhere".into()),
             Trouble::Member => {
                 let (child, words) = &mut self.members[round % MACHINES];
@@ -309,6 +330,32 @@ impl Cell {
         thread::sleep(SERVER_AWAY);
         server.child = start_server(&server.words, &server.log)?;
         Ok(())
+    }
+
+    // Holds back what the keeper of the present server writes, until another master takes the place of its master, and lets it through
+    // then. (Where a slow machine ends the mastership first it is tried again with the next server.)
+    fn hold_back(&self) -> Tried<()> {
+        for _ in 0..TRIES {
+            let at = self.master()?;
+            let server = &self.servers[at];
+            let said = |what: &str| fs::read_to_string(&server.log).unwrap_or_default().matches(what).count();
+            let (replaced, ended, begun) = (said(REPLACED), said(ENDED), Instant::now());
+            server.holders.iter().for_each(Holder::hold);
+            while said(REPLACED) == replaced && said(ENDED) == ended && begun.elapsed() < WITHOUT {
+                thread::sleep(Duration::from_millis(50));
+            }
+            thread::sleep(COMING_UP);
+            // (of those that hold the same one etcd does it once; one holds none where it wasn't asked)
+            let done = server.holders.iter().filter(|holder| holder.let_through().unwrap_or(false)).count();
+            match (said(REPLACED) > replaced && said(ENDED) == ended, done) {
+                (true, 1) => return Ok(()),
+                // (the first that was held had been done before, by another member whose answer was late)
+                (true, 0) => eprintln!("nothing that was held back was done; once more"),
+                (true, _) => return Err(format!("what was held back was done {done} times").into()),
+                (false, _) => eprintln!("the mastership ended first; once more"),
+            }
+        }
+        Err(format!("no master was shot; the logs: {}", self.logs()).into())
     }
 
     /// From here on this gets through between a server and etcd.

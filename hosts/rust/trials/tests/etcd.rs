@@ -1,0 +1,281 @@
+//! A cell whose rows stand in an etcd of one member, and a network that holds a transaction back. They want etcd (Debian: etcd-server).
+
+use nix::sys::signal::Signal;
+use serde_json::json;
+use std::process::Command;
+use std::sync::atomic::{AtomicBool, Ordering};
+use std::thread;
+use std::time::{Duration, Instant};
+use tillermoss::{Client, Mode, Options};
+use trials::{Etcd, Holder, Kill, Plain, Server, free, new, program, rows};
+
+/// A mastership that outlasts whatever is held back here.
+const LONG: [&str; 2] = ["--mastership", "60"];
+
+const BOTH: Mode = Mode::READ.and(Mode::WRITE);
+
+/// So long a call is tried again.
+const PATIENCE: Duration = Duration::from_secs(120);
+
+/// So long a master takes to come up, and asks etcd for its epoch.
+const COMING_UP: Duration = Duration::from_secs(2);
+
+fn client(server: &Server, principal: &str) -> Client {
+    Client::connect(&Options { patience: PATIENCE, ..Options::new(&server.address, principal) }).unwrap()
+}
+
+// The epochs of the masters that came up, as the server told them.
+fn epochs(server: &Server) -> Vec<u64> {
+    let logged = server.logged();
+    let told = logged.lines().filter(|line| line.contains("a master is up"));
+    told.filter_map(|line| line.split("epoch=").nth(1)?.split_whitespace().next()?.parse().ok()).collect()
+}
+
+// Waits until so many masters came up.
+fn wait_for_masters(server: &Server, count: usize) {
+    let begun = Instant::now();
+    while epochs(server).len() < count {
+        assert!(begun.elapsed() < PATIENCE, "{:?}: {}", epochs(server), server.logged());
+        thread::sleep(Duration::from_millis(20));
+    }
+}
+
+// A master's commit is held back until the server has replaced it, under the same mastership, and is done then. (A master of the same
+// epoch as one before has clients believe that nothing has changed.)
+#[test]
+fn a_commit_of_a_replaced_master_is_not_taken_for_the_next_ones() {
+    let etcd = Etcd::with_cell(&[]).unwrap();
+    let holder = Holder::start(etcd.address, "c/meta").unwrap();
+    let server = etcd.server("server", holder.address()).with(&LONG).start().unwrap();
+    let (reader, writer) = (client(&server, "ann"), client(&server, "bob"));
+    writer.create("/ls/c/f", b"old").unwrap();
+    let seen = reader.open("/ls/c/f", Mode::READ).unwrap();
+    assert_eq!(reader.read(seen).unwrap().content, b"old");
+    let file = writer.open("/ls/c/f", BOTH).unwrap();
+    holder.hold();
+    let served = thread::scope(|scope| {
+        let writing = scope.spawn(|| writer.set(file, b"new", None));
+        assert!(holder.has_held(1) && server.has_logged("the master is gone; another takes its place"), "{}", server.logged());
+        thread::sleep(COMING_UP);
+        let done = holder.let_through().unwrap();
+        println!("the commit that was held back was done late: {done}");
+        wait_for_masters(&server, 2);
+        // (what the reader has is as the second master knows it)
+        let served = reader.read(seen).unwrap().content;
+        server.kill_master().unwrap();
+        wait_for_masters(&server, 3);
+        println!("written: {:?}", writing.join().unwrap());
+        served
+    });
+    let (told, fresh) = (epochs(&server), client(&server, "ann"));
+    let cached = reader.read(seen).unwrap();
+    let present = fresh.read(fresh.open("/ls/c/f", Mode::READ).unwrap()).unwrap().content;
+    println!("etcd: epochs {told:?}; read under the second master {served:?}, then {cached:?}; it is {present:?}");
+    assert!(told.windows(2).all(|pair| pair[0] < pair[1]), "{told:?}");
+    assert_eq!(cached.content, present);
+}
+
+// The number that a new client of this principal gets.
+fn number(server: &Server, principal: &str) -> Option<u64> {
+    let (_, welcome) = Plain::greet(server.place(), &new(principal)).unwrap();
+    welcome.ok().map(|welcome| welcome.client)
+}
+
+// What a server has written of the numbers that it gives is held back, and is done after others were given, and written.
+#[test]
+fn a_number_is_given_once() {
+    let etcd = Etcd::with_cell(&[]).unwrap();
+    let holder = Holder::start(etcd.address, "c/numbers").unwrap();
+    let start = etcd.server("server", holder.address()).with(&LONG);
+    let mut server = start.start().unwrap();
+    holder.hold_one();
+    assert_eq!(number(&server, "ann"), None, "a number was given that wasn't written");
+    let mut given: Vec<u64> = (0..450).filter_map(|_| number(&server, "ann")).collect();
+    let before = etcd.get("c/numbers").unwrap();
+    let done = holder.let_through().unwrap();
+    println!("numbers: the write that was held back was done late: {done}; before: {before:?}, then: {:?}", etcd.get("c/numbers").unwrap());
+    assert!(server.kill(Kill::InOrder).unwrap().success());
+    let server = start.start().unwrap();
+    let last = number(&server, "bob").unwrap();
+    println!("numbers: {} were given to ann, the last {:?}; bob got {last} from the next server", given.len(), given.last());
+    assert!(!given.contains(&last));
+    given.push(last);
+    let all = given.len();
+    given.sort_unstable();
+    given.dedup();
+    assert_eq!((given.len(), all), (451, 451));
+}
+
+// Writes until a moment, again and again; when each was done.
+fn write_until(client: &Client, name: &str, until: Instant) -> Vec<Instant> {
+    let file = client.create(name, b"").unwrap();
+    let mut done = Vec::new();
+    while Instant::now() < until {
+        if client.set(file, b"written", None).is_ok() {
+            done.push(Instant::now());
+        }
+    }
+    done
+}
+
+#[test]
+fn writes_go_on_soon_after_etcd_is_back() {
+    const AWAY: Duration = Duration::from_secs(20);
+    let etcd = Etcd::with_cell(&[]).unwrap();
+    let server = etcd.server("server", etcd.address).start().unwrap();
+    let writer = client(&server, "ann");
+    let begun = Instant::now();
+    thread::sleep(Duration::from_secs(1));
+    let (back, done) = thread::scope(|scope| {
+        let writing = scope.spawn(|| write_until(&writer, "/ls/c/f", begun + AWAY + Duration::from_secs(14)));
+        thread::sleep(Duration::from_secs(2));
+        etcd.signal(Signal::SIGSTOP).unwrap();
+        thread::sleep(AWAY);
+        etcd.signal(Signal::SIGCONT).unwrap();
+        (Instant::now(), writing.join().unwrap())
+    });
+    let after = done.iter().find(|at| **at > back).map(|at| *at - back);
+    println!("etcd: away for {AWAY:?}; the first write after its return was done within {after:?}");
+    assert!(after.is_some_and(|after| after < Duration::from_secs(2)), "{}", server.logged());
+    assert!(!writer.is_lost());
+}
+
+#[test]
+fn a_cell_that_is_served_is_not_copied() {
+    let etcd = Etcd::with_cell(&[]).unwrap();
+    let mut server = etcd.server("server", etcd.address).start().unwrap();
+    let copy = |to: &str| {
+        let mut copy = Command::new(program("tillermossd"));
+        copy.args(["copy", "--from", &rows(etcd.address), "--master"]).arg(trials::master_program()).arg("--to").arg(etcd.path(to));
+        copy.output().unwrap()
+    };
+    let begun = Instant::now();
+    let told = copy("first.db");
+    println!("etcd: a copy of a cell that is served: {} within {:?}", told.status, begun.elapsed());
+    assert!(begun.elapsed() < Duration::from_secs(3));
+    assert!(String::from_utf8_lossy(&told.stderr).contains("a server is master there") && !etcd.path("first.db").exists(), "{told:?}");
+    assert!(server.kill(Kill::InOrder).unwrap().success());
+    assert!(copy("second.db").status.success());
+}
+
+// What a page of the operators' address says.
+fn page(server: &Server, name: &str) -> String {
+    let place = server.admin.as_deref().unwrap().strip_prefix("tcp:").unwrap();
+    ureq::get(&format!("http://{place}/{name}")).call().unwrap().into_string().unwrap()
+}
+
+// The value of a metric.
+fn metric(server: &Server, name: &str) -> f64 {
+    let text = page(server, "metrics");
+    let line = text.lines().find_map(|line| line.strip_prefix(&format!("tillermoss_{name} ")));
+    line.unwrap_or_else(|| panic!("{name} in {text}")).parse().unwrap()
+}
+
+// A client reads out of its cache for longer than a lease lasts; meanwhile nothing can be written.
+#[test]
+fn caches_serve_while_etcd_has_no_room() {
+    const READING: Duration = Duration::from_secs(30);
+    let etcd = Etcd::with_cell(&["--quota-backend-bytes", "2000000"]).unwrap();
+    let server = etcd.server("server", etcd.address).with(&["--admin", &format!("tcp:{}", free()), "--etcd-history", "0"]).start().unwrap();
+    let (reader, writer) = (client(&server, "ann"), client(&server, "bob"));
+    let seen = reader.create("/ls/c/seen", b"seen").unwrap();
+    let file = writer.create("/ls/c/f", b"").unwrap();
+    assert_eq!(metric(&server, "etcd_no_room"), 0.0);
+    let is_full = AtomicBool::new(false);
+    let done = thread::scope(|scope| {
+        let is_on = |_: &usize| !is_full.load(Ordering::SeqCst) && writer.set(file, &[b'a'; 60_000], None).is_ok();
+        let writing = scope.spawn(move || (0..100).take_while(is_on).count());
+        assert!(server.has_logged("etcd has no room left"), "{}", server.logged());
+        is_full.store(true, Ordering::SeqCst);
+        let (begun, before) = (Instant::now(), server.logged().lines().count());
+        let (mut reads, mut served) = (0, 0);
+        while begun.elapsed() < READING {
+            let view = reader.read(seen).unwrap();
+            assert_eq!(view.content, b"seen");
+            (reads, served) = (reads + 1, served + usize::from(view.is_served));
+            thread::sleep(Duration::from_millis(10));
+        }
+        let lines = server.logged().lines().count() - before;
+        println!(
+            "etcd: no room for {READING:?}: {served} of {reads} reads out of the cache; {lines} lines were logged, {:?}",
+            epochs(&server)
+        );
+        assert!(served + 10 > reads && lines <= 4 && metric(&server, "etcd_no_room") == 1.0);
+        let revision = etcd.ask("kv/range", &json!({ "key": "AA==" })).unwrap()["header"]["revision"].clone();
+        etcd.ask("kv/compaction", &json!({ "revision": revision, "physical": true })).unwrap();
+        etcd.ask("maintenance/defragment", &json!({})).unwrap();
+        let alarms = etcd.ask("maintenance/alarm", &json!({ "action": "GET" })).unwrap();
+        let member = &alarms["alarms"][0]["memberID"];
+        etcd.ask("maintenance/alarm", &json!({ "action": "DEACTIVATE", "alarm": "NOSPACE", "memberID": member })).unwrap();
+        writing.join().unwrap()
+    });
+    println!("etcd: {done} writes before");
+    assert!(server.has_logged("etcd has room again"));
+    let again = Instant::now();
+    while reader.set(seen, b"again", None).is_err() {
+        assert!(again.elapsed() < Duration::from_secs(30), "{}", server.logged());
+    }
+    println!("etcd: a write was done {:?} after there was room", again.elapsed());
+    assert!(!reader.is_lost() && !writer.is_lost());
+}
+
+#[test]
+fn old_revisions_are_forgotten_and_etcd_is_shown() {
+    let etcd = Etcd::with_cell(&[]).unwrap();
+    let server = etcd.server("server", etcd.address).with(&["--admin", &format!("tcp:{}", free()), "--etcd-history", "1"]).start().unwrap();
+    let writer = client(&server, "ann");
+    write_until(&writer, "/ls/c/f", Instant::now() + Duration::from_secs(1));
+    assert!(metric(&server, "etcd_seconds_count") > 10.0 && metric(&server, "mastership_seconds") > 1.0);
+    let at_first = json!({ "key": base64::encode("c/meta"), "revision": "2" });
+    assert!(etcd.ask("kv/range", &at_first).is_ok());
+    let begun = Instant::now();
+    while etcd.ask("kv/range", &at_first).is_ok() {
+        assert!(begun.elapsed() < Duration::from_secs(60), "{}", server.logged());
+        thread::sleep(Duration::from_millis(500));
+    }
+    println!("etcd: old revisions were forgotten after {:?}", begun.elapsed());
+    assert_eq!(metric(&server, "etcd_failures_total"), 0.0);
+}
+
+#[test]
+fn a_user_of_etcd_is_let_in_by_its_password() {
+    let etcd = Etcd::with_cell(&[]).unwrap();
+    etcd.ask("auth/user/add", &json!({ "name": "root", "password": "right" })).unwrap();
+    etcd.ask("auth/role/add", &json!({ "name": "root" })).unwrap();
+    etcd.ask("auth/user/grant", &json!({ "user": "root", "role": "root" })).unwrap();
+    etcd.ask("auth/enable", &json!({})).unwrap();
+    let password = etcd.path("password").display().to_string();
+    std::fs::write(&password, "right\n").unwrap();
+    let as_root = ["--etcd-user", "root", "--etcd-password", &password];
+    let server = etcd.server("server", etcd.address).with(&as_root).start().unwrap();
+    client(&server, "ann").create("/ls/c/f", b"hello").unwrap();
+    drop(server);
+    std::fs::write(&password, "wrong\n").unwrap();
+    let copy = Command::new(program("tillermossd"))
+        .args(["copy", "--from", &rows(etcd.address), "--to"])
+        .arg(etcd.path("out.db"))
+        .args(as_root)
+        .output();
+    let told = String::from_utf8_lossy(&copy.unwrap().stderr).into_owned();
+    assert!(told.contains("authentication failed"), "{told}");
+}
+
+// Two servers, one of which stands by; the other one is killed with its master.
+#[test]
+fn a_server_that_stands_by_has_the_rows() {
+    const FILES: u64 = 17_000;
+    let etcd = Etcd::with_cell(&[]).unwrap();
+    etcd.put_files(FILES).unwrap();
+    let mut first = etcd.server("first", etcd.address).start().unwrap();
+    let second = etcd.server("second", etcd.address).stand_by().unwrap();
+    let places = format!("{},{}", first.address, second.address);
+    let client = Client::connect(&Options { patience: PATIENCE, ..Options::new(&places, "ann") }).unwrap();
+    let file = client.create("/ls/c/f", b"").unwrap();
+    thread::sleep(Duration::from_secs(8));
+    first.kill_master().unwrap();
+    first.kill(Kill::Server).unwrap();
+    let killed = Instant::now();
+    while client.set(file, b"again", None).is_err() {}
+    println!("etcd: {FILES} files: a write was done {:?} after its server was killed", killed.elapsed());
+    assert!(!client.is_lost());
+}
