@@ -370,12 +370,13 @@ async fn run(
     let is_unproved = found.warnings.iter().any(|warning| warning == UNPROVED);
     hall.metrics.tell_build(is_unproved)?;
     let showing = Arc::new(Showing { hall: hall.clone(), listening, warnings: found.warnings, begun: Instant::now(), store });
-    // (whoever started it may listen no more, as where it stood by before)
-    let _ = tell(&showing.listening, &counters);
-    for (counter, address) in counters {
+    // (who reads where operators come is answered there at once)
+    for (counter, address) in &counters {
         let is_private = matches!(address, Address::Unix(_));
         counter.turn(Asked::Master(Admin { showing: showing.clone(), orders: orders.clone(), is_private }));
     }
+    // (whoever started it may listen no more, as where it stood by before)
+    let _ = tell(&showing.listening, &counters);
     // (where no service manager waits for it nothing is told)
     let _ = sd_notify::notify(false, &[NotifyState::Ready]);
     wait(&options, &hall, certificates.as_deref(), &orders, ended, signals).await
