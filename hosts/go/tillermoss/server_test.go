@@ -429,7 +429,7 @@ func TestASocketKnowsWhoComes(test *testing.T) {
 func (it *server) example(name string, words ...string) (*exec.Cmd, *bufio.Scanner) {
 	program := filepath.Join(it.folder, name)
 	if _, err := os.Stat(program); err != nil {
-		must(it.test, exec.Command("go", "build", "-o", program, "./examples/"+name).Run())
+		must(it.test, exec.Command("go", "build", "-buildvcs=false", "-o", program, "./examples/"+name).Run())
 	}
 	child := exec.Command(program, append([]string{it.address}, words...)...)
 	output, err := child.StdoutPipe()
