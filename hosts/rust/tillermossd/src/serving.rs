@@ -53,6 +53,10 @@ const UNPROVED: &str = "the master was built without proof";
 /// By which a server that stands by anew, as a new process, knows the mastership that it had.
 const LAST_SERVER: &str = "TILLERMOSSD_LAST_SERVER";
 
+/// And whether etcd takes as many operations as a commit may have, which this one knows once it was asked.
+const LAST_TAKES: &str = "TILLERMOSSD_LAST_TAKES";
+static TAKES: OnceLock<bool> = OnceLock::new();
+
 /// How often the service manager hears that the server lives.
 const WATCHDOG: Duration = Duration::from_secs(5);
 
@@ -119,7 +123,9 @@ fn serve_rows(place: Place, options: Options) -> Result<()> {
         return served;
     }
     warn!("standing by again");
-    Err(Command::new(std::env::current_exe()?).args(std::env::args_os().skip(1)).env(LAST_SERVER, server).exec().into())
+    let mut again = Command::new(std::env::current_exe()?);
+    again.args(std::env::args_os().skip(1)).env(LAST_SERVER, server).envs(TAKES.get().map(|takes| (LAST_TAKES, takes.to_string())));
+    Err(again.exec().into())
 }
 
 // What a server has that stood by, and is master now.
@@ -190,13 +196,16 @@ fn look_ahead(options: &Arc<Options>, gateway: &Arc<Gateway>, prefix: &str) {
     });
 }
 
-// Whether etcd takes as many operations in a transaction as a commit may have. It is asked once.
+// Whether etcd takes as many operations in a transaction as a commit may have. It is asked once, also where the server begins anew: the
+// question is a long one.
 fn takes(gateway: &Gateway, prefix: &str) -> Result<bool> {
-    static TAKES: OnceLock<bool> = OnceLock::new();
     if let Some(takes) = TAKES.get() {
         return Ok(*takes);
     }
-    let takes = gateway.takes(OPERATIONS, prefix)?;
+    let takes = match std::env::var(LAST_TAKES) {
+        Ok(known) => known == true.to_string(),
+        Err(_) => gateway.takes(OPERATIONS, prefix)?,
+    };
     Ok(*TAKES.get_or_init(|| takes))
 }
 
