@@ -6,4 +6,3 @@ mod Histories
 mod Tried
 mod Example
 mod Hosted
-mod Kept
