@@ -6,3 +6,4 @@ mod Histories
 mod Tried
 mod Example
 mod Hosted
+mod Kept

@@ -3,3 +3,4 @@ pub mod Histories
 pub mod Laws
 pub mod Example
 pub mod Hosted
+pub mod Kept

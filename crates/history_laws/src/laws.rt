@@ -1,6 +1,7 @@
 //! Parts that run apart are a world.
 ghost use Rattle.history_laws.specs.Laws.{HistoriesAreRuns, HistoriesHold, CachesShowTheRows, CachesAnswerTheRows};
 ghost use Rattle.history_laws.specs.Hosted.{FramesAreDeeds, BytesCarryMessages, TrailsAreDeeds};
+ghost use Rattle.history_laws.specs.Kept.{ViewsAnswerTheRows};
 ghost use Rattle.history_laws.specs.Example.{TwoProgramsArePossible, NothingComesOfNobody};
 
 /// What a master and clients do that run apart, with messages that are lost, late or repeated, masters that go without a word
@@ -49,4 +50,11 @@ pub fn caches_answer_the_rows()
 /// A master that threads share is such a part: each entry of its trail is a deed.
 pub fn trails_are_deeds()
     ensures { TrailsAreDeeds }
+{}
+
+/// Whatever the view of a client's cache that was published last would answer, at any moment by the client's clock, is what the rows hold
+/// then, also while its keeper is late: a keeper hands out no message of a client, not even one that it sent before, until what viewers
+/// see is what that client has.
+pub fn views_answer_the_rows()
+    ensures { ViewsAnswerTheRows }
 {}

@@ -28,4 +28,4 @@ pub(crate) const ROWS: &[Row] = &[
 
 /// What the client 1 does, and a watch.
 pub(crate) const CALLS: &str =
-    "beat 1; take 1; sweep; give 2; sweep; ask 1 open /ls/c/f rw must file permanent 61; take 3; sweep; give 4; sweep; ask 1 read 1; take 5; give 6; sweep; ask 1 read 1; ask 1 set 1 62; take 7; sweep; beat 1; take 8; sweep; give 9; sweep; beat 1; take 10; sweep; give 11; sweep; ask 1 read 1; take 12; give 13; sweep";
+    "beat 1; take 1; sweep; give 2; sweep; ask 1 open /ls/c/f rw must file permanent 61; take 3; sweep; give 4; sweep; ask 1 read 1; take 5; give 6; sweep; ask 1 read 1; ask 1 set 1 62; take 7; sweep; beat 1; take 8; sweep; give 9; sweep; beat 1; take 10; sweep; give 11; sweep; ask 1 read 1; take 12; give 13; sweep; ask 1 leave; take 14; sweep; give 15; sweep";

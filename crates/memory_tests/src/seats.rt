@@ -2,7 +2,7 @@
 ghost use Rattle.std.specs.Prelude.{◌≡◌, IfOk};
 ghost use Rattle.cache_core.specs.Caches.{new_cache};
 
-use crate::hoard::{Hoard, TURN_END};
+use crate::hoard::Hoard;
 use crate::stops::Stop;
 use crate::texts::write_lines;
 use client_core::{Asked, Beaten, Client, Given, Outcome};
@@ -149,20 +149,31 @@ impl Seat {
         }
     }
 
-    // Tries a step until it isn't refused memory. Behind each refusal the viewer sees what it saw before, also where the keeper is
-    // late.
-    fn kept<W: Wait>(&mut self, rt: &W, hoard: &mut Hoard, step: &Step) -> Result<Kept, Stop> {
-        for turn in 0..TURN_END {
-            hoard.leave(turn);
-            let told = self.keep(rt, step);
-            hoard.relax();
-            match told {
-                Ok(kept) => return Ok(kept),
-                Err(Fault::NoMemory) => self.see_the_same(hoard)?,
-                Err(fault) => return Err(Stop::Refused(fault)),
+    /// Tries a step of the client's, with so much memory as is left in this turn. Done, it sends its message, and writes its lines and
+    /// what the viewer sees then. Refused, the viewer sees what it saw before, also where the keeper is late. Whether it was done.
+    pub(crate) fn plays<W: Wait>(
+        &mut self,
+        rt: &W,
+        hoard: &mut Hoard,
+        turn: u64,
+        step: &Step,
+        text: &mut String,
+    ) -> Result<bool, Stop> {
+        hoard.leave(turn);
+        let told = self.keep(rt, step);
+        hoard.relax();
+        match told {
+            Ok(kept) => {
+                self.tell(kept, text)?;
+                self.write_seen(hoard, text)?;
+                Ok(true)
             }
+            Err(Fault::NoMemory) => {
+                self.see_the_same(hoard)?;
+                Ok(false)
+            }
+            Err(fault) => Err(Stop::Refused(fault)),
         }
-        Err(Stop::Refused(Fault::NoMemory))
     }
 
     fn see_the_same(&mut self, hoard: &mut Hoard) -> Result<(), Stop> {
@@ -175,6 +186,25 @@ impl Seat {
         } else {
             Err(Stop::Apart("a refused call changed what is seen"))
         }
+    }
+
+    /// The message that may be sent again while the keeper is late.
+    pub(crate) fn lent_late(&self) -> Result<Option<Request>, AllocError> {
+        if !self.keeper.late() {
+            return Ok(None);
+        }
+        let Some(client) = self.keeper.client() else {
+            return Ok(None);
+        };
+        match client.again() {
+            Some(request) => Ok(Some(request.clone()?)),
+            None => Ok(None),
+        }
+    }
+
+    /// Whether the viewer sees anything of the name.
+    pub(crate) fn sees_something(&mut self, hoard: &mut Hoard) -> Result<bool, Stop> {
+        Ok(self.look(hoard)?.as_str() != "miss")
     }
 
     // What the viewer sees now. It takes no memory.
@@ -199,19 +229,6 @@ impl Seat {
             self.seen = seen;
         }
         Ok(())
-    }
-
-    /// Does a step of the client's, sends its message, and writes its lines, and then what the viewer sees.
-    pub(crate) fn play<W: Wait>(
-        &mut self,
-        rt: &W,
-        hoard: &mut Hoard,
-        step: &Step,
-        text: &mut String,
-    ) -> Result<(), Stop> {
-        let kept = self.kept(rt, hoard, step)?;
-        self.tell(kept, text)?;
-        self.write_seen(hoard, text)
     }
 
     fn tell(&mut self, kept: Kept, text: &mut String) -> Result<(), Stop> {

@@ -9,7 +9,8 @@ use crate::seats::Seat;
 use crate::stops::Stop;
 use crate::texts::{half_of, steps_of, write_lines};
 use crate::told::Told;
-use node_core::Fault;
+use collections::Items;
+use node_core::{Fault, Line};
 use over_core::Cell;
 use rows_cell::ListRecords;
 use std::alloc::Global;
@@ -17,6 +18,7 @@ use std::marker::Brand;
 use std::mem;
 use std::sync::Wait;
 use std::sync::ledger::Ledger;
+use tags_cell::Request;
 use threads::{give_up, new_cell};
 use watch_cell::{Blanks, Closed, Event, Opening, Pass, Receipt, Watch};
 use world_steps::Step;
@@ -77,6 +79,71 @@ fn serve<O: Opening, I: Ledger, A: Ledger, E: Ledger, C: Ledger, W: Wait>(
     Ok(written?)
 }
 
+// Tries a step of the client's until it isn't refused memory. After each refusal the message goes out again that a late keeper lends.
+fn try_step<O: Opening, I: Ledger, A: Ledger, E: Ledger, C: Ledger, W: Wait>(
+    rt: &W,
+    hoard: &mut Hoard,
+    watch: &Watch<ListRecords, O, I, A, E, C>,
+    passes: &mut [Pass<I, A, E, C>],
+    seat: &mut Seat,
+    step: &Step,
+    text: &mut String,
+) -> Result<(), Stop> {
+    for turn in 0..TURN_END {
+        if seat.plays(rt, hoard, turn, step, text)? {
+            return Ok(());
+        }
+        send_late(rt, hoard, watch, passes, seat)?;
+    }
+    Err(Stop::Refused(Fault::NoMemory))
+}
+
+// A session that ends by it may have no viewer that still sees the file.
+fn send_late<O: Opening, I: Ledger, A: Ledger, E: Ledger, C: Ledger, W: Wait>(
+    rt: &W,
+    hoard: &mut Hoard,
+    watch: &Watch<ListRecords, O, I, A, E, C>,
+    passes: &mut [Pass<I, A, E, C>],
+    seat: &mut Seat,
+) -> Result<(), Stop> {
+    let Some(request) = seat.lent_late()? else {
+        return Ok(());
+    };
+    if !ends_session(rt, watch, passes, request)? {
+        return Ok(());
+    }
+    if seat.sees_something(hoard)? {
+        return Err(Stop::Apart("a session has ended, and its viewer sees the file"));
+    }
+    Ok(())
+}
+
+// The master takes a message, and sweeps. Whether a session ended by that.
+fn ends_session<O: Opening, I: Ledger, A: Ledger, E: Ledger, C: Ledger, W: Wait>(
+    rt: &W,
+    watch: &Watch<ListRecords, O, I, A, E, C>,
+    passes: &mut [Pass<I, A, E, C>],
+    request: Request,
+) -> Result<bool, Stop> {
+    let Some(pass) = passes.first_mut() else {
+        return Err(Stop::Apart("there is no pass"));
+    };
+    drop(watch.call(rt, pass, Event::Take(0, request))?);
+    let receipt = watch.call(rt, pass, Event::Sweep(0))?;
+    let ends = has_end(&receipt.reply().lines);
+    drop(receipt);
+    Ok(ends)
+}
+
+fn has_end(lines: &Items<Line>) -> bool {
+    for line in lines.as_slice() {
+        if matches!(line, Line::Ended(_)) {
+            return true;
+        }
+    }
+    false
+}
+
 fn play<O: Opening, I: Ledger, A: Ledger, E: Ledger, C: Ledger, W: Wait>(
     rt: &W,
     hoard: &mut Hoard,
@@ -91,7 +158,7 @@ fn play<O: Opening, I: Ledger, A: Ledger, E: Ledger, C: Ledger, W: Wait>(
         match step {
             Step::Take(_) => serve(rt, hoard, watch, passes.first_mut(), seat, step, text)?,
             Step::Sweep => serve(rt, hoard, watch, passes.last_mut(), seat, step, text)?,
-            _ => seat.play(rt, hoard, step, text)?,
+            _ => try_step(rt, hoard, watch, passes, seat, step, text)?,
         }
     }
     Ok(())

@@ -76,3 +76,9 @@ pub owes_next : (shown old new : CacheState) (pending : List Step) (rest ops : L
 owes_next shown old new [] [] ops none bare owed leads = ap (λ c. applied_all c ops) owed ∙ leads
 owes_next shown old new [] (op ∷ rest) ops none bare owed leads = absurd (omega (arith, bare))
 owes_next shown old new (step ∷ pending) rest ops none bare owed leads = absurd (omega (arith, none))
+
+-- so what is shown is the client's
+pub shown_on_time : (shown client : CacheState) (pending : List Step) (rest : List CacheOp) → length pending ≡ 0 → length rest ≡ 0 → applied_all shown (ops_of pending ++ rest) ≡ client → shown ≡ client
+shown_on_time shown client [] [] none bare owed = owed
+shown_on_time shown client [] (op ∷ rest) none bare owed = absurd (omega (arith, bare))
+shown_on_time shown client (step ∷ pending) rest none bare owed = absurd (omega (arith, none))

@@ -5,7 +5,7 @@ use Rattle.node_core.specs.declared.refusals.Fault.{Fault}
 use Rattle.node_core.specs.declared.refusals.Fault.TheVariants as faults
 use Rattle.cache_core.specs.Caches.{CacheState}
 use Rattle.client_core.specs.State.{ClientState}
-use Rattle.share_cell.specs.Published.{Shows}
+use Rattle.share_cell.specs.Published.{EndsWith, Shows}
 use Rattle.share_cell.specs.declared.keeper.Kept.{Kept}
 
 -- its client, the answer that waits for its view to be published, and the views that were published
@@ -33,3 +33,8 @@ Publishes keep old new (Err fault) step =
 abbrev pub IsShown : Option Kept → List CacheState → CacheState → List CacheState → Type 0
 IsShown None views cache new = new ≡ views
 IsShown (Some _) views cache new = Shows views cache new
+
+-- what a keeper lends: its client, whose cache is what was published last; nothing while it is late
+abbrev pub Lends : KeeperState → Option ClientState → Type 0
+Lends k None = k.late ≢ None
+Lends k (Some client) = (k.late ≡ None) × (client ≡ k.client) × EndsWith k.views client.cache

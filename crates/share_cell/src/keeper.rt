@@ -1,5 +1,6 @@
 //! A client, and the writer of the copies of its cache that viewers read.
 ghost use Rattle.std.specs.Prelude.{◌≡◌, ◌≢◌, ◌↔◌, ◌+◌, ◌≤◌, ◌<◌, ◌^◌, [], ◌++◌, length, drop, All, None, Some, vec_len, IsTrue, IfOk, IfSome, OnOk, MatchResult};
+ghost use Rattle.std.specs.Option.{option_copied};
 ghost use Rattle.std.proofs.Props.{props};
 ghost use Rattle.left_right.specs.Sides.{view};
 ghost use Rattle.node_core.specs.Limits.{number_end};
@@ -113,7 +114,7 @@ fn hand_over(
 }
 
 impl Keeper {
-    ghost use Rattle.share_cell.specs.Keeping.{IsShown, KeeperState, Publishes, unless_last};
+    ghost use Rattle.share_cell.specs.Keeping.{IsShown, KeeperState, Lends, Publishes, unless_last};
 
     /// A keeper that is not late, and its viewers, 1 to 64. The client, which has no session yet, comes back where there is no
     /// memory. Both copies have room for all entries that a cache may hold, but for their places in the order of installing.
@@ -153,11 +154,15 @@ impl Keeper {
         self.late.is_some()
     }
 
-    /// Its client. Unless the keeper is late, what was published last is what that one's cache holds.
-    pub fn client(&self) -> &Client
-        ensures { result.now ≡ self.now.client }
+    /// Its client, whose cache is what was published last; None exactly where the keeper is late. Then the message of a call that was
+    /// asked for may not go out, as `Client::again` would lend it: a Leave lets the master change what viewers are still shown.
+    pub fn client(&self) -> Option<&Client>
+        ensures { Lends (record { client = self.now.client; late = self.now.late; views = view self.now.writer.desk.place }) (option_copied result) }
     {
-        &self.client
+        if self.late.is_some() {
+            return None;
+        }
+        Some(&self.client)
     }
 
     /// Ends the keeper. Its viewers see nothing from now on. An answer that was kept is let go.

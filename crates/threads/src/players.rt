@@ -90,7 +90,7 @@ impl Player {
 
     /// Asks for its next calls, up to one that has to be sent. None where one is outstanding, and behind the last one.
     pub(crate) fn play<W: Wait>(&mut self, rt: &W) -> Result<Option<Request>, Fault> {
-        if self.is_waiting() {
+        if self.is_waiting()? {
             return Ok(None);
         }
         for _ in self.round..=self.rounds {
@@ -103,16 +103,22 @@ impl Player {
 
     /// Whether its last call has ended, the first time that this is so.
     pub(crate) fn finishes(&mut self) -> bool {
-        if self.has_finished || self.round <= self.rounds || self.is_waiting() {
+        let Ok(waits) = self.is_waiting() else {
+            return false;
+        };
+        if self.has_finished || self.round <= self.rounds || waits {
             return false;
         }
         self.has_finished = true;
         true
     }
 
-    // Whether a call is outstanding.
-    fn is_waiting(&self) -> bool {
-        self.keeper.client().again().is_some()
+    // Whether a call is outstanding. Nobody knows while the keeper is late, which ends the run.
+    fn is_waiting(&self) -> Result<bool, Fault> {
+        match self.keeper.client() {
+            Some(client) => Ok(client.again().is_some()),
+            None => Err(Fault::NoMemory),
+        }
     }
 
     // The call of the next round; None where the client answers it.

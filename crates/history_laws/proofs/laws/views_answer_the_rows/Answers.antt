@@ -1,0 +1,5 @@
+use Rattle.history_laws.proofs.Kept.{views_answer}
+use Rattle.history_laws.proofs.laws.views_answer_the_rows.Goals as goal
+
+pub returns : goal.returns
+returns c = views_answer
