@@ -17,11 +17,11 @@ use Rattle.node_core.specs.declared.lines.Line.{Line}
 use Rattle.rows_cell.specs.declared.tables.Rows.{Rows}
 use Rattle.rows_cell.specs.Rows.{map_of}
 use Rattle.node_core.specs.Nodes.{Nodes, view_at}
-use Rattle.rows_cell.specs.Stores.{left_by}
+use Rattle.over_core.specs.Sweep.{left_after}
 use Rattle.master_state.specs.State.{MasterState}
 use Rattle.world_steps.specs.declared.steps.Step.{Step}
 use Rattle.world_steps.specs.declared.steps.Step.TheVariants as steps
-use Rattle.world_steps.specs.World.{WorldState, WorldView, IsUndoubted, new_world, member_of, world_step, ticked, step_edits, IsAt}
+use Rattle.world_steps.specs.World.{WorldState, WorldView, IsUndoubted, new_world, member_of, world_step, ticked, step_edits, step_frees, IsAt}
 use Rattle.world_steps.specs.Made.{IsTyped, Does as StepDoes, AnyStep}
 use Rattle.world_cell.specs.Runs.{AnyRun, Run}
 use Rattle.world_cell.specs.Served.{ServesPresent}
@@ -79,7 +79,7 @@ module _ (p : Parts) (w : WorldState) (leave : List Rows) (here : Clocks) (entry
     there = ticked w (ticks_by w ticks.gain ticks.step)
 
     abbrev left_there : List Rows
-    left_there = left_by (step_edits w (steps.Tick (ticks_by w ticks.gain ticks.step))) leave there.rows
+    left_there = left_after (step_frees w (steps.Tick (ticks_by w ticks.gain ticks.step))) (step_edits w (steps.Tick (ticks_by w ticks.gain ticks.step))) leave there.rows
 
     tick_made : AnyStep (view w leave) (steps.Tick (ticks_by w ticks.gain ticks.step)) (view there left_there) []
     tick_made = makes w there leave (steps.Tick (ticks_by w ticks.gain ticks.step)) [] refl ticks.is_step tt
@@ -95,8 +95,8 @@ module _ (p : Parts) (w : WorldState) (leave : List Rows) (here : Clocks) (entry
     enters new printed f = record {
       made = steps.Tick (ticks_by w ticks.gain ticks.step) ∷ f.step ∷ [];
       behind = f.behind;
-      left = left_by (step_edits there f.step) left_there f.behind.rows;
-      run = (view there left_there, [], printed, tick_made, (view f.behind (left_by (step_edits there f.step) left_there f.behind.rows), printed, [], makes there f.behind left_there f.step printed (f.at left_there) f.is_step f.typed, (refl, refl), sym (append-nil printed)), refl);
+      left = left_after (step_frees there f.step) (step_edits there f.step) left_there f.behind.rows;
+      run = (view there left_there, [], printed, tick_made, (view f.behind (left_after (step_frees there f.step) (step_edits there f.step) left_there f.behind.rows), printed, [], makes there f.behind left_there f.step printed (f.at left_there) f.is_step f.typed, (refl, refl), sym (append-nil printed)), refl);
       mirrors = f.mirrors;
       timely = f.timely;
       serves = λ fits. step_serves there f.step f.behind printed (there_fits fits) f.is_step;
@@ -108,8 +108,8 @@ module _ (p : Parts) (w : WorldState) (leave : List Rows) (here : Clocks) (entry
         let next : WorldState = joined there entries now ticks.timely p there_mirrors number principal in
         let again = joins_ticks there entries now ticks.timely p there_mirrors fair.0 fair.2 number principal t.free in
         let last : WorldState = ticked next (ticks_by next again.gain again.step) in
-        let left_next : List Rows = left_by (step_edits there (steps.Join number principal)) left_there next.rows in
-        let left_last : List Rows = left_by (step_edits next (steps.Tick (ticks_by next again.gain again.step))) left_next last.rows in
+        let left_next : List Rows = left_after (step_frees there (steps.Join number principal)) (step_edits there (steps.Join number principal)) left_there next.rows in
+        let left_last : List Rows = left_after (step_frees next (steps.Tick (ticks_by next again.gain again.step))) (step_edits next (steps.Tick (ticks_by next again.gain again.step))) left_next last.rows in
         record {
           made = steps.Tick (ticks_by w ticks.gain ticks.step) ∷ steps.Join number principal ∷ steps.Tick (ticks_by next again.gain again.step) ∷ [];
           behind = last;

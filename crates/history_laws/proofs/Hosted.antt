@@ -14,7 +14,7 @@ use Rattle.master_state.specs.State.{MasterState}
 use Rattle.cell_core.specs.Step.{take_step}
 use Rattle.over_core.specs.declared.swept.Swept.{Swept}
 use Rattle.over_core.specs.Kept.{CellState}
-use Rattle.over_core.specs.Sweep.{sweep_step, sweep_edits, beats_step}
+use Rattle.over_core.specs.Sweep.{sweep_step, sweep_edits, sweep_frees, IsHeldUp, beats_step}
 use Rattle.over_core.specs.Up.{up_step, up_edits, up_commit, StaysDown, IsKeptDown}
 use Rattle.tags_cell.specs.Numbers.{is_client_number}
 use Rattle.tags_cell.specs.Messages.{request_client}
@@ -137,7 +137,7 @@ steps_are clocks Once each p old new (swept ∷ rest) has h =
 abbrev LeavesCell : (CellState → Fault → CellState → Type 0) → Type 0
 LeavesCell Stops = (old : CellState) (fault : Fault) (new : CellState) → Stops old fault new → (new.master ≡ old.master) × (new.store.rows ≡ old.store.rows)
 
-rows_left : (now : ℕ) (old new : CellState) (fault : Fault) → ((sweep_step old.master now ≡ Err fault × new ≡ old) ⊎ IsRefused fault (sweep_edits old.master now) old.store new.store) → new.store.rows ≡ old.store.rows
+rows_left : (now : ℕ) (old new : CellState) (fault : Fault) → ((sweep_step old.master now ≡ Err fault × new ≡ old) ⊎ IsHeldUp fault (sweep_frees old.master now) (sweep_edits old.master now) old.store new.store) → new.store.rows ≡ old.store.rows
 rows_left now old new fault (inl same) = ap (λ (c : CellState). c.store.rows) same.1
 rows_left now old new fault (inr refused) = refused.rows
 
@@ -201,7 +201,7 @@ sweep_later now old new swept once = record { cell = once.committed.cell; doubte
 beat_later : (now : ℕ) (old new : CellState) (swept : Swept) → BeatsOnce now old swept new → IsLater old.store new.store
 beat_later now old new swept once = as_same old.store new.store once.store
 
-stop_by : (now : ℕ) (old new : CellState) (fault : Fault) → ((sweep_step old.master now ≡ Err fault × new ≡ old) ⊎ IsRefused fault (sweep_edits old.master now) old.store new.store) → IsLater old.store new.store
+stop_by : (now : ℕ) (old new : CellState) (fault : Fault) → ((sweep_step old.master now ≡ Err fault × new ≡ old) ⊎ IsHeldUp fault (sweep_frees old.master now) (sweep_edits old.master now) old.store new.store) → IsLater old.store new.store
 stop_by now old new fault (inl same) = as_same old.store new.store (ap (λ (c : CellState). c.store) same.1)
 stop_by now old new fault (inr refused) = record { cell = refused.cell; doubted = refused.doubted }
 

@@ -10,14 +10,14 @@ use Rattle.collections.proofs.Keys.{number_same, same_number}
 use Rattle.collections.proofs.OneKey.{lookup_put, lookup_put_apart}
 use Rattle.node_core.specs.declared.lines.Line.{Line}
 use Rattle.rows_cell.specs.declared.tables.Rows.{Rows}
-use Rattle.rows_cell.specs.Stores.{left_by}
+use Rattle.over_core.specs.Sweep.{left_after}
 use Rattle.master_state.specs.State.{MasterState}
 use Rattle.client_core.specs.State.{ClientState}
 use Rattle.world_steps.specs.declared.members.WorldClient.{WorldClient}
 use Rattle.world_steps.specs.declared.steps.Step.{Step}
 use Rattle.world_steps.specs.declared.steps.Ticks.{Ticks as ClockSteps}
 use Rattle.world_steps.specs.Members.{Clients, each_member, stepped, is_least, moved_beside, moved_alone, clock_then}
-use Rattle.world_steps.specs.World.{WorldState, WorldView, world_step, moved, ticked, step_edits, IsAt, IsStored}
+use Rattle.world_steps.specs.World.{WorldState, WorldView, world_step, moved, ticked, step_edits, step_frees, IsAt, IsStored}
 use Rattle.world_steps.specs.Made.{IsTyped, AnyStep}
 use Rattle.world_cell.proofs.MembersFound.{member_at, each_found, own_member, other_member}
 use Rattle.history_laws.specs.Parts.{Parts, with_client}
@@ -91,5 +91,5 @@ put_clients clients of n member same q =
 abbrev pub view : WorldState → List Rows → WorldView
 view w leave = record { world = w; may_leave = leave; refusals = 0; doubt = 0 }
 
-pub makes : (w new : WorldState) (leave : List Rows) (step : Step) (printed : List Line) → IsAt step (view w leave) (view w leave) → world_step w step ≡ Ok (new, printed) → IsTyped w step → AnyStep (view w leave) step (view new (left_by (step_edits w step) leave new.rows)) printed
+pub makes : (w new : WorldState) (leave : List Rows) (step : Step) (printed : List Line) → IsAt step (view w leave) (view w leave) → world_step w step ≡ Ok (new, printed) → IsTyped w step → AnyStep (view w leave) step (view new (left_after (step_frees w step) (step_edits w step) leave new.rows)) printed
 makes w new leave step printed at is typed = inl (view w leave, at, record { is_step = is; typed = typed; stored = record { leave = refl; counted = refl; doubted = omega arith } })

@@ -13,21 +13,38 @@ use Rattle.over_core.specs.declared.actions.Action.{Action}
 use Rattle.over_core.specs.declared.actions.Action.TheVariants.{Tidy}
 use Rattle.over_core.specs.declared.swept.Swept.{Swept}
 use Rattle.over_core.specs.Plans.{first_action}
-use Rattle.over_core.specs.Sweep.{action_edits, sweep_edits, sweep_step}
+use Rattle.over_core.specs.Sweep.{action_edits, sweep_edits, sweep_frees, sweep_step, IsSettled, IsSwept}
 use Rattle.over_core.proofs.KeptBySweeps.{swept_kept}
 use Rattle.hosting.specs.Held.{store_behind}
-use Rattle.hosting.proofs.HeldBack.{held_back}
+use Rattle.hosting.proofs.HeldBack.{settled_back, swept_back}
 
 pub held_kept : (store : Store) (held new : List Edit) (s after : MasterState) (now : ℕ) (result : Result Swept Fault) → IsKept store.cell (changed_rows store.rows held) s
-    → IfOk result (λ told. sweep_step s now ≡ Ok (after, told)) → OnOk result (new ≡ held ++ sweep_edits s now) → OnErr result ((after ≡ s) × (new ≡ held))
+    → IsSettled (store_behind store held) → IfOk result (λ told. sweep_step s now ≡ Ok (after, told)) → OnOk result (new ≡ held ++ sweep_edits s now) → OnErr result ((after ≡ s) × (new ≡ held))
     → IsKept store.cell (changed_rows store.rows new) after
-held_kept store held new s after now (Ok told) k ok is err =
+held_kept store held new s after now (Ok told) k so ok is err =
     let P : List Edit → Type 0 = λ u. IsKept store.cell (changed_rows store.rows u) after in
-    subst P (sym is) (swept_kept (store_behind store held) (store_behind store (held ++ sweep_edits s now)) s after now (Ok told) k ok (held_back store held (sweep_edits s now)) tt tt)
-held_kept store held new s after now (Err e) k ok is err =
+    subst P (sym is) (swept_kept (store_behind store held) (store_behind store (held ++ sweep_edits s now)) s after now (Ok told) k ok (swept_back (sweep_frees s now) store held (sweep_edits s now) so) tt tt)
+held_kept store held new s after now (Err e) k so ok is err =
     let P : List Edit → Type 0 = λ u. IsKept store.cell (changed_rows store.rows u) after in
     let Q : MasterState → Type 0 = λ m. IsKept store.cell (changed_rows store.rows held) m in
     subst P (sym err.1) (subst Q (sym err.0) k)
+
+-- a crash leaves the rows alone, before and after
+pub held_settled : (store : Store) (held new : List Edit) (s after : MasterState) (now : ℕ) (result : Result Swept Fault) → IsSettled (store_behind store held)
+    → OnOk result (new ≡ held ++ sweep_edits s now) → OnErr result ((after ≡ s) × (new ≡ held)) → IsSettled (store_behind store new)
+held_settled store held new s after now (Ok told) so is err =
+    let P : List Edit → Type 0 = λ u. IsSettled (store_behind store u) in
+    subst P (sym is) (settled_back store held (sweep_edits s now) so)
+held_settled store held new s after now (Err e) so is err =
+    let P : List Edit → Type 0 = λ u. IsSettled (store_behind store u) in
+    subst P (sym err.1) so
+
+pub held_swept : (store : Store) (held new : List Edit) (s : MasterState) (now : ℕ) (result : Result Swept Fault) → IsSettled (store_behind store held) → OnOk result (new ≡ held ++ sweep_edits s now)
+    → OnOk result (IsSwept (sweep_frees s now) (sweep_edits s now) (store_behind store held) (store_behind store new))
+held_swept store held new s now (Ok told) so is =
+    let P : List Edit → Type 0 = λ u. IsSwept (sweep_frees s now) (sweep_edits s now) (store_behind store held) (store_behind store u) in
+    subst P (sym is) (swept_back (sweep_frees s now) store held (sweep_edits s now) so)
+held_swept store held new s now (Err e) so is = tt
 
 pub committed_kept : (old new : Store) (edits : List Edit) (s : MasterState) → IsCommitted edits old new → IsKept old.cell (changed_rows old.rows edits) s → IsKept new.cell new.rows s
 committed_kept old new edits s c k =

@@ -4,40 +4,31 @@ use Rattle.std.specs.Prelude.{◌⊎◌, Ok, Err}
 use Rattle.node_core.specs.declared.refusals.Fault.{Fault}
 use Rattle.node_core.specs.declared.refusals.Fault.TheVariants.{NoMemory, Exhausted}
 use Rattle.rows_cell.specs.declared.tables.Edit.{Edit}
-use Rattle.rows_cell.specs.Stores.{Store, IsCommitted, IsRefused}
+use Rattle.rows_cell.specs.Stores.{Store}
 use Rattle.master_state.specs.State.{MasterState}
 use Rattle.over_core.specs.declared.swept.Swept.{Swept}
 use Rattle.over_core.specs.Plans.{first_action}
-use Rattle.over_core.specs.Sweep.{is_over, swept, sweep_step, sweep_edits}
+use Rattle.over_core.specs.Sweep.{is_over, swept, sweep_step, sweep_edits, sweep_frees, IsSwept, IsHeldUp}
+use Rattle.over_core.proofs.Settled.{unasked}
 use Rattle.master_state.specs.Lookups.{noted}
 use Rattle.hosting.specs.Held.{GroupState, store_behind, seen}
 use Rattle.hosting.specs.Serving.{SweepsOnce, StopsAt, is_shut}
 use Rattle.hosting.specs.declared.settling.End.TheVariants.{Refused}
-use Rattle.hosting.proofs.HeldBack.{held_back}
 
-kept_back : (old new : GroupState) (edits : List Edit) → new ≡ record old { master = new.master; held = old.held ++ edits } → IsCommitted edits (seen old).store (seen new).store
-kept_back old new edits is =
-    let P : GroupState → Type 0 = λ g. IsCommitted edits (seen old).store (seen g).store in
-    subst P (sym is) (held_back old.store old.held edits)
-
-pub held_once : (now : ℕ) (old new : GroupState) (swept : Swept) → sweep_step old.master now ≡ Ok (new.master, swept) → new ≡ record old { master = new.master; held = old.held ++ sweep_edits old.master now }
-    → SweepsOnce now (seen old) swept (seen new)
-held_once now old new swept step is = record { step = step; committed = kept_back old new (sweep_edits old.master now) is }
+pub held_once : (now : ℕ) (old new : GroupState) (swept : Swept) → sweep_step old.master now ≡ Ok (new.master, swept)
+    → IsSwept (sweep_frees old.master now) (sweep_edits old.master now) (seen old).store (seen new).store → SweepsOnce now (seen old) swept (seen new)
+held_once now old new swept step committed = record { step = step; committed = committed }
 
 pub store_kept : (old new : GroupState) (edits : List Edit) → new ≡ record old { master = new.master; held = old.held ++ edits } → new.store ≡ old.store
 store_kept old new edits is = ap (λ (g : GroupState). g.store) is
 
-wants : (change : List Edit) (store : Store) → IsRefused NoMemory change store store
-wants [] store = record { cell = refl; rows = refl; leave = refl; why = (refl, refl); doubted = omega arith }
-wants (edit ∷ change) store = record { cell = refl; rows = refl; leave = inl refl; why = refl; doubted = omega arith }
-
 refused_so : (now : ℕ) (old new : GroupState) (fault : Fault) → (sweep_step old.master now ≡ Err fault) ⊎ (fault ≡ NoMemory) → new ≡ old
-    → (sweep_step (seen old).master now ≡ Err fault × seen new ≡ seen old) ⊎ IsRefused fault (sweep_edits (seen old).master now) (seen old).store (seen new).store
+    → (sweep_step (seen old).master now ≡ Err fault × seen new ≡ seen old) ⊎ IsHeldUp fault (sweep_frees (seen old).master now) (sweep_edits (seen old).master now) (seen old).store (seen new).store
 refused_so now old new fault (inl step) same = inl (step, ap seen same)
 refused_so now old new fault (inr none) same =
-    let P : Fault → Type 0 = λ e. IsRefused e (sweep_edits old.master now) (seen old).store (seen new).store in
-    let Q : GroupState → Type 0 = λ g. IsRefused NoMemory (sweep_edits old.master now) (seen old).store (seen g).store in
-    inr (subst P (sym none) (subst Q (sym same) (wants (sweep_edits old.master now) (seen old).store)))
+    let P : Fault → Type 0 = λ e. IsHeldUp e (sweep_frees old.master now) (sweep_edits old.master now) (seen old).store (seen new).store in
+    let Q : GroupState → Type 0 = λ g. IsHeldUp NoMemory (sweep_frees old.master now) (sweep_edits old.master now) (seen old).store (seen g).store in
+    inr (subst P (sym none) (subst Q (sym same) (unasked (sweep_frees old.master now) (sweep_edits old.master now) (seen old).store)))
 
 pub held_refused : (now : ℕ) (old new : GroupState) (fault : Fault) → (sweep_step old.master now ≡ Err fault) ⊎ (fault ≡ NoMemory) → new ≡ old → StopsAt now (seen old) fault (seen new)
 held_refused now old new fault why same = record { why = refused_so now old new fault why same; master = ap (λ (g : GroupState). g.master) same }

@@ -3,12 +3,11 @@ use Rattle.std.specs.Prelude.{◌≡◌, ◌≢◌, ◌⊎◌, ℕ, Bool, true, 
 use Rattle.std.specs.List.{AllByRecursion}
 use Rattle.node_core.specs.declared.refusals.Fault.{Fault}
 use Rattle.node_core.specs.declared.refusals.Fault.TheVariants.{NoMemory, StoreRefused}
-use Rattle.rows_cell.specs.Stores.{IsCommitted, IsRefused}
 use Rattle.tags_cell.specs.declared.messages.requests.Request.{Request}
 use Rattle.cell_core.specs.Step.{take_step}
 use Rattle.over_core.specs.declared.swept.Swept.{Swept}
 use Rattle.over_core.specs.Kept.{CellState}
-use Rattle.over_core.specs.Sweep.{sweep_step, sweep_edits, beats_step}
+use Rattle.over_core.specs.Sweep.{sweep_step, sweep_edits, sweep_frees, IsSwept, IsHeldUp, beats_step}
 use Rattle.hosting.specs.declared.settling.End.{End}
 use Rattle.hosting.specs.declared.settling.End.TheVariants.{Quiet, Refused, Unfinished}
 use Rattle.hosting.specs.declared.settling.Round.{Round}
@@ -19,7 +18,7 @@ use Rattle.hosting.specs.declared.answers.Answered.TheVariants as answers
 -- one sweep was done, and its edits are committed
 pub record SweepsOnce (now : ℕ) (old : CellState) (swept : Swept) (new : CellState) : Type 0 where
   pub step : sweep_step old.master now ≡ Ok (new.master, swept)
-  pub committed : IsCommitted (sweep_edits old.master now) old.store new.store
+  pub committed : IsSwept (sweep_frees old.master now) (sweep_edits old.master now) old.store new.store
 
 -- a Beat that was due was answered, or none was due; the store was asked for nothing
 pub record BeatsOnce (now : ℕ) (old : CellState) (swept : Swept) (new : CellState) : Type 0 where
@@ -37,7 +36,7 @@ AreBusy sweeps = AllByRecursion (λ swept. swept.quiet ≡ false) sweeps
 
 -- a sweep was refused, which leaves the master and its rows
 pub record StopsAt (now : ℕ) (old : CellState) (fault : Fault) (new : CellState) : Type 0 where
-  pub why : (sweep_step old.master now ≡ Err fault × new ≡ old) ⊎ IsRefused fault (sweep_edits old.master now) old.store new.store
+  pub why : (sweep_step old.master now ≡ Err fault × new ≡ old) ⊎ IsHeldUp fault (sweep_frees old.master now) (sweep_edits old.master now) old.store new.store
   pub master : new.master ≡ old.master
 
 -- the answer to a Beat was refused, which changes nothing

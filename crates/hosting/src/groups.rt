@@ -1,7 +1,7 @@
 //! Frames that are there together are committed together.
 ghost use Rattle.std.specs.Prelude.{◌≡◌, ◌≤◌, ℕ, List, [], length, Option, Some};
 ghost use Rattle.std.specs.Io.Buffered.{reader_remaining};
-ghost use Rattle.hosting.specs.Seats.{hosted};
+ghost use Rattle.hosting.specs.Seats.{hosted, with_master};
 ghost use Rattle.hosting.specs.Groups.{EndsGroups, Goes, GoesBy, Keeps, ServesBehind, together, course_of};
 
 use crate::frames::Frame;
@@ -13,6 +13,7 @@ use crate::stops::{GroupStop, Stop};
 use crate::streams::{Turned, block_room, serve_found};
 use codec::WireFault;
 use output::write_bytes;
+use over_core::Cell;
 use rows_cell::Records;
 use std::alloc::Global;
 use std::io::{BufReader, Read, Write};
@@ -130,11 +131,30 @@ fn serve_sent<R: Records, I: Read, W: Write>(
     ensures { GoesBy lease (Some sent) (reader_remaining I.remaining reader.old) (hosted R.store seat) result.1 (hosted R.store result.0) (reader_remaining I.remaining reader.new) (W.contents writer.old) (W.contents writer.new) }
 {
     match seat {
-        Seat::Up(cell) => {
-            let group = Group::of(alloc, cell);
-            serve_together(alloc, lease, group, sent, reader, buffer, writer)
-        }
+        Seat::Up(cell) => serve_up(alloc, lease, cell, sent, reader, buffer, writer),
         Seat::Down(records) => serve_alone(alloc, lease, Seat::Down(records), Some(sent), writer),
+    }
+}
+
+// The same of a master that is up. Behind a commit that was refused a frame is done by itself, until another one stands.
+fn serve_up<R: Records, I: Read, W: Write>(
+    alloc: Global,
+    lease: u64,
+    cell: Cell<R>,
+    sent: Result<Frame, WireFault>,
+    reader: &mut BufReader<I>,
+    buffer: &mut [u8],
+    writer: &mut W,
+) -> (Seat<R>, Course)
+    requires lease { (1000 ≤ lease) × (lease ≤ 60000) }
+    requires room { length buffer.old ≡ 1048576 }
+    ensures { GoesBy lease (Some sent) (reader_remaining I.remaining reader.old) (with_master cell) result.1 (hosted R.store result.0) (reader_remaining I.remaining reader.new) (W.contents writer.old) (W.contents writer.new) }
+{
+    if cell.is_settled() {
+        let group = Group::of(alloc, cell);
+        serve_together(alloc, lease, group, sent, reader, buffer, writer)
+    } else {
+        serve_alone(alloc, lease, Seat::Up(cell), Some(sent), writer)
     }
 }
 

@@ -3,7 +3,8 @@ ghost use Rattle.std.specs.Prelude.{◌≡◌, ◌≢◌, ◌⊎◌, ◌<◌, �
 ghost use Rattle.std.specs.Vec.{vec_len, vec_capacity};
 ghost use Rattle.cell_core.specs.Step.{take_step};
 ghost use Rattle.rows_cell.specs.Stores.{IsCommitted, IsRefused};
-ghost use Rattle.over_core.specs.Sweep.{sweep_step, sweep_edits};
+ghost use Rattle.over_core.specs.Sweep.{IsSettled, IsSwept, sweep_step, sweep_edits, sweep_frees};
+ghost use Rattle.hosting.specs.Held.{seen};
 ghost use Rattle.over_core.specs.Deadlines.{IsDeadline};
 
 use crate::sweeping::sweep_held;
@@ -28,18 +29,23 @@ pub struct Group<R: Records> {
 impl<R: Records> Model for Group<R> {
     ghost use Rattle.rows_cell.specs.Rows.{changed_rows};
     ghost use Rattle.over_core.specs.Kept.{IsKept};
-    ghost use Rattle.hosting.specs.Held.{GroupState};
+    ghost use Rattle.over_core.specs.Sweep.{IsSettled};
+    ghost use Rattle.hosting.specs.Held.{GroupState, store_behind};
 
     ghost Value = { GroupState };
 
     ghost view = { λ g. record { master = g.master; store = R.store g.records; held = g.held } };
 
-    ghost invariant = { λ g. IsKept (R.store g.records).cell (changed_rows (R.store g.records).rows g.held) g.master };
+    ghost invariant = { λ g. record {
+      kept : IsKept (R.store g.records).cell (changed_rows (R.store g.records).rows g.held) g.master;
+      settled : IsSettled (store_behind (R.store g.records) g.held);
+    } };
 }
 
 impl<R: Records> Group<R> {
-    /// A master that goes on in a group: nothing is held back yet.
+    /// A master that goes on in a group: nothing is held back yet. Its last commit stood.
     pub fn of(alloc: Global, cell: Cell<R>) -> Group<R>
+        requires { IsSettled cell.store }
         ensures { result ≡ record { master = cell.master; store = cell.store; held = [] } }
     {
         let (master, records) = cell.into_parts();
@@ -67,6 +73,7 @@ impl<R: Records> Group<R> {
     pub fn sweep_with_room<T>(&mut self, now: u64, room: &mut Vec<T>) -> Result<Swept, Fault>
         ensures ok { IfOk result (λ swept. sweep_step self.old.master now ≡ Ok (self.new.master, swept)) }
         ensures held { OnOk result (self.new ≡ record self.old { master = self.new.master; held = self.old.held ++ sweep_edits self.old.master now }) }
+        ensures swept { OnOk result (IsSwept (sweep_frees self.old.master now) (sweep_edits self.old.master now) (seen self.old).store (seen self.new).store) }
         ensures fault { IfErr result (λ e. (sweep_step self.old.master now ≡ Err e) ⊎ (e ≡ Fault.NoMemory)) }
         ensures err { OnErr result (self.new ≡ self.old) }
         ensures items { room.new.items ≡ room.old.items }

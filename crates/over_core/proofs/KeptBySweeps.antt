@@ -21,7 +21,7 @@ use Rattle.rows_cell.specs.declared.tables.Edit.{Edit}
 use Rattle.rows_cell.specs.declared.tables.Edit.TheVariants.{PutSession}
 use Rattle.rows_cell.specs.Rows.{changed_rows}
 use Rattle.rows_cell.specs.Sound.{sound, is_number}
-use Rattle.rows_cell.specs.Stores.{Store, IsCommitted, IsRefused}
+use Rattle.rows_cell.specs.Stores.{Store}
 use Rattle.rows_cell.proofs.EntriesInOrder.{sorted_put}
 use Rattle.rows_cell.proofs.SoundChanges.{session_sound}
 use Rattle.tags_cell.specs.Numbers.{is_client_number}
@@ -56,7 +56,7 @@ use Rattle.cell_core.specs.declared.effects.Effect.{Effect}
 use Rattle.over_core.specs.declared.swept.Swept.{Swept}
 use Rattle.cell_core.specs.Effect.{effect}
 use Rattle.over_core.specs.Kept.{IsKept, AreLocksKept, IsOwnCall, is_call}
-use Rattle.over_core.specs.Sweep.{action_edits, is_over, sweep_edits, sweep_step, beats_action, beats_step}
+use Rattle.over_core.specs.Sweep.{action_edits, is_over, sweep_edits, sweep_step, beats_action, beats_step, IsSwept, IsHeldUp, sweep_frees}
 use Rattle.over_core.specs.Plans.{first_action}
 use Rattle.over_core.specs.SweepCase.{IsNextApplied, SweepCase, rest, swept_by, swept_edits, told, parted, parting_edits, left_reply}
 use Rattle.over_core.specs.SweepCase.SweepCase.{Quiet, Recovers, Expires, Departed, AnswersBeat, TurnedAway, StartedAgain, Started, Reopens, Tidies, Spared, Tidied, OfEnded, Ended, Applied, Deleted, Locked, Awaited, Left}
@@ -287,7 +287,7 @@ sweep_kept cell rows s new now told k h =
     subst Q (sym is) (tellings_kept cell (changed_rows rows (sweep_edits s now)) (swept_by there c.0).0 tellings kept)
 
 -- the same of a sweep that may be refused
-pub swept_kept : (old new : Store) (s after : MasterState) (now : ℕ) (result : Result Swept Fault) → IsKept old.cell old.rows s → IfOk result (λ told. sweep_step s now ≡ Ok (after, told)) → OnOk result (IsCommitted (sweep_edits s now) old new) → OnErr result (after ≡ s) → IfErr result (λ e. (sweep_step s now ≡ Err e × new ≡ old) ⊎ IsRefused e (sweep_edits s now) old new) → IsKept new.cell new.rows after
+pub swept_kept : (old new : Store) (s after : MasterState) (now : ℕ) (result : Result Swept Fault) → IsKept old.cell old.rows s → IfOk result (λ told. sweep_step s now ≡ Ok (after, told)) → OnOk result (IsSwept (sweep_frees s now) (sweep_edits s now) old new) → OnErr result (after ≡ s) → IfErr result (λ e. (sweep_step s now ≡ Err e × new ≡ old) ⊎ IsHeldUp e (sweep_frees s now) (sweep_edits s now) old new) → IsKept new.cell new.rows after
 swept_kept old new s after now (Ok told) k ok committed err fault =
     let kept = sweep_kept old.cell old.rows s after now told k ok in
     let rows = committed.rows in

@@ -31,3 +31,4 @@ pub mod StepsTell
 pub mod Later
 pub mod BeginsNew
 pub mod KeptThrice
+pub mod Settled

@@ -1,5 +1,5 @@
 -- A sweep: what is planned for its first action is done and committed, and the clients are told of it.
-use Rattle.std.specs.Prelude.{List, ℕ, Bool, true, false, ◌||◌, [], Result, Ok, Err, if◌then◌else◌}
+use Rattle.std.specs.Prelude.{◌≡◌, ◌⊎◌, ◌≤◌, List, ℕ, Bool, true, false, not, ◌||◌, ◌&&◌, [], ◌∷◌, ◌++◌, is_some, Result, Ok, Err, if◌then◌else◌}
 use Rattle.master_parts.specs.declared.notices.Telling.{Telling}
 use Rattle.master_parts.specs.declared.pending.Taken.{Taken}
 use Rattle.master_state.specs.Notices.{with_tellings}
@@ -7,6 +7,10 @@ use Rattle.master_state.specs.State.{MasterState}
 use Rattle.over_core.specs.declared.plans.Plan.{Plan}
 use Rattle.node_core.specs.declared.refusals.Fault.{Fault}
 use Rattle.rows_cell.specs.declared.tables.Edit.{Edit}
+use Rattle.rows_cell.specs.declared.tables.Edit.TheVariants.{NextInstance}
+use Rattle.rows_cell.specs.declared.tables.Rows.{Rows}
+use Rattle.rows_cell.specs.Rows.{changed_rows}
+use Rattle.rows_cell.specs.Stores.{Store, left_by, MayLeave, MayRefuse, StoreRefuses}
 use Rattle.std.specs.Option.{option_map_or}
 use Rattle.session_core.specs.Session.{is_client_answerable}
 use Rattle.session_core.specs.Sessions.{has_spent_events, lowest}
@@ -63,6 +67,60 @@ sweep_edits s now = if is_over s now then [] else action_edits (noted s now) (fi
 
 unfoldable pub sweep_step : MasterState → ℕ → Result (MasterState × Swept) Fault
 sweep_step s now = if is_over s now then Err faults.Exhausted else Ok (swept (noted s now) (first_action (noted s now)))
+
+-- ---- what the store does for a sweep
+
+-- a change leaves the gate by this plan
+abbrev pub frees : Plan → Bool
+frees plan = is_some plan.update.leaves
+
+-- a change leaves the gate by a sweep at this moment
+abbrev pub sweep_frees : MasterState → ℕ → Bool
+sweep_frees s now = if is_over s now then false else frees (plan_of (noted s now) (first_action (noted s now)))
+
+-- what a crash may leave after it: once a change has left the gate the rows that stand, and nothing that was refused before
+abbrev pub left_after : Bool → List Edit → List Rows → Rows → List Rows
+left_after true edits leave rows = rows ∷ []
+left_after false edits leave rows = left_by edits leave rows
+
+-- what it changes stands, and the store refused nothing
+pub record IsSwept (freed : Bool) (edits : List Edit) (old new : Store) : Type 0 where
+  pub cell : new.cell ≡ old.cell
+  pub rows : new.rows ≡ changed_rows old.rows edits
+  pub leave : new.may_leave ≡ left_after freed edits old.may_leave new.rows
+  pub counted : new.refusals ≡ old.refusals
+  pub doubted : old.doubt ≤ new.doubt
+
+-- why it isn't done: a change that is to leave the gate may be refused by the store though it changes nothing
+abbrev pub MayHoldUp : Bool → List Edit → Fault → ℕ → ℕ → Type 0
+MayHoldUp true edits fault before after = StoreRefuses fault before after
+MayHoldUp false edits fault before after = MayRefuse edits fault before after
+
+-- what a crash may leave after a refusal: what it could before, and perhaps the rows of what was refused
+abbrev pub MayLeaveUp : Bool → List Edit → Rows → List Rows → List Rows → Type 0
+MayLeaveUp true edits rows old new = (new ≡ old) ⊎ (new ≡ old ++ changed_rows rows edits ∷ [])
+MayLeaveUp false edits rows old new = MayLeave edits rows old new
+
+-- the rows stand as they stood
+pub record IsHeldUp (fault : Fault) (freed : Bool) (edits : List Edit) (old new : Store) : Type 0 where
+  pub cell : new.cell ≡ old.cell
+  pub rows : new.rows ≡ old.rows
+  pub leave : MayLeaveUp freed edits old.rows old.may_leave new.may_leave
+  pub why : MayHoldUp freed edits fault old.refusals new.refusals
+  pub doubted : old.doubt ≤ new.doubt
+
+abbrev pub Sweeps : {X : Type 0} → Bool → List Edit → Store → Store → Result X Fault → Type 0
+Sweeps freed edits old new (Ok x) = IsSwept freed edits old new
+Sweeps freed edits old new (Err fault) = IsHeldUp fault freed edits old new
+
+-- what is asked of the store: what the sweep changes; where that is nothing, but a change leaves the gate and a commit was refused since the last one that stood, the rows as they are
+abbrev pub asked_edits : Bool → Bool → ℕ → List Edit → List Edit
+asked_edits settled freed next [] = if freed && not settled then NextInstance next ∷ [] else []
+asked_edits settled freed next (edit ∷ edits) = edit ∷ edits
+
+-- a crash leaves the rows that stand
+abbrev pub IsSettled : Store → Type 0
+IsSettled store = store.may_leave ≡ store.rows ∷ []
 
 -- ---- what is answered though nothing can be committed
 

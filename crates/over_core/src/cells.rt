@@ -9,14 +9,15 @@ ghost use Rattle.rows_cell.specs.Keys.{lock_order};
 ghost use Rattle.rows_cell.specs.Rows.{changed_rows};
 ghost use Rattle.rows_cell.specs.Sound.{sound};
 ghost use Rattle.cell_core.specs.Step.{take_step};
-ghost use Rattle.rows_cell.specs.Stores.{Commits, IsCommitted, IsRead, IsRefused, IsUnread};
-ghost use Rattle.over_core.specs.Sweep.{sweep_step, sweep_edits, beats_step, swept_as};
+ghost use Rattle.rows_cell.specs.Stores.{Commits, IsRead, IsUnread};
+ghost use Rattle.over_core.specs.Sweep.{IsHeldUp, IsSettled, IsSwept, sweep_step, sweep_edits, sweep_frees, beats_step, swept_as};
 ghost use Rattle.rights_core.specs.Rights.{totals_of};
 ghost use Rattle.over_core.specs.Kept.{IsKept};
 ghost use Rattle.over_core.specs.Up.{up_edits, next_epoch, ComesUp, StaysDown, CouldComeUp, CouldNotComeUp};
 ghost use Rattle.over_core.specs.Deadlines.{IsDeadline};
 
 use crate::beats::{beats_by, beats_thrice_by};
+use crate::keeping::Keeping;
 use crate::sweeps::{SweptThrice, sweep_by, sweep_thrice_by};
 use crate::swept::Swept;
 use cell_core::Thrice;
@@ -36,7 +37,7 @@ use tags_cell::Request;
 /// how often what is read from it was in doubt.
 #[derive(Drop)]
 pub struct Cell<R: Records> {
-    records: R,
+    records: Keeping<R>,
     master: cell_core::Cell,
 }
 
@@ -45,9 +46,9 @@ impl<R: Records> Model for Cell<R> {
 
     ghost Value = { CellState };
 
-    ghost view = { λ c. record { master = c.master; store = R.store c.records } };
+    ghost view = { λ c. record { master = c.master; store = c.records } };
 
-    ghost invariant = { λ c. IsKept (R.store c.records).cell (R.store c.records).rows c.master };
+    ghost invariant = { λ c. IsKept c.records.cell c.records.rows c.master };
 }
 
 impl<R: Records> Cell<R> {
@@ -66,7 +67,10 @@ impl<R: Records> Cell<R> {
         ensures fault { IfErr result (λ e. StaysDown lease now e.0 (R.store records) (R.store e.1)) }
     {
         match next_master(alloc, &mut records, lease, now) {
-            Ok(master) => Ok(Cell { records, master }),
+            Ok(master) => Ok(Cell {
+                records: Keeping::of(records),
+                master,
+            }),
             Err(fault) => Err((fault, records)),
         }
     }
@@ -103,14 +107,15 @@ impl<R: Records> Cell<R> {
     /// moment of the answer, and offers its client just that, counted from the receipt (Gray and Cheriton 1989, section
     /// 2). A change waits while a client holds a right on a name that it touches, and the answer to a Beat tells the
     /// client what it is to let go of (Burrows 2006, section 2.7). Behind all that, events wait in the sessions of those
-    /// who opened handles on what changed (section 2.5). Moments are as in `take`. A refusal leaves the master and the
-    /// rows as they were, and comes only for a moment of 2^53 or more, or where a session's count of events is at
+    /// who opened handles on what changed (section 2.5). A change whose turn comes after a refused commit leaves with a
+    /// commit, be it of the rows as they are: so what was refused isn't what a crash leaves once another client may keep an
+    /// answer in its cache. Moments are as in `take`. A refusal leaves the master and the rows as they were, and comes only for a moment of 2^53 or more, or where a session's count of events is at
     /// 2^63-1, as Exhausted, for want of memory, or where the store refused.
     pub fn sweep(&mut self, now: u64) -> Result<Swept, Fault>
         ensures ok { IfOk result (λ swept. sweep_step self.old.master now ≡ Ok (self.new.master, swept)) }
-        ensures committed { OnOk result (IsCommitted (sweep_edits self.old.master now) self.old.store self.new.store) }
+        ensures committed { OnOk result (IsSwept (sweep_frees self.old.master now) (sweep_edits self.old.master now) self.old.store self.new.store) }
         ensures fault { IfErr result (λ e. (sweep_step self.old.master now ≡ Err e × self.new ≡ self.old)
-            ⊎ IsRefused e (sweep_edits self.old.master now) self.old.store self.new.store) }
+            ⊎ IsHeldUp e (sweep_frees self.old.master now) (sweep_edits self.old.master now) self.old.store self.new.store) }
         ensures err { OnErr result (self.new.master ≡ self.old.master) }
     {
         let mut room: Vec<Line> = Vec::new(self.master.master().alloc());
@@ -123,9 +128,9 @@ impl<R: Records> Cell<R> {
     /// all that it prints and one more. So what the caller adds of them afterwards takes no memory.
     pub fn sweep_with_room<T>(&mut self, now: u64, room: &mut Vec<T>) -> Result<Swept, Fault>
         ensures ok { IfOk result (λ swept. sweep_step self.old.master now ≡ Ok (self.new.master, swept)) }
-        ensures committed { OnOk result (IsCommitted (sweep_edits self.old.master now) self.old.store self.new.store) }
+        ensures committed { OnOk result (IsSwept (sweep_frees self.old.master now) (sweep_edits self.old.master now) self.old.store self.new.store) }
         ensures fault { IfErr result (λ e. (sweep_step self.old.master now ≡ Err e × self.new ≡ self.old)
-            ⊎ IsRefused e (sweep_edits self.old.master now) self.old.store self.new.store) }
+            ⊎ IsHeldUp e (sweep_frees self.old.master now) (sweep_edits self.old.master now) self.old.store self.new.store) }
         ensures err { OnErr result (self.new.master ≡ self.old.master) }
         ensures items { room.new.items ≡ room.old.items }
         ensures outs { IfOk result (λ swept. vec_len room.new + length swept.outs ≤ vec_capacity room.new) }
@@ -173,9 +178,9 @@ impl<R: Records> Cell<R> {
     /// the sweep has an effect.
     pub fn sweep_thrice(&mut self, now: u64) -> Result<SweptThrice, Fault>
         ensures ok { IfOk result (λ done. sweep_step self.old.master now ≡ Ok (self.new.master, swept_as done.answers done.quiet)) }
-        ensures committed { OnOk result (IsCommitted (sweep_edits self.old.master now) self.old.store self.new.store) }
+        ensures committed { OnOk result (IsSwept (sweep_frees self.old.master now) (sweep_edits self.old.master now) self.old.store self.new.store) }
         ensures fault { IfErr result (λ e. (sweep_step self.old.master now ≡ Err e × self.new ≡ self.old)
-            ⊎ IsRefused e (sweep_edits self.old.master now) self.old.store self.new.store) }
+            ⊎ IsHeldUp e (sweep_frees self.old.master now) (sweep_edits self.old.master now) self.old.store self.new.store) }
         ensures err { OnErr result (self.new.master ≡ self.old.master) }
     {
         sweep_thrice_by(&mut self.master, &mut self.records, now)
@@ -228,15 +233,27 @@ impl<R: Records> Cell<R> {
         ensures kept { IsKept self.store.cell self.store.rows self.master }
     {
         let Cell { records, master } = self;
-        (master, records)
+        (master, records.into_records())
     }
 
-    /// A master over records that hold what it knows of them.
+    /// A master over records that hold what it knows of them, and of which a crash leaves just that.
     pub fn of_parts(master: cell_core::Cell, records: R) -> Cell<R>
-        requires { IsKept (R.store records).cell (R.store records).rows master }
+        requires kept { IsKept (R.store records).cell (R.store records).rows master }
+        requires settled { IsSettled (R.store records) }
         ensures { result ≡ record { master = master; store = R.store records } }
     {
-        Cell { records, master }
+        Cell {
+            records: Keeping::of(records),
+            master,
+        }
+    }
+
+    /// Whether the last commit stood. A crash then leaves the rows that stand; after one that was refused it may leave the
+    /// rows of that, until another commit stands.
+    pub fn is_settled(&self) -> bool
+        ensures { result ≡ true → IsSettled self.now.store }
+    {
+        self.records.is_settled()
     }
 
     /// The master is gone, and the records come back. What waited is lost.
@@ -244,7 +261,7 @@ impl<R: Records> Cell<R> {
         ensures { R.store result ≡ self.store }
     {
         let Cell { records, .. } = self;
-        records
+        records.into_records()
     }
 }
 
@@ -258,6 +275,7 @@ fn next_master<R: Records>(
     requires { (1000 ≤ lease) × (lease ≤ 60000) }
     ensures ok { IfOk result (λ master. ComesUp lease now master (R.store records.old) (R.store records.new)) }
     ensures kept { IfOk result (λ master. IsKept (R.store records.new).cell (R.store records.new).rows master) }
+    ensures settled { OnOk result (IsSettled (R.store records.new)) }
     ensures fault { IfErr result (λ e. StaysDown lease now e (R.store records.old) (R.store records.new)) }
 {
     if now >= MOMENT_LIMIT {

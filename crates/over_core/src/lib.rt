@@ -6,6 +6,7 @@ mod actions;
 mod beats;
 mod cells;
 mod deadlines;
+mod keeping;
 mod lapses;
 mod laws;
 mod plans;

@@ -1,16 +1,16 @@
 //! What a master does by itself.
-ghost use Rattle.std.specs.Prelude.{◌≡◌, ◌⊎◌, ◌≤◌, ◌<◌, ◌+◌, [], length, true, false, Ok, Err, IfOk, IfErr, OnOk, OnErr};
+ghost use Rattle.std.specs.Prelude.{◌≡◌, ◌⊎◌, ◌≤◌, ◌<◌, ◌+◌, [], length, is_some, true, false, Ok, Err, IfOk, IfErr, OnOk, OnErr};
 ghost use Rattle.std.specs.Vec.{vec_len, vec_capacity};
 ghost use Rattle.rows_cell.specs.Rows.{changed_rows};
 ghost use Rattle.rows_cell.specs.Sound.{sound};
-ghost use Rattle.rows_cell.specs.Stores.{Commits, IsCommitted, IsRefused};
 ghost use Rattle.gate_core.specs.Gate.{push_answer};
 ghost use Rattle.master_state.specs.Updates.{BeginsNew, edits_of, done};
 ghost use Rattle.cell_core.specs.Ephemerals.{is_ok, tidied};
 ghost use Rattle.over_core.specs.Plans.{tellings_of, first_action, plan_of};
-ghost use Rattle.over_core.specs.Sweep.{is_quiet, done_and_told, swept, swept_as, action_edits, is_over, sweep_edits, sweep_step};
+ghost use Rattle.over_core.specs.Sweep.{IsHeldUp, IsSwept, Sweeps, frees, sweep_frees, is_quiet, done_and_told, swept, swept_as, action_edits, is_over, sweep_edits, sweep_step};
 
 use crate::actions::{Action, first_action};
+use crate::keeping::Keeping;
 use crate::plans::{Plan, plan_of};
 use crate::swept::Swept;
 use crate::tellings::tellings_of;
@@ -49,16 +49,17 @@ pub struct SweptThrice {
 /// in a list of the caller's. A refusal leaves the master as it was.
 pub(crate) fn sweep_by<R: Records, T>(
     cell: &mut Cell,
-    records: &mut R,
+    records: &mut Keeping<R>,
     now: u64,
     room: &mut Vec<T>,
 ) -> Result<Swept, Fault>
-    requires { sound (R.store records.old).cell (changed_rows (R.store records.old).rows (sweep_edits cell.old now)) ≡ true }
+    requires sound { sound records.old.cell (changed_rows records.old.rows (sweep_edits cell.old now)) ≡ true }
+    requires same { records.old.rows.next_instance ≡ cell.old.next_instance }
     ensures ok { IfOk result (λ swept. sweep_step cell.old now ≡ Ok (cell.new, swept)) }
-    ensures committed { OnOk result (IsCommitted (sweep_edits cell.old now) (R.store records.old) (R.store records.new)) }
+    ensures committed { OnOk result (IsSwept (sweep_frees cell.old now) (sweep_edits cell.old now) records.old records.new) }
     ensures err { OnErr result (cell.new ≡ cell.old) }
-    ensures fault { IfErr result (λ e. (sweep_step cell.old now ≡ Err e × R.store records.new ≡ R.store records.old)
-        ⊎ IsRefused e (sweep_edits cell.old now) (R.store records.old) (R.store records.new)) }
+    ensures fault { IfErr result (λ e. (sweep_step cell.old now ≡ Err e × records.new ≡ records.old)
+        ⊎ IsHeldUp e (sweep_frees cell.old now) (sweep_edits cell.old now) records.old records.new) }
     ensures items { room.new.items ≡ room.old.items }
     ensures outs { IfOk result (λ swept. vec_len room.new + length swept.outs ≤ vec_capacity room.new) }
     ensures lines { IfOk result (λ swept. vec_len room.new + length swept.lines < vec_capacity room.new) }
@@ -72,15 +73,16 @@ pub(crate) fn sweep_by<R: Records, T>(
 /// The same, its answer three times.
 pub(crate) fn sweep_thrice_by<R: Records>(
     cell: &mut Cell,
-    records: &mut R,
+    records: &mut Keeping<R>,
     now: u64,
 ) -> Result<SweptThrice, Fault>
-    requires { sound (R.store records.old).cell (changed_rows (R.store records.old).rows (sweep_edits cell.old now)) ≡ true }
+    requires sound { sound records.old.cell (changed_rows records.old.rows (sweep_edits cell.old now)) ≡ true }
+    requires same { records.old.rows.next_instance ≡ cell.old.next_instance }
     ensures ok { IfOk result (λ done. sweep_step cell.old now ≡ Ok (cell.new, swept_as done.answers done.quiet)) }
-    ensures committed { OnOk result (IsCommitted (sweep_edits cell.old now) (R.store records.old) (R.store records.new)) }
+    ensures committed { OnOk result (IsSwept (sweep_frees cell.old now) (sweep_edits cell.old now) records.old records.new) }
     ensures err { OnErr result (cell.new ≡ cell.old) }
-    ensures fault { IfErr result (λ e. (sweep_step cell.old now ≡ Err e × R.store records.new ≡ R.store records.old)
-        ⊎ IsRefused e (sweep_edits cell.old now) (R.store records.old) (R.store records.new)) }
+    ensures fault { IfErr result (λ e. (sweep_step cell.old now ≡ Err e × records.new ≡ records.old)
+        ⊎ IsHeldUp e (sweep_frees cell.old now) (sweep_edits cell.old now) records.old records.new) }
 {
     let mut room: Vec<Line> = Vec::new(cell.master().alloc());
     let done = sweep_as::<R, Thrice, Line>(cell, records, now, &mut room);
@@ -95,16 +97,17 @@ pub(crate) fn sweep_thrice_by<R: Records>(
 #[tactic(auto, unfolding(crate::specs::Sweep::sweep_step))]
 fn sweep_as<R: Records, A: Answers, T>(
     cell: &mut Cell,
-    records: &mut R,
+    records: &mut Keeping<R>,
     now: u64,
     room: &mut Vec<T>,
 ) -> Result<Done<A>, Fault>
-    requires { sound (R.store records.old).cell (changed_rows (R.store records.old).rows (sweep_edits cell.old now)) ≡ true }
+    requires sound { sound records.old.cell (changed_rows records.old.rows (sweep_edits cell.old now)) ≡ true }
+    requires same { records.old.rows.next_instance ≡ cell.old.next_instance }
     ensures ok { IfOk result (λ done. sweep_step cell.old now ≡ Ok (cell.new, swept_as (A.answer done.answers) done.quiet)) }
-    ensures committed { OnOk result (IsCommitted (sweep_edits cell.old now) (R.store records.old) (R.store records.new)) }
+    ensures committed { OnOk result (IsSwept (sweep_frees cell.old now) (sweep_edits cell.old now) records.old records.new) }
     ensures err { OnErr result (cell.new ≡ cell.old) }
-    ensures fault { IfErr result (λ e. (sweep_step cell.old now ≡ Err e × R.store records.new ≡ R.store records.old)
-        ⊎ IsRefused e (sweep_edits cell.old now) (R.store records.old) (R.store records.new)) }
+    ensures fault { IfErr result (λ e. (sweep_step cell.old now ≡ Err e × records.new ≡ records.old)
+        ⊎ IsHeldUp e (sweep_frees cell.old now) (sweep_edits cell.old now) records.old records.new) }
     ensures items { room.new.items ≡ room.old.items }
     ensures outs { IfOk result (λ done. vec_len room.new + length (A.answer done.answers).outs ≤ vec_capacity room.new) }
     ensures lines { IfOk result (λ done. vec_len room.new + length (A.answer done.answers).lines < vec_capacity room.new) }
@@ -133,12 +136,13 @@ pub(crate) fn is_over(master: &Master, now: u64) -> bool
 // and sent. Behind all else the clients of open handles are told of it. A refusal leaves the master as it was.
 fn sweep_at<R: Records, A: Answers, T>(
     cell: &mut Cell,
-    records: &mut R,
+    records: &mut Keeping<R>,
     room: &mut Vec<T>,
 ) -> Result<Done<A>, Fault>
-    requires { sound (R.store records.old).cell (changed_rows (R.store records.old).rows (action_edits cell.old (first_action cell.old))) ≡ true }
+    requires sound { sound records.old.cell (changed_rows records.old.rows (action_edits cell.old (first_action cell.old))) ≡ true }
+    requires same { records.old.rows.next_instance ≡ cell.old.next_instance }
     ensures ok { IfOk result (λ done. swept cell.old (first_action cell.old) ≡ (cell.new, swept_as (A.answer done.answers) done.quiet)) }
-    ensures store { Commits (action_edits cell.old (first_action cell.old)) (R.store records.old) (R.store records.new) result }
+    ensures store { Sweeps (frees (plan_of cell.old (first_action cell.old))) (action_edits cell.old (first_action cell.old)) records.old records.new result }
     ensures err { OnErr result (cell.new ≡ cell.old) }
     ensures items { room.new.items ≡ room.old.items }
     ensures outs { IfOk result (λ done. vec_len room.new + length (A.answer done.answers).outs ≤ vec_capacity room.new) }
@@ -202,13 +206,14 @@ fn tidy_answered<A: Answers>(cell: &mut Cell, idle: Idle, answers: A) -> Result<
 // Does what is planned for any other action, and behind all else the clients of open handles are told of it.
 fn act<R: Records, A: Answers, T>(
     cell: &mut Cell,
-    records: &mut R,
+    records: &mut Keeping<R>,
     action: &Action,
     room: &mut Vec<T>,
 ) -> Result<Done<A>, Fault>
-    requires { sound (R.store records.old).cell (changed_rows (R.store records.old).rows (action_edits cell.old action.now)) ≡ true }
+    requires sound { sound records.old.cell (changed_rows records.old.rows (action_edits cell.old action.now)) ≡ true }
+    requires same { records.old.rows.next_instance ≡ cell.old.next_instance }
     ensures ok { IfOk result (λ done. done_and_told cell.old (plan_of cell.old action.now) (is_quiet action.now) ≡ (cell.new, swept_as (A.answer done.answers) done.quiet)) }
-    ensures store { Commits (action_edits cell.old action.now) (R.store records.old) (R.store records.new) result }
+    ensures store { Sweeps (frees (plan_of cell.old action.now)) (action_edits cell.old action.now) records.old records.new result }
     ensures err { OnErr result (cell.new ≡ cell.old) }
     ensures items { room.new.items ≡ room.old.items }
     ensures outs { IfOk result (λ done. vec_len room.new + length (A.answer done.answers).outs ≤ vec_capacity room.new) }
@@ -325,19 +330,20 @@ pub(crate) fn is_quiet(action: &Action) -> bool
 }
 
 // The update is done, with its edits committed.
-fn commit_edits<R: Records>(cell: &mut Cell, records: &mut R, update: Update) -> Result<(), Fault>
-    requires sound { sound (R.store records.old).cell (changed_rows (R.store records.old).rows (edits_of cell.old update)) ≡ true }
+fn commit_edits<R: Records>(
+    cell: &mut Cell,
+    records: &mut Keeping<R>,
+    update: Update,
+) -> Result<(), Fault>
+    requires sound { sound records.old.cell (changed_rows records.old.rows (edits_of cell.old update)) ≡ true }
+    requires same { records.old.rows.next_instance ≡ cell.old.next_instance }
     requires begins { BeginsNew cell.old update.session }
     ensures ok { OnOk result (cell.new ≡ done cell.old update) }
-    ensures store { Commits (edits_of cell.old update) (R.store records.old) (R.store records.new) result }
+    ensures store { Sweeps (is_some update.leaves) (edits_of cell.old update) records.old records.new result }
     ensures err { OnErr result (cell.new ≡ cell.old) }
 {
     match edits_of(cell.master(), &update) {
-        Ok(edits) => {
-            let done = commit_update(cell, records, update, &edits);
-            drop(edits);
-            done
-        }
+        Ok(edits) => commit_update(cell, records, update, edits),
         Err(error) => {
             drop(update);
             Err(error.into())
@@ -348,27 +354,35 @@ fn commit_edits<R: Records>(cell: &mut Cell, records: &mut R, update: Update) ->
 // The update is begun, committed, and finished; where the commit is refused it is taken back.
 fn commit_update<R: Records>(
     cell: &mut Cell,
-    records: &mut R,
+    records: &mut Keeping<R>,
     update: Update,
-    edits: &Items<Edit>,
+    edits: Items<Edit>,
 ) -> Result<(), Fault>
-    requires sound { sound (R.store records.old).cell (changed_rows (R.store records.old).rows edits.now) ≡ true }
+    requires sound { sound records.old.cell (changed_rows records.old.rows edits) ≡ true }
+    requires same { records.old.rows.next_instance ≡ cell.old.next_instance }
     requires begins { BeginsNew cell.old update.session }
     ensures ok { OnOk result (cell.new ≡ done cell.old update) }
-    ensures store { Commits edits.now (R.store records.old) (R.store records.new) result }
+    ensures store { Sweeps (is_some update.leaves) edits records.old records.new result }
     ensures err { OnErr result (cell.new ≡ cell.old) }
 {
-    let Grown { former, rest } = cell.grow(update)?;
-    match records.commit(edits) {
-        Ok(()) => {
-            cell.settle(former);
-            cell.finish(rest);
-            Ok(())
-        }
-        Err(fault) => {
-            drop(rest);
-            cell.undo(former);
-            Err(fault.into())
+    let frees = update.leaves.is_some();
+    let next_instance = cell.master().next_instance();
+    match cell.grow(update) {
+        Ok(Grown { former, rest }) => match records.commit(edits, frees, next_instance) {
+            Ok(()) => {
+                cell.settle(former);
+                cell.finish(rest);
+                Ok(())
+            }
+            Err(fault) => {
+                drop(rest);
+                cell.undo(former);
+                Err(fault)
+            }
+        },
+        Err(error) => {
+            drop(edits);
+            Err(error.into())
         }
     }
 }

@@ -13,7 +13,7 @@ use Rattle.world_steps.specs.declared.mail.Message.{Message}
 use Rattle.world_steps.specs.declared.steps.Step.{Step}
 use Rattle.world_steps.specs.declared.steps.Step.TheVariants as steps
 use Rattle.world_steps.specs.declared.parts.SweepResult.{SweepResult}
-use Rattle.world_steps.specs.World.{WorldState, WorldView, world_step, world_sweep, without_quiet, step_edits, IsStored, IsLeft, MayRefuseStep}
+use Rattle.world_steps.specs.World.{WorldState, WorldView, world_step, world_sweep, without_quiet, step_edits, step_frees, IsStored, IsLeft, MayRefuseStep}
 use Rattle.world_steps.specs.Made.{IsMade, WasMade, WasRefused}
 use Rattle.world_cell.proofs.WereSent.{take_sent, give_sent}
 use Rattle.world_cell.proofs.WorldCases.{step_sweeps}
@@ -139,7 +139,7 @@ turn_at s step some = ap (λ o. unwrap_or o steps.Sweep) some
 turn_sweeps : (s : Played) → first_waiting s.view.world.messages s.delivered 1 ≡ None → turn_step s ≡ steps.Sweep
 turn_sweeps s none = ap (λ o. unwrap_or o steps.Sweep) none
 
-pub swept_made : (old new : WorldView) (marks : List Bool) (r : Result SweepResult Fault) → first_waiting old.world.messages marks 1 ≡ None → IfOk r (λ turn. world_sweep old.world old.world.master ≡ Ok (new.world, turn)) → OnOk r (IsStored (step_edits old.world steps.Sweep) old new) → IfOk r (λ turn. PlaysMade (played old marks) (turn_step (played old marks)) (played new marks) turn.lines)
+pub swept_made : (old new : WorldView) (marks : List Bool) (r : Result SweepResult Fault) → first_waiting old.world.messages marks 1 ≡ None → IfOk r (λ turn. world_sweep old.world old.world.master ≡ Ok (new.world, turn)) → OnOk r (IsStored (step_frees old.world steps.Sweep) (step_edits old.world steps.Sweep) old new) → IfOk r (λ turn. PlaysMade (played old marks) (turn_step (played old marks)) (played new marks) turn.lines)
 swept_made old new marks (Ok turn) none made stored =
     rw (turn_sweeps (played old marks) none) (record { made = (old, refl, record { typed = tt; is_step = step_sweeps old.world ∙ ap without_quiet made; stored = stored }); delivered = refl })
 swept_made old new marks (Err fault) none made stored = tt
@@ -152,7 +152,7 @@ swept_why : (old new : WorldView) (fault : Fault) → MayRefuseStep (world_sweep
 swept_why old new fault (inl told) = inl (step_sweeps old.world ∙ ap without_quiet told.0, told.1)
 swept_why old new fault (inr outside) = inr outside
 
-pub swept_refused : (old new : WorldView) (marks : List Bool) (r : Result SweepResult Fault) → first_waiting old.world.messages marks 1 ≡ None → IfErr r (λ e. MayRefuseStep (world_sweep old.world old.world.master) steps.Sweep e old new) → OnErr r (IsLeft (step_edits old.world steps.Sweep) old new) → IfErr r (λ e. PlaysRefused (played old marks) (turn_step (played old marks)) (played new marks) (lines.Refused e ∷ []))
+pub swept_refused : (old new : WorldView) (marks : List Bool) (r : Result SweepResult Fault) → first_waiting old.world.messages marks 1 ≡ None → IfErr r (λ e. MayRefuseStep (world_sweep old.world old.world.master) steps.Sweep e old new) → OnErr r (IsLeft (step_frees old.world steps.Sweep) (step_edits old.world steps.Sweep) old new) → IfErr r (λ e. PlaysRefused (played old marks) (turn_step (played old marks)) (played new marks) (lines.Refused e ∷ []))
 swept_refused old new marks (Ok turn) none why left = tt
 swept_refused old new marks (Err fault) none why left =
     rw (turn_sweeps (played old marks) none) (record { refused = (old, refl, record { fault = fault; why = swept_why old new fault why; left = left; line = refl }); same = refl })

@@ -6,7 +6,7 @@ use Rattle.node_core.specs.declared.refusals.Fault.TheVariants as faults
 use Rattle.tags_cell.specs.declared.messages.requests.Request.{Request}
 use Rattle.rows_cell.specs.declared.tables.Rows.{Rows}
 use Rattle.rows_cell.specs.declared.tables.Edit.{Edit}
-use Rattle.rows_cell.specs.Stores.{IsCommitted, IsRefused, MayRefuse, StoreRefuses}
+use Rattle.rows_cell.specs.Stores.{MayRefuse, StoreRefuses}
 use Rattle.rights_core.specs.Grants.{Tells}
 use Rattle.master_parts.specs.declared.pending.Taken.{Taken}
 use Rattle.master_state.specs.State.{MasterState}
@@ -14,7 +14,7 @@ use Rattle.master_state.specs.Lookups.{noted, is_spent}
 use Rattle.cell_core.specs.Step.{take_step, take_at, is_past_end}
 use Rattle.over_core.specs.declared.swept.Swept.{Swept}
 use Rattle.over_core.specs.Kept.{CellState, IsKept}
-use Rattle.over_core.specs.Sweep.{sweep_step, sweep_edits, swept_as, swept, is_over}
+use Rattle.over_core.specs.Sweep.{IsSwept, IsHeldUp, MayHoldUp, sweep_step, sweep_edits, sweep_frees, swept_as, swept, is_over}
 use Rattle.over_core.specs.Plans.{first_action}
 use Rattle.over_core.proofs.StepsTell.{taken_tells, swept_tells}
 use Rattle.over_core.specs.declared.sweeps.SweptThrice.{SweptThrice}
@@ -45,7 +45,7 @@ take_not_full s now request e h is =
 
 -- ---- a sweep that was made
 
-pub sweep_is : (old new : CellState) (now : ℕ) (done : Swept) → sweep_step old.master now ≡ Ok (new.master, done) → IsCommitted (sweep_edits old.master now) old.store new.store → step_of (watched old) (Sweep now) ≡ Ok (watched new, done)
+pub sweep_is : (old new : CellState) (now : ℕ) (done : Swept) → sweep_step old.master now ≡ Ok (new.master, done) → IsSwept (sweep_frees old.master now) (sweep_edits old.master now) old.store new.store → step_of (watched old) (Sweep now) ≡ Ok (watched new, done)
 unfolding step_of
 sweep_is old new now done is committed =
     ap (after_sweep (watched old) (sweep_edits old.master now)) is ∙ ap (λ (r : Rows). Ok (record { master = new.master; rows = r }, done)) (sym committed.rows)
@@ -56,13 +56,17 @@ sweep_tells old new now done kept is = swept_tells old.store.cell old.store.rows
 same_state : (m n : MasterState) (r q : Rows) → m ≡ n → r ≡ q → ◌≡◌ {A = WatchedState} (record { master = m; rows = r }) (record { master = n; rows = q })
 same_state m n r q h k = rw (h, k) refl
 
-pub sweep_same : (old new : CellState) (now : ℕ) (e : Fault) → new.master ≡ old.master → (sweep_step old.master now ≡ Err e × new ≡ old) ⊎ IsRefused e (sweep_edits old.master now) old.store new.store → watched new ≡ watched old
+pub sweep_same : (old new : CellState) (now : ℕ) (e : Fault) → new.master ≡ old.master → (sweep_step old.master now ≡ Err e × new ≡ old) ⊎ IsHeldUp e (sweep_frees old.master now) (sweep_edits old.master now) old.store new.store → watched new ≡ watched old
 sweep_same old new now e same (inl p) = ap watched p.1
 sweep_same old new now e same (inr r) = same_state new.master old.master new.store.rows old.store.rows same r.rows
 
 refused_not_full : (edits : List Edit) (e : Fault) (before after : ℕ) → MayRefuse edits e before after → e ≢ faults.WatchFull
 refused_not_full [] e before after w is = let none : e ≡ faults.NoMemory = w.0 in cc
 refused_not_full (edit ∷ edits) e before after w is = subst (λ (f : Fault). StoreRefuses f before after) is w
+
+held_not_full : (freed : Bool) (edits : List Edit) (e : Fault) (before after : ℕ) → MayHoldUp freed edits e before after → e ≢ faults.WatchFull
+held_not_full true edits e before after w is = subst (λ (f : Fault). StoreRefuses f before after) is w
+held_not_full false edits e before after w is = refused_not_full edits e before after w is
 
 stepped_not_full : (s : MasterState) (now : ℕ) (e : Fault) → sweep_step s now ≡ Err e → e ≢ faults.WatchFull
 unfolding sweep_step
@@ -72,16 +76,16 @@ stepped_not_full s now e h is =
       | false ↦ (λ k. cc)
     ]) h
 
-pub sweep_not_full : (old new : CellState) (now : ℕ) (e : Fault) → (sweep_step old.master now ≡ Err e × new ≡ old) ⊎ IsRefused e (sweep_edits old.master now) old.store new.store → e ≢ faults.WatchFull
+pub sweep_not_full : (old new : CellState) (now : ℕ) (e : Fault) → (sweep_step old.master now ≡ Err e × new ≡ old) ⊎ IsHeldUp e (sweep_frees old.master now) (sweep_edits old.master now) old.store new.store → e ≢ faults.WatchFull
 sweep_not_full old new now e (inl p) = stepped_not_full old.master now e p.0
-sweep_not_full old new now e (inr r) = refused_not_full (sweep_edits old.master now) e old.store.refusals new.store.refusals r.why
+sweep_not_full old new now e (inr r) = held_not_full (sweep_frees old.master now) (sweep_edits old.master now) e old.store.refusals new.store.refusals r.why
 
 -- of a sweep that may be refused
 pub swept_tells_so : (old new : CellState) (now : ℕ) (result : Result SweptThrice Fault) → IsKept old.store.cell old.store.rows old.master → IfOk result (λ t. sweep_step old.master now ≡ Ok (new.master, swept_as t.answers t.quiet)) → IfOk result (λ t. Tells old.master.rights t.answers.lines new.master.rights)
 swept_tells_so old new now (Ok t) kept is = sweep_tells old new now (swept_as t.answers t.quiet) kept is
 swept_tells_so old new now (Err e) kept is = tt
 
-pub swept_not_full : (old new : CellState) (now : ℕ) (result : Result SweptThrice Fault) → IfErr result (λ e. (sweep_step old.master now ≡ Err e × new ≡ old) ⊎ IsRefused e (sweep_edits old.master now) old.store new.store) → IfErr result (λ e. e ≢ faults.WatchFull)
+pub swept_not_full : (old new : CellState) (now : ℕ) (result : Result SweptThrice Fault) → IfErr result (λ e. (sweep_step old.master now ≡ Err e × new ≡ old) ⊎ IsHeldUp e (sweep_frees old.master now) (sweep_edits old.master now) old.store new.store) → IfErr result (λ e. e ≢ faults.WatchFull)
 swept_not_full old new now (Ok t) h = tt
 swept_not_full old new now (Err e) h = sweep_not_full old new now e h
 
@@ -102,10 +106,10 @@ take_refused_by old now request e h = inr (inl (take_err old now request e (h (�
 pub take_refused : (old : CellState) (event : Event) (now : ℕ) (request : Request) (e : Fault) → event ≡ Take now request → (e ≢ faults.NoMemory → take_step old.master now request ≡ Err e) → StepRefuses (watched old) event e
 take_refused old event now request e is h = subst (λ (v : Event). StepRefuses (watched old) v e) (sym is) (take_refused_by old now request e h)
 
-sweep_refused : (old new : CellState) (now : ℕ) (e : Fault) → (sweep_step old.master now ≡ Err e × new ≡ old) ⊎ IsRefused e (sweep_edits old.master now) old.store new.store → StepRefuses (watched old) (Sweep now) e
+sweep_refused : (old new : CellState) (now : ℕ) (e : Fault) → (sweep_step old.master now ≡ Err e × new ≡ old) ⊎ IsHeldUp e (sweep_frees old.master now) (sweep_edits old.master now) old.store new.store → StepRefuses (watched old) (Sweep now) e
 sweep_refused old new now e (inl p) = inr (inl (sweep_err old now e p.0))
 sweep_refused old new now e (inr r) = inr (inr (old.store.refusals, new.store.refusals, r.why))
 
-pub swept_refused : (old new : CellState) (event : Event) (now : ℕ) (result : Result SweptThrice Fault) → event ≡ Sweep now → IfErr result (λ e. (sweep_step old.master now ≡ Err e × new ≡ old) ⊎ IsRefused e (sweep_edits old.master now) old.store new.store) → IfErr result (λ e. StepRefuses (watched old) event e)
+pub swept_refused : (old new : CellState) (event : Event) (now : ℕ) (result : Result SweptThrice Fault) → event ≡ Sweep now → IfErr result (λ e. (sweep_step old.master now ≡ Err e × new ≡ old) ⊎ IsHeldUp e (sweep_frees old.master now) (sweep_edits old.master now) old.store new.store) → IfErr result (λ e. StepRefuses (watched old) event e)
 swept_refused old new event now (Ok t) is h = tt
 swept_refused old new event now (Err e) is h = subst (λ (v : Event). StepRefuses (watched old) v e) (sym is) (sweep_refused old new now e h)

@@ -5,13 +5,12 @@ use Rattle.node_core.specs.declared.refusals.Fault.{Fault}
 use Rattle.node_core.specs.declared.refusals.Fault.TheVariants.{NoMemory, WatchFull}
 use Rattle.rows_cell.specs.declared.tables.Edit.{Edit}
 use Rattle.rows_cell.specs.Rows.{changed_rows}
-use Rattle.rows_cell.specs.Stores.{MayRefuse}
 use Rattle.rights_core.specs.Grants.{Told, rights_at, told_of, totals_by, is_granted_line, is_acked_line, is_expired_line}
 use Rattle.master_parts.specs.declared.pending.Taken.{Taken}
 use Rattle.master_state.specs.State.{MasterState}
 use Rattle.cell_core.specs.Step.{take_step}
 use Rattle.over_core.specs.declared.swept.Swept.{Swept}
-use Rattle.over_core.specs.Sweep.{sweep_step, sweep_edits, swept_as}
+use Rattle.over_core.specs.Sweep.{sweep_step, sweep_edits, sweep_frees, MayHoldUp, swept_as}
 use Rattle.watch_cell.specs.declared.events.Event.{Event}
 use Rattle.watch_cell.specs.declared.events.Event.TheVariants.{Take, Sweep}
 use Rattle.watch_cell.specs.declared.events.Entry.{Entry}
@@ -41,13 +40,18 @@ abbrev pub commits : WatchedState → Event → List Edit
 commits s (Take now request) = []
 commits s (Sweep now) = sweep_edits s.master now
 
--- by the store that is asked to commit these edits, whatever it counted before
-abbrev pub IsByStore : List Edit → Fault → Type 0
-IsByStore edits fault = (before : ℕ) × (after : ℕ) × MayRefuse edits fault before after
+-- whether it lets a change leave the gate
+abbrev pub lets_go : WatchedState → Event → Bool
+lets_go s (Take now request) = false
+lets_go s (Sweep now) = sweep_frees s.master now
+
+-- by the store that is asked for this, whatever it counted before
+abbrev pub IsByStore : Bool → List Edit → Fault → Type 0
+IsByStore freed edits fault = (before : ℕ) × (after : ℕ) × MayHoldUp freed edits fault before after
 
 -- why the step of an event is refused: for want of memory, as the master's tables say, or by the store
 abbrev pub StepRefuses : WatchedState → Event → Fault → Type 0
-StepRefuses s event fault = (fault ≡ NoMemory) ⊎ ((step_of s event ≡ Err fault) ⊎ IsByStore (commits s event) fault)
+StepRefuses s event fault = (fault ≡ NoMemory) ⊎ ((step_of s event ≡ Err fault) ⊎ IsByStore (lets_go s event) (commits s event) fault)
 
 -- the last state comes from the first by these entries, each a step with its reply
 abbrev pub Replays : WatchedState → List Entry → WatchedState → Type 0

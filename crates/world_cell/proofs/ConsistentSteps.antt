@@ -67,7 +67,7 @@ use Rattle.world_steps.specs.declared.mail.Message.TheVariants.{ToMaster, ToClie
 use Rattle.world_steps.specs.declared.members.WorldClient.{WorldClient}
 use Rattle.world_steps.specs.Members.{Clients, new_member, stepped, each_member, at_up, clock_then}
 use Rattle.world_steps.specs.Messages.{request_at, out_at, call_of}
-use Rattle.world_steps.specs.World.{WorldState, WorldView, IsUndoubted, member_of, new_world, world_step, world_sweep, without_quiet, step_edits, IsStored, IsLeft, stays_fair, are_fair, moved, ticked, without_master, Agrees}
+use Rattle.world_steps.specs.World.{WorldState, WorldView, IsUndoubted, member_of, new_world, world_step, world_sweep, without_quiet, step_edits, step_frees, IsStored, IsLeft, stays_fair, are_fair, moved, ticked, without_master, Agrees}
 use Rattle.world_cell.specs.Slices.{slice, standing_in}
 use Rattle.world_cell.specs.Contents.{TellsTrue}
 use Rattle.world_cell.specs.Consistent.{IsMember, Holds, HasSent, IsAnswer, FitsMessages, Fits, IsNoted, IsInTurn, IsFairSince, AreFair, IsConsistent}
@@ -815,7 +815,7 @@ step_holds leads old new step (Err fault) fits agrees made refused none =
     let sure : old.doubt ≡ 0 = omega arith in
     subst IsConsistent (sym (refused_sure old step new (lines.Refused fault ∷ []) refused none).left.same) (fits sure)
 
-pub swept_holds : LeadsOn → (old new : WorldView) (r : Result SweepResult Fault) → (IsUndoubted old → IsConsistent old.world) → Agrees new.world new.world.master → IfOk r (λ turn. world_sweep old.world old.world.master ≡ Ok (new.world, turn)) → OnOk r (IsStored (step_edits old.world steps.Sweep) old new) → OnErr r (IsLeft (step_edits old.world steps.Sweep) old new) → IsUndoubted new → IsConsistent new.world
+pub swept_holds : LeadsOn → (old new : WorldView) (r : Result SweepResult Fault) → (IsUndoubted old → IsConsistent old.world) → Agrees new.world new.world.master → IfOk r (λ turn. world_sweep old.world old.world.master ≡ Ok (new.world, turn)) → OnOk r (IsStored (step_frees old.world steps.Sweep) (step_edits old.world steps.Sweep) old new) → OnErr r (IsLeft (step_frees old.world steps.Sweep) (step_edits old.world steps.Sweep) old new) → IsUndoubted new → IsConsistent new.world
 swept_holds leads old new (Ok turn) fits agrees made stored left none =
     let rises = stored.doubted in
     let sure : old.doubt ≡ 0 = omega arith in

@@ -10,7 +10,7 @@ use Rattle.node_core.specs.declared.lines.Line.TheVariants as lines
 use Rattle.rows_cell.specs.declared.tables.Rows.{Rows}
 use Rattle.rows_cell.specs.Rows.{changed_rows}
 use Rattle.rows_cell.specs.Sound.{sound}
-use Rattle.rows_cell.specs.Stores.{Store, left_by}
+use Rattle.rows_cell.specs.Stores.{Store}
 use Rattle.rows_cell.proofs.SoundChanges.{epoch_sound}
 use Rattle.tags_cell.specs.Numbers.{is_client_number}
 use Rattle.tags_cell.specs.declared.messages.requests.Request.{Request}
@@ -21,7 +21,7 @@ use Rattle.cell_core.specs.Step.{take_step}
 use Rattle.cell_core.specs.Effect.{is_last}
 use Rattle.over_core.specs.declared.swept.Swept.{Swept}
 use Rattle.over_core.specs.Kept.{IsKept}
-use Rattle.over_core.specs.Sweep.{sweep_step, sweep_edits, beats_step}
+use Rattle.over_core.specs.Sweep.{sweep_step, sweep_edits, sweep_frees, left_after, beats_step}
 use Rattle.over_core.specs.Up.{up_edits}
 use Rattle.over_core.proofs.KeptByUps.{up_kept}
 use Rattle.over_core.proofs.KeptByTakes.{taken_kept}
@@ -92,7 +92,7 @@ module _ (w new : WorldState) (printed : List Line) where
       let edits = sweep_edits master w.clock in
       let rows : Rows = changed_rows w.rows edits in
       let before : Store = record { cell = w.cell; rows = w.rows; may_leave = []; refusals = 0; doubt = 0 } in
-      let after : Store = record { cell = w.cell; rows = rows; may_leave = left_by edits [] rows; refusals = 0; doubt = 0 } in
+      let after : Store = record { cell = w.cell; rows = rows; may_leave = left_after (sweep_frees master w.clock) edits [] rows; refusals = 0; doubt = 0 } in
       let result : Result Swept Fault = Ok p.1 in
       let q = ok_pair (record w { rows = rows; master = Some p.0; messages = w.messages ++ map ToClient p.1.outs }, p.1.lines) new printed h in
       subst (λ (v : WorldState). Agrees v v.master) q.0

@@ -1,7 +1,7 @@
 //! A world.
 ghost use Rattle.std.specs.Prelude.{◌≡◌, ◌∷◌, [], Ok, IfOk, IfErr, OnOk, OnErr, is_some};
 ghost use Rattle.rows_cell.specs.Rows.{map_of};
-ghost use Rattle.world_steps.specs.World.{opened, store_in, world_sweep, step_edits, IsUndoubted, IsStored, IsLeft, MayRefuseStep};
+ghost use Rattle.world_steps.specs.World.{opened, store_in, world_sweep, step_edits, step_frees, IsUndoubted, IsStored, IsLeft, MayRefuseStep};
 ghost use Rattle.world_steps.specs.Made.{WasMade, WasRefused};
 ghost use Rattle.world_cell.specs.Served.{ServesPresent};
 ghost use Rattle.world_cell.specs.Locks.{HasLegalLocks, CountsHolds};
@@ -67,9 +67,9 @@ impl<R: Records + Drop> World<R> {
     /// The step by which the master sweeps, with word of whether it found nothing to do.
     pub fn sweep(&mut self) -> Result<SweepResult, Fault>
         ensures ok { IfOk result (λ turn. world_sweep self.old.world self.old.world.master ≡ Ok (self.new.world, turn)) }
-        ensures stored { OnOk result (IsStored (step_edits self.old.world Step.Sweep) self.old self.new) }
+        ensures stored { OnOk result (IsStored (step_frees self.old.world Step.Sweep) (step_edits self.old.world Step.Sweep) self.old self.new) }
         ensures fault { IfErr result (λ e. MayRefuseStep (world_sweep self.old.world self.old.world.master) Step.Sweep e self.old self.new) }
-        ensures left { OnErr result (IsLeft (step_edits self.old.world Step.Sweep) self.old self.new) }
+        ensures left { OnErr result (IsLeft (step_frees self.old.world Step.Sweep) (step_edits self.old.world Step.Sweep) self.old self.new) }
     {
         let turn = self.parts.sweep();
         self.parts.kept();

@@ -7,7 +7,7 @@ use Rattle.node_core.specs.declared.lines.Line.TheVariants as lines
 use Rattle.master_state.specs.State.{MasterState}
 use Rattle.world_steps.specs.declared.steps.Step.{Step}
 use Rattle.world_steps.specs.declared.steps.Step.TheVariants as steps
-use Rattle.world_steps.specs.World.{WorldView, IsUndoubted, store_in, as_read, IsAtUp, IsAt, world_step, step_edits, IsStored, IsLeft, MayRefuseStep}
+use Rattle.world_steps.specs.World.{WorldView, IsUndoubted, store_in, as_read, IsAtUp, IsAt, world_step, step_edits, step_frees, IsStored, IsLeft, MayRefuseStep}
 use Rattle.world_steps.specs.Made.{IsTyped, IsMade, IsRefused, Does, WasMade, WasRefused, AnyStep}
 
 -- ---- the world of a step
@@ -78,10 +78,10 @@ module _ (old : WorldView) (step : Step) (new : WorldView) where
   step_sure printed (inr h) none = inr (refused_sure printed h none)
 
   -- a step by the world of before
-  pub made_now : (r : Result (List Line) Fault) → IfOk r (λ printed. world_step old.world step ≡ Ok (new.world, printed)) → OnOk r (IsTyped old.world step) → OnOk r (IsStored (step_edits old.world step) old new) → IfOk r (λ printed. WasMade old step new printed)
+  pub made_now : (r : Result (List Line) Fault) → IfOk r (λ printed. world_step old.world step ≡ Ok (new.world, printed)) → OnOk r (IsTyped old.world step) → OnOk r (IsStored (step_frees old.world step) (step_edits old.world step) old new) → IfOk r (λ printed. WasMade old step new printed)
   made_now (Ok printed) made typed stored = (old, at_now step old, record { is_step = made; typed = typed; stored = stored })
   made_now (Err fault) made typed stored = tt
 
-  pub refused_now : (r : Result (List Line) Fault) → IfErr r (λ e. MayRefuseStep (world_step old.world step) step e old new) → OnErr r (IsLeft (step_edits old.world step) old new) → IfErr r (λ e. WasRefused old step new (lines.Refused e ∷ []))
+  pub refused_now : (r : Result (List Line) Fault) → IfErr r (λ e. MayRefuseStep (world_step old.world step) step e old new) → OnErr r (IsLeft (step_frees old.world step) (step_edits old.world step) old new) → IfErr r (λ e. WasRefused old step new (lines.Refused e ∷ []))
   refused_now (Ok printed) why left = tt
   refused_now (Err fault) why left = (old, at_now step old, record { fault = fault; why = why; left = left; line = refl })

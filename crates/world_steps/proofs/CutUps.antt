@@ -66,7 +66,7 @@ kept_by old now master after none h =
       record {
         is_step = cut_as at.world now Kept (Ok master) none h.came ∙ sym (ap (λ c. made c after.rows) h.committed.cell ∙ ap (λ r. made h.read.cell r) h.committed.rows);
         typed = tt;
-        stored = subst (λ e. IsStored e at (as_read old after)) (sym edits) (record { leave = h.committed.leave; counted = h.committed.counted; doubted = h.committed.doubted });
+        stored = subst (λ e. IsStored false e at (as_read old after)) (sym edits) (record { leave = h.committed.leave; counted = h.committed.counted; doubted = h.committed.doubted });
       },
     )
 

@@ -74,7 +74,7 @@ module _ (old : WorldView) (now : ℕ) (none : old.world.master ≡ None) where
         record {
           is_step = came_as at.world master none h.came ∙ sym (ap (λ c. made c after.rows) h.committed.cell ∙ ap (λ r. made h.read.cell r) h.committed.rows);
           typed = record { names = ordered.names; sessions = ordered.sessions; locks = ordered.locks };
-          stored = subst (λ e. IsStored e at (with_master old now after master)) (sym edits) (record { leave = h.committed.leave; counted = h.committed.counted; doubted = h.committed.doubted });
+          stored = subst (λ e. IsStored false e at (with_master old now after master)) (sym edits) (record { leave = h.committed.leave; counted = h.committed.counted; doubted = h.committed.doubted });
         },
       )
 

@@ -15,7 +15,7 @@ use Rattle.tags_cell.specs.Messages.{request_client}
 use Rattle.world_steps.specs.declared.steps.Step.{Step}
 use Rattle.world_steps.specs.declared.steps.Step.TheVariants as steps
 use Rattle.world_steps.specs.Messages.{request_at}
-use Rattle.world_steps.specs.World.{WorldState, WorldView, world_step, step_edits, IsAt, IsStored, IsLeft, MayRefuseStep}
+use Rattle.world_steps.specs.World.{WorldState, WorldView, world_step, step_edits, step_frees, IsAt, IsStored, IsLeft, MayRefuseStep}
 
 -- each table of the rows is in the order of its keys
 pub record AreInOrder (rows : Rows) : Type 0 where
@@ -35,13 +35,13 @@ IsTyped w _ = Unit {0}
 pub record IsMade (old : WorldView) (step : Step) (new : WorldView) (printed : List Line) : Type 0 where
   pub is_step : world_step old.world step ≡ Ok (new.world, printed)
   pub typed : IsTyped old.world step
-  pub stored : IsStored (step_edits old.world step) old new
+  pub stored : IsStored (step_frees old.world step) (step_edits old.world step) old new
 
 -- the table refuses the step, or want of memory or the store does; nothing changes, and one line says so
 pub record IsRefused (old : WorldView) (step : Step) (new : WorldView) (printed : List Line) : Type 0 where
   pub fault : Fault
   pub why : MayRefuseStep (world_step old.world step) step fault old new
-  pub left : IsLeft (step_edits old.world step) old new
+  pub left : IsLeft (step_frees old.world step) (step_edits old.world step) old new
   pub line : printed ≡ lines.Refused fault ∷ []
 
 abbrev pub Does : WorldView → Step → WorldView → List Line → Type 0

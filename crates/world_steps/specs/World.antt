@@ -13,7 +13,7 @@ use Rattle.node_core.specs.declared.lines.Line.TheVariants as lines
 use Rattle.rows_cell.specs.declared.tables.Rows.{Rows}
 use Rattle.rows_cell.specs.declared.tables.Edit.{Edit}
 use Rattle.rows_cell.specs.Rows.{changed_rows}
-use Rattle.rows_cell.specs.Stores.{Store, left_by, IsWant, MayLeave, MayRefuse, IsRead, IsUnread}
+use Rattle.rows_cell.specs.Stores.{Store, IsWant, MayRefuse, IsRead, IsUnread}
 use Rattle.tags_cell.specs.declared.messages.requests.Request.{Request}
 use Rattle.tags_cell.specs.declared.messages.outs.Out.{Out}
 use Rattle.tags_cell.specs.Messages.{out_client}
@@ -22,7 +22,7 @@ use Rattle.master_state.specs.State.{MasterState}
 use Rattle.cell_core.specs.Step.{take_step, is_past_end}
 use Rattle.over_core.specs.declared.swept.Swept.{Swept}
 use Rattle.over_core.specs.Kept.{IsKept}
-use Rattle.over_core.specs.Sweep.{sweep_step, sweep_edits, beats_step}
+use Rattle.over_core.specs.Sweep.{sweep_step, sweep_edits, sweep_frees, left_after, MayHoldUp, MayLeaveUp, beats_step}
 use Rattle.over_core.specs.Up.{up_step, up_edits, up_commit}
 use Rattle.client_core.specs.declared.parts.asks.Ask.{Ask}
 use Rattle.client_core.specs.declared.parts.asks.Asked.{Asked}
@@ -346,16 +346,22 @@ step_edits w (steps.CutUp now Kept) = came_up_edits w now w.master
 step_edits w (steps.CutSweep Kept) = option_map_or (λ master. sweep_edits master w.clock) w.master []
 step_edits w _ = []
 
+-- whether a step lets a change leave the gate: a crash then leaves the rows that stand, whatever was refused before
+abbrev pub step_frees : WorldState → Step → Bool
+step_frees w steps.Sweep = option_map_or (λ master. sweep_frees master w.clock) w.master false
+step_frees w (steps.CutSweep Kept) = option_map_or (λ master. sweep_frees master w.clock) w.master false
+step_frees w _ = false
+
 -- behind a step that was made: what it commits stands, and the store refused nothing
-pub record IsStored (edits : List Edit) (old new : WorldView) : Type 0 where
-  pub leave : new.may_leave ≡ left_by edits old.may_leave new.world.rows
+pub record IsStored (freed : Bool) (edits : List Edit) (old new : WorldView) : Type 0 where
+  pub leave : new.may_leave ≡ left_after freed edits old.may_leave new.world.rows
   pub counted : new.refusals ≡ old.refusals
   pub doubted : old.doubt ≤ new.doubt
 
 -- behind a refused one: nothing changed, but a crash may perhaps leave the rows of the refused commit too
-pub record IsLeft (edits : List Edit) (old new : WorldView) : Type 0 where
+pub record IsLeft (freed : Bool) (edits : List Edit) (old new : WorldView) : Type 0 where
   pub same : new.world ≡ old.world
-  pub leave : MayLeave edits old.world.rows old.may_leave new.may_leave
+  pub leave : MayLeaveUp freed edits old.world.rows old.may_leave new.may_leave
   pub doubted : old.doubt ≤ new.doubt
 
 -- what the table doesn't decide where a master comes up: the store isn't read, or refuses the commit; it isn't asked while another is up, nor for a moment past the end
@@ -374,10 +380,10 @@ IsOutsideRead (Some master) now fault old new = IsWant fault old.refusals new.re
 -- is refused for want of memory alone
 abbrev pub IsOutside : Step → Fault → WorldView → WorldView → Type 0
 IsOutside (steps.Up now) fault old new = IsOutsideUp old.world.master now fault old new
-IsOutside steps.Sweep fault old new = MayRefuse (step_edits old.world steps.Sweep) fault old.refusals new.refusals
+IsOutside steps.Sweep fault old new = MayHoldUp (step_frees old.world steps.Sweep) (step_edits old.world steps.Sweep) fault old.refusals new.refusals
 IsOutside (steps.CutUp now Kept) fault old new = IsOutsideUp old.world.master now fault old new
 IsOutside (steps.CutUp now Lost) fault old new = IsOutsideRead old.world.master now fault old new
-IsOutside (steps.CutSweep commit) fault old new = MayRefuse (step_edits old.world (steps.CutSweep commit)) fault old.refusals new.refusals
+IsOutside (steps.CutSweep commit) fault old new = MayHoldUp (step_frees old.world (steps.CutSweep commit)) (step_edits old.world (steps.CutSweep commit)) fault old.refusals new.refusals
 IsOutside (steps.Join number principal) fault old new = (member_of old.world number ≡ None) × IsWant fault old.refusals new.refusals
 IsOutside (steps.Tick ticks) fault old new = ⊥
 IsOutside _ fault old new = IsWant fault old.refusals new.refusals

@@ -2,7 +2,7 @@
 ghost use Rattle.lease_core.specs.Lease.{longest_lease};
 ghost use Rattle.std.specs.Prelude.{◌≡◌, ◌≤◌, ◌<◌, ◌+◌, ◌∷◌, ◌++◌, [], length, filter, false, Some, None, Ok, Err, IfOk, IfErr, OnOk, OnErr, is_some};
 ghost use Rattle.std.specs.Vec.{vec_len, vec_capacity};
-ghost use Rattle.world_steps.specs.World.{opened, store_in, with_refusal, world_join, world_ask, world_beat, world_tick, world_take, world_beats, world_give, world_sweep, world_down, without_master, is_of_commit, world_cut_sweep, moves_nobody, are_fair, goes_past_end, ticked, step_edits, IsStored, IsLeft, MayRefuseStep, Agrees};
+ghost use Rattle.world_steps.specs.World.{opened, store_in, with_refusal, world_join, world_ask, world_beat, world_tick, world_take, world_beats, world_give, world_sweep, world_down, without_master, is_of_commit, world_cut_sweep, moves_nobody, are_fair, goes_past_end, ticked, step_edits, step_frees, IsStored, IsLeft, MayRefuseStep, Agrees};
 ghost use Rattle.world_steps.specs.Made.{IsTyped, WasMade, WasRefused};
 
 use crate::mail;
@@ -101,9 +101,9 @@ impl<R: Records + Drop> WorldParts<R> {
     /// The step by which the master sweeps, with word of whether it found nothing to do.
     pub fn sweep(&mut self) -> Result<SweepResult, Fault>
         ensures ok { IfOk result (λ turn. world_sweep self.old.world self.old.world.master ≡ Ok (self.new.world, turn)) }
-        ensures stored { OnOk result (IsStored (step_edits self.old.world Step.Sweep) self.old self.new) }
+        ensures stored { OnOk result (IsStored (step_frees self.old.world Step.Sweep) (step_edits self.old.world Step.Sweep) self.old self.new) }
         ensures fault { IfErr result (λ e. MayRefuseStep (world_sweep self.old.world self.old.world.master) Step.Sweep e self.old self.new) }
-        ensures left { OnErr result (IsLeft (step_edits self.old.world Step.Sweep) self.old self.new) }
+        ensures left { OnErr result (IsLeft (step_frees self.old.world Step.Sweep) (step_edits self.old.world Step.Sweep) self.old self.new) }
     {
         let Some(cell) = &mut self.master else {
             return Err(Fault::MasterDown);
@@ -192,9 +192,9 @@ impl<R: Records + Drop> WorldParts<R> {
     // The master is gone, and the records are by themselves again.
     fn down(&mut self) -> Result<Items<Line>, Fault>
         ensures ok { IfOk result (λ lines. world_down self.old.world self.old.world.master ≡ Ok (self.new.world, lines)) }
-        ensures stored { OnOk result (IsStored [] self.old self.new) }
+        ensures stored { OnOk result (IsStored false [] self.old self.new) }
         ensures fault { IfErr result (λ e. MayRefuseStep (world_down self.old.world self.old.world.master) Step.Down e self.old self.new) }
-        ensures left { OnErr result (IsLeft [] self.old self.new) }
+        ensures left { OnErr result (IsLeft false [] self.old self.new) }
     {
         let mut lines = Items::new(self.alloc);
         lines.push(Line::Down)?;
@@ -222,9 +222,9 @@ impl<R: Records + Drop> WorldParts<R> {
     // Its commit stands. The room for its lines is made before it.
     fn cut_kept_sweep(&mut self) -> Result<Items<Line>, Fault>
         ensures ok { IfOk result (λ lines. world_cut_sweep self.old.world Commit.Kept ≡ Ok (self.new.world, lines)) }
-        ensures stored { OnOk result (IsStored (step_edits self.old.world (Step.CutSweep Commit.Kept)) self.old self.new) }
+        ensures stored { OnOk result (IsStored (step_frees self.old.world (Step.CutSweep Commit.Kept)) (step_edits self.old.world (Step.CutSweep Commit.Kept)) self.old self.new) }
         ensures fault { IfErr result (λ e. MayRefuseStep (world_cut_sweep self.old.world Commit.Kept) (Step.CutSweep Commit.Kept) e self.old self.new) }
-        ensures left { OnErr result (IsLeft (step_edits self.old.world (Step.CutSweep Commit.Kept)) self.old self.new) }
+        ensures left { OnErr result (IsLeft (step_frees self.old.world (Step.CutSweep Commit.Kept)) (step_edits self.old.world (Step.CutSweep Commit.Kept)) self.old self.new) }
     {
         let Some(cell) = &mut self.master else {
             return Err(Fault::MasterDown);
@@ -308,9 +308,9 @@ impl<R: Records + Drop> WorldParts<R> {
 
     fn join(&mut self, number: ClientNumber, principal: &Principal) -> Result<Items<Line>, Fault>
         ensures ok { IfOk result (λ lines. world_join self.old.world number principal.now ≡ Ok (self.new.world, lines)) }
-        ensures stored { OnOk result (IsStored [] self.old self.new) }
+        ensures stored { OnOk result (IsStored false [] self.old self.new) }
         ensures fault { IfErr result (λ e. MayRefuseStep (world_join self.old.world number principal.now) (Step.Join number principal.now) e self.old self.new) }
-        ensures left { OnErr result (IsLeft [] self.old self.new) }
+        ensures left { OnErr result (IsLeft false [] self.old self.new) }
     {
         if self.clients.is_taken(number) {
             return Err(Fault::Exists);
@@ -322,9 +322,9 @@ impl<R: Records + Drop> WorldParts<R> {
     #[tactic(auto, using(crate::proofs::MemberAnswers::ask_few))]
     fn ask(&mut self, number: u64, ask: &Ask) -> Result<Items<Line>, Fault>
         ensures ok { IfOk result (λ lines. world_ask self.old.world number ask.now ≡ Ok (self.new.world, lines)) }
-        ensures stored { OnOk result (IsStored [] self.old self.new) }
+        ensures stored { OnOk result (IsStored false [] self.old self.new) }
         ensures fault { IfErr result (λ e. MayRefuseStep (world_ask self.old.world number ask.now) (Step.Ask number ask.now) e self.old self.new) }
-        ensures left { OnErr result (IsLeft [] self.old self.new) }
+        ensures left { OnErr result (IsLeft false [] self.old self.new) }
     {
         let room = room(self.alloc)?;
         self.messages.reserve(1)?;
@@ -348,9 +348,9 @@ impl<R: Records + Drop> WorldParts<R> {
 
     fn beat(&mut self, number: u64) -> Result<Items<Line>, Fault>
         ensures ok { IfOk result (λ lines. world_beat self.old.world number ≡ Ok (self.new.world, lines)) }
-        ensures stored { OnOk result (IsStored [] self.old self.new) }
+        ensures stored { OnOk result (IsStored false [] self.old self.new) }
         ensures fault { IfErr result (λ e. MayRefuseStep (world_beat self.old.world number) (Step.Beat number) e self.old self.new) }
-        ensures left { OnErr result (IsLeft [] self.old self.new) }
+        ensures left { OnErr result (IsLeft false [] self.old self.new) }
     {
         self.messages.reserve(1)?;
         match self.clients.beat(number) {
@@ -367,9 +367,9 @@ impl<R: Records + Drop> WorldParts<R> {
 
     fn tick(&mut self, ticks: &Ticks) -> Result<Items<Line>, Fault>
         ensures ok { IfOk result (λ lines. world_tick self.old.world ticks.now ≡ Ok (self.new.world, lines)) }
-        ensures stored { OnOk result (IsStored [] self.old self.new) }
+        ensures stored { OnOk result (IsStored false [] self.old self.new) }
         ensures fault { IfErr result (λ e. MayRefuseStep (world_tick self.old.world ticks.now) (Step.Tick ticks.now) e self.old self.new) }
-        ensures left { OnErr result (IsLeft [] self.old self.new) }
+        ensures left { OnErr result (IsLeft false [] self.old self.new) }
     {
         if self.moves_nobody(ticks) {
             return Err(Fault::MasterDown);
@@ -431,9 +431,9 @@ impl<R: Records + Drop> WorldParts<R> {
     // The master answers a Beat, and commits nothing.
     fn beats(&mut self) -> Result<Items<Line>, Fault>
         ensures ok { IfOk result (λ lines. world_beats self.old.world self.old.world.master ≡ Ok (self.new.world, lines)) }
-        ensures stored { OnOk result (IsStored [] self.old self.new) }
+        ensures stored { OnOk result (IsStored false [] self.old self.new) }
         ensures fault { IfErr result (λ e. MayRefuseStep (world_beats self.old.world self.old.world.master) Step.Beats e self.old self.new) }
-        ensures left { OnErr result (IsLeft [] self.old self.new) }
+        ensures left { OnErr result (IsLeft false [] self.old self.new) }
     {
         match &mut self.master {
             None => Err(Fault::MasterDown),
@@ -449,9 +449,9 @@ impl<R: Records + Drop> WorldParts<R> {
     fn take(&mut self, number: u64) -> Result<Items<Line>, Fault>
         ensures ok { IfOk result (λ lines. world_take self.old.world number self.old.world.master ≡ Ok (self.new.world, lines)) }
         ensures typed { OnOk result (IsTyped self.old.world (Step.Take number)) }
-        ensures stored { OnOk result (IsStored [] self.old self.new) }
+        ensures stored { OnOk result (IsStored false [] self.old self.new) }
         ensures fault { IfErr result (λ e. MayRefuseStep (world_take self.old.world number self.old.world.master) (Step.Take number) e self.old self.new) }
-        ensures left { OnErr result (IsLeft [] self.old self.new) }
+        ensures left { OnErr result (IsLeft false [] self.old self.new) }
     {
         match &mut self.master {
             None => Err(Fault::MasterDown),
@@ -471,9 +471,9 @@ impl<R: Records + Drop> WorldParts<R> {
     #[tactic(auto, using(crate::proofs::MemberAnswers::give_few))]
     fn give(&mut self, number: u64) -> Result<Items<Line>, Fault>
         ensures ok { IfOk result (λ lines. world_give self.old.world number ≡ Ok (self.new.world, lines)) }
-        ensures stored { OnOk result (IsStored [] self.old self.new) }
+        ensures stored { OnOk result (IsStored false [] self.old self.new) }
         ensures fault { IfErr result (λ e. MayRefuseStep (world_give self.old.world number) (Step.Give number) e self.old self.new) }
-        ensures left { OnErr result (IsLeft [] self.old self.new) }
+        ensures left { OnErr result (IsLeft false [] self.old self.new) }
     {
         let room = room(self.alloc)?;
         let Some(out) = mail::out_at(self.messages.as_slice(), number) else {

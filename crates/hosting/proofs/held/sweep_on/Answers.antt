@@ -17,7 +17,7 @@ loop-done-init g c = record {
 pub loop-done-preserved : goal.loop-done-preserved
 loop-done-preserved g c = record {
   going =
-      goes_on _ _ (seen c.loop-done.group) (seen c.sweep_with_room.new.self) _ _ _ _ c.loop-done.invariant.going (held_once _ c.loop-done.group c.sweep_with_room.new.self _ c.in-Ok.ensures.ok c.in-Ok.ensures.held) c.if-quiet.false c.in-Ok.ensures.items
+      goes_on _ _ (seen c.loop-done.group) (seen c.sweep_with_room.new.self) _ _ _ _ c.loop-done.invariant.going (held_once _ c.loop-done.group c.sweep_with_room.new.self _ c.in-Ok.ensures.ok c.in-Ok.ensures.swept) c.if-quiet.false c.in-Ok.ensures.items
       c.push_reserved.ensures.items;
   counted = counts_more _ _ _ _ _ c.loop-done.invariant.counted c.in-Ok.ensures.items c.push_reserved.ensures.items;
   store = store_kept c.loop-done.group c.sweep_with_room.new.self (sweep_edits c.loop-done.group.master c.args.now) c.in-Ok.ensures.held ∙ c.loop-done.invariant.store;
@@ -25,7 +25,7 @@ loop-done-preserved g c = record {
 
 pub returns-then-quiet-clause-ends : goal.returns-then-quiet-clause-ends
 returns-then-quiet-clause-ends g c =
-    ends_quiet _ _ _ (seen c.loop-done.group) (seen c.sweep_with_room.new.self) _ _ _ _ _ c.loop-done.invariant.going (held_once _ c.loop-done.group c.sweep_with_room.new.self _ c.in-Ok.ensures.ok c.in-Ok.ensures.held) c.if-quiet.true c.in-Ok.ensures.items
+    ends_quiet _ _ _ (seen c.loop-done.group) (seen c.sweep_with_room.new.self) _ _ _ _ _ c.loop-done.invariant.going (held_once _ c.loop-done.group c.sweep_with_room.new.self _ c.in-Ok.ensures.ok c.in-Ok.ensures.swept) c.if-quiet.true c.in-Ok.ensures.items
     c.push_reserved.ensures.items c.ended_in.ensures
 
 pub returns-then-quiet-clause-open : goal.returns-then-quiet-clause-open

@@ -1,30 +1,32 @@
-use Rattle.std.proofs.Common.{◌≡◌, subst, rules}
+use Rattle.std.proofs.Common.{◌≡◌, subst, sym, rules}
 use Rattle.std.specs.Prelude.{◌⊎◌, Err, IfErr, OnOk}
-use Rattle.rows_cell.specs.Stores.{IsCommitted, IsRefused}
 use Rattle.over_core.specs.Kept.{CellState}
-use Rattle.over_core.specs.Sweep.{sweep_edits, sweep_step}
+use Rattle.over_core.specs.Sweep.{sweep_edits, sweep_step, IsSwept, IsHeldUp, sweep_frees}
 use Rattle.over_core.proofs.SweepRefused.{refused_so}
 use Rattle.over_core.proofs.KeptBySweeps.{sweep_sound, swept_kept}
 use Rattle.over_core.proofs.cells.Cell.sweep_with_room.Goals as goal
 
-pub sweep_by-requires : goal.sweep_by-requires
-sweep_by-requires g c = sweep_sound _ _ c.self.inside.master _ c.self.invariant
+pub sweep_by-requires-clause-sound : goal.sweep_by-requires-clause-sound
+sweep_by-requires-clause-sound g c = sweep_sound _ _ c.self.inside.master _ c.self.invariant
+
+pub sweep_by-requires-clause-same : goal.sweep_by-requires-clause-same
+sweep_by-requires-clause-same g c = sym c.self.invariant.next_instance
 
 pub invariant_of-self : goal.invariant_of-self
 invariant_of-self g c =
-    swept_kept (g.R.Records.store c.self.inside.records) (g.R.Records.store c.sweep_by.new.records) c.self.inside.master c.sweep_by.new.cell _ c.sweep_by.result c.self.invariant c.sweep_by.ensures.ok c.sweep_by.ensures.committed c.sweep_by.ensures.err c.sweep_by.ensures.fault
+    swept_kept c.self.inside.records c.sweep_by.new.records c.self.inside.master c.sweep_by.new.cell _ c.sweep_by.result c.self.invariant c.sweep_by.ensures.ok c.sweep_by.ensures.committed c.sweep_by.ensures.err c.sweep_by.ensures.fault
 
 pub returns-clause-ok : goal.returns-clause-ok
 returns-clause-ok g c = search rules
 
 pub returns-clause-committed : goal.returns-clause-committed
 returns-clause-committed g c =
-    let P : CellState → Type 0 = λ s. OnOk c.sweep_by.result (IsCommitted (sweep_edits s.master c.args.now) s.store (g.R.Records.store c.sweep_by.new.records)) in
+    let P : CellState → Type 0 = λ s. OnOk c.sweep_by.result (IsSwept (sweep_frees s.master c.args.now) (sweep_edits s.master c.args.now) s.store c.sweep_by.new.records) in
     subst P c.self.view_is c.sweep_by.ensures.committed
 
 pub returns-clause-fault : goal.returns-clause-fault
 returns-clause-fault g c =
-    let new : CellState = record { master = c.sweep_by.new.cell; store = g.R.Records.store c.sweep_by.new.records } in
-    let old : CellState = record { master = c.self.inside.master; store = g.R.Records.store c.self.inside.records } in
-    let P : CellState → Type 0 = λ s. IfErr c.sweep_by.result (λ e. (sweep_step s.master c.args.now ≡ Err e × new ≡ s) ⊎ IsRefused e (sweep_edits s.master c.args.now) s.store new.store) in
+    let new : CellState = record { master = c.sweep_by.new.cell; store = c.sweep_by.new.records } in
+    let old : CellState = record { master = c.self.inside.master; store = c.self.inside.records } in
+    let P : CellState → Type 0 = λ s. IfErr c.sweep_by.result (λ e. (sweep_step s.master c.args.now ≡ Err e × new ≡ s) ⊎ IsHeldUp e (sweep_frees s.master c.args.now) (sweep_edits s.master c.args.now) s.store new.store) in
     subst P c.self.view_is (refused_so old new c.args.now c.sweep_by.result c.sweep_by.ensures.err c.sweep_by.ensures.fault)
