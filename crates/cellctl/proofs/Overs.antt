@@ -19,6 +19,7 @@ use Rattle.hosting.specs.declared.stops.Stop.TheVariants.{NoMemory}
 use Rattle.hosting.specs.declared.stops.GroupStop.{GroupStop}
 use Rattle.hosting.specs.declared.stops.GroupStop.TheVariants.{Stopped}
 use Rattle.hosting.specs.Groups.{EndsGroups}
+use Rattle.hosting.specs.declared.pieces.GroupTerms.{GroupTerms}
 use Rattle.hosting.proofs.Doubts.{ends_groups_grow}
 use Rattle.hosting.proofs.Grouped.{ends_roomless as roomless}
 use Rattle.rows_sql.specs.Adopting.{Adopts}
@@ -96,34 +97,34 @@ module _ (lease : ℕ) (text before after : Known) (status : ℕ) (first last : 
 
 -- ---- frames
 
-pub ends_serving : (lease given : ℕ) (text there before after : Known) (status : ℕ) (ended : Result (Unit {0}) GroupStop) (old new : Hosted) → given ≡ lease → there ≡ text → status ≡ served_status ended
-    → EndsGroups given there old ended new before after → EndsServing lease text before after status old new
-ends_serving lease given text there before after status ended old new moment same is e =
+pub ends_serving : (terms given : GroupTerms) (text there before after : Known) (status : ℕ) (ended : Result (Unit {0}) GroupStop) (old new : Hosted) → given ≡ terms → there ≡ text → status ≡ served_status ended
+    → EndsGroups given there old ended new before after → EndsServing terms text before after status old new
+ends_serving terms given text there before after status ended old new moment same is e =
     (ended, is, subst (λ l. EndsGroups l text old ended new before after) moment (subst (λ u. EndsGroups given u old ended new before after) same e))
 
 -- before the first, for want of memory
-pub ends_roomless : (lease : ℕ) (text before : Known) (old : Hosted) → EndsServing lease text before before 4 old old
-ends_roomless lease text before old = (Err (Stopped NoMemory), refl, roomless lease text old before)
+pub ends_roomless : (terms : GroupTerms) (text before : Known) (old : Hosted) → EndsServing terms text before before 4 old old
+ends_roomless terms text before old = (Err (Stopped NoMemory), refl, roomless terms text old before)
 
-module _ (lease : ℕ) (text before after : Known) (status : ℕ) (first last : Store) (old new : Hosted) (opens : old ≡ without_master first) (closes : last ≡ new.store)
-    (served : EndsServing lease text before after status old new) where
-  pub frames_led : FramesLead lease text before after status first last
-  frames_led = (new, subst (λ h. EndsServing lease text before after status h new) opens served, closes)
+module _ (terms : GroupTerms) (text before after : Known) (status : ℕ) (first last : Store) (old new : Hosted) (opens : old ≡ without_master first) (closes : last ≡ new.store)
+    (served : EndsServing terms text before after status old new) where
+  pub frames_led : FramesLead terms text before after status first last
+  frames_led = (new, subst (λ h. EndsServing terms text before after status h new) opens served, closes)
 
-  pub frames_led_surely : last.doubt ≡ 0 → (first.doubt ≡ 0) × FramesLead lease text before after status first last
+  pub frames_led_surely : last.doubt ≡ 0 → (first.doubt ≡ 0) × FramesLead terms text before after status first last
   frames_led_surely sure =
-      let grown = ends_groups_grow lease text old served.0 new before after served.2 in
+      let grown = ends_groups_grow terms text old served.0 new before after served.2 in
       let from : old.store.doubt ≡ first.doubt = ap (λ (h : Hosted). h.store.doubt) opens in
       let to : last.doubt ≡ new.store.doubt = ap (λ (s : Store). s.doubt) closes in
       (omega (arith, grown, from, to, sure), frames_led)
 
 -- over rows that nobody closes
-pub frames_ended : {R : Type 0} (store : R → Store) (lease : ℕ) (text before after : Known) (status : ℕ) (records : R) (seat : Seat R) → EndsServing lease text before after status (hosted store (Down records)) (hosted store seat)
-    → EndsFrames lease text status before after
-frames_ended store lease text before after status records seat served =
+pub frames_ended : {R : Type 0} (store : R → Store) (terms : GroupTerms) (text before after : Known) (status : ℕ) (records : R) (seat : Seat R) → EndsServing terms text before after status (hosted store (Down records)) (hosted store seat)
+    → EndsFrames terms text status before after
+frames_ended store terms text before after status records seat served =
     let new = hosted store seat in
-    inl (store records, new.store, frames_led lease text before after status (store records) new.store (hosted store (Down records)) new refl refl served)
+    inl (store records, new.store, frames_led terms text before after status (store records) new.store (hosted store (Down records)) new refl refl served)
 
-pub any_frames : {E : Type 0} (lease : ℕ) (text before after : Known) (r : Result ℕ E) → IfOk r (λ status. EndsFrames lease text status before after) → IfOk r (λ status. EndsAnyFrames text status before after)
-any_frames lease text before after (Ok status) p = inl (lease, p)
-any_frames lease text before after (Err e) p = tt
+pub any_frames : {E : Type 0} (terms : GroupTerms) (text before after : Known) (r : Result ℕ E) → IfOk r (λ status. EndsFrames terms text status before after) → IfOk r (λ status. EndsAnyFrames text status before after)
+any_frames terms text before after (Ok status) p = inl (terms, p)
+any_frames terms text before after (Err e) p = tt

@@ -12,6 +12,7 @@ use Rattle.rows_cell.specs.declared.tables.Rows.{Rows}
 use Rattle.rows_cell.specs.Stores.{Store}
 use Rattle.rows_sql.specs.Adopting.{Adopts, Takes}
 use Rattle.rows_sql.specs.Closed.{StandsAlone}
+use Rattle.hosting.specs.declared.pieces.GroupLimits.{GroupLimits}
 use Rattle.cellctl.specs.Led.{Known, ScriptLeadsSurely, FramesLead}
 
 -- a store of these rows that was just taken over: a crash leaves them, nothing was refused, nothing is in doubt
@@ -48,8 +49,8 @@ abbrev pub RanAt : {D : Type 0} → Ghosts D → Settled → Image → Known →
 RanAt g settings held text status files before after = DoneAt g settings held (ScriptLeadsSurely settings.lease text before after status) files
 
 -- frames were served so over it
-abbrev pub ServedOver : {D : Type 0} → Ghosts D → Settled → State → Known → ℕ → Files D → Known → Known → Type 0
-ServedOver g settings had text status files before after = DoneOver g settings had (FramesLead settings.lease text before after status) files
+abbrev pub ServedOver : {D : Type 0} → Ghosts D → Settled → GroupLimits → State → Known → ℕ → Files D → Known → Known → Type 0
+ServedOver g settings limits had text status files before after = DoneOver g settings had (FramesLead (record { lease = settings.lease; limits = limits }) text before after status) files
 
-abbrev pub ServedAt : {D : Type 0} → Ghosts D → Settled → Image → Known → ℕ → Files D → Known → Known → Type 0
-ServedAt g settings held text status files before after = DoneAt g settings held (FramesLead settings.lease text before after status) files
+abbrev pub ServedAt : {D : Type 0} → Ghosts D → Settled → GroupLimits → Image → Known → ℕ → Files D → Known → Known → Type 0
+ServedAt g settings limits held text status files before after = DoneAt g settings held (FramesLead (record { lease = settings.lease; limits = limits }) text before after status) files

@@ -8,6 +8,7 @@ use Rattle.hosting.specs.declared.stops.GroupStop.{GroupStop}
 use Rattle.hosting.specs.declared.stops.GroupStop.TheVariants.{Stopped, Refused}
 use Rattle.hosting.specs.Seats.{Hosted, without_master}
 use Rattle.hosting.specs.Groups.{EndsGroups}
+use Rattle.hosting.specs.declared.pieces.GroupTerms.{GroupTerms}
 use Rattle.cellctl.specs.Exits.{IsUnset, IsShut}
 
 -- bytes that are left in a stream, or that one holds, where they are known
@@ -39,13 +40,13 @@ served_status (Err (Stopped stops.NoMemory)) = 4
 served_status (Err (Refused fault)) = 3
 
 -- with this status the frames of a text were served over what was hosted
-abbrev pub EndsServing : ℕ → Known → Known → Known → ℕ → Hosted → Hosted → Type 0
-EndsServing lease text before after status old new =
-    (ended : Result (Unit {0}) GroupStop) × (status ≡ served_status ended) × EndsGroups lease text old ended new before after
+abbrev pub EndsServing : GroupTerms → Known → Known → Known → ℕ → Hosted → Hosted → Type 0
+EndsServing terms text before after status old new =
+    (ended : Result (Unit {0}) GroupStop) × (status ≡ served_status ended) × EndsGroups terms text old ended new before after
 
 -- the same over a store with no master, and what they left of it
-abbrev pub FramesLead : ℕ → Known → Known → Known → ℕ → Store → Store → Type 0
-FramesLead lease text before after status first last = (new : Hosted) × EndsServing lease text before after status (without_master first) new × (last ≡ new.store)
+abbrev pub FramesLead : GroupTerms → Known → Known → Known → ℕ → Store → Store → Type 0
+FramesLead terms text before after status first last = (new : Hosted) × EndsServing terms text before after status (without_master first) new × (last ≡ new.store)
 
 -- ---- what a command comes to that is given all of an input, and an output
 
@@ -62,9 +63,9 @@ EndsLed Leads status before after = LedOn (Leads status) ⊎ (IsShut status × (
 abbrev pub EndsScript : ℕ → Known → ℕ → Known → Known → Type 0
 EndsScript lease text status before after = EndsLed (ScriptLeads lease text before after) status before after
 
-abbrev pub EndsFrames : ℕ → Known → ℕ → Known → Known → Type 0
-EndsFrames lease text status before after = EndsLed (FramesLead lease text before after) status before after
+abbrev pub EndsFrames : GroupTerms → Known → ℕ → Known → Known → Type 0
+EndsFrames terms text status before after = EndsLed (FramesLead terms text before after) status before after
 
 -- with the settings of a file they were; or these are none, and nothing was written
 abbrev pub EndsAnyFrames : Known → ℕ → Known → Known → Type 0
-EndsAnyFrames text status before after = ((lease : ℕ) × EndsFrames lease text status before after) ⊎ (IsUnset status × (after ≡ before))
+EndsAnyFrames text status before after = ((terms : GroupTerms) × EndsFrames terms text status before after) ⊎ (IsUnset status × (after ≡ before))

@@ -18,6 +18,7 @@ use crate::words::program;
 use anyhow::{Context, Result, bail};
 use clap::ArgMatches;
 use clap::error::{Error, ErrorKind};
+use hosting::GroupLimits;
 use std::env::{self, Args};
 use std::fs::{self, File};
 use std::io::{Read, Write};
@@ -101,12 +102,21 @@ fn serve<I: Read + Drop, W: Write>(
     ensures none { OnErr result (W.contents writer.new ≡ W.contents writer.old) }
 {
     let named = found.get_str("settings");
+    let limits = limits_of(found);
     match found.get_str("rows") {
-        Some(folder) => serve_rows(rt, named, folder, reader, writer),
+        Some(folder) => serve_rows(rt, named, folder, limits, reader, writer),
         None => {
             let path = found.get_str("store").unwrap_or_default();
-            serve_path(rt, named, path, reader, writer)
+            serve_path(rt, named, path, limits, reader, writer)
         }
+    }
+}
+
+// What is committed as one change.
+fn limits_of(found: &ArgMatches<'_>) -> GroupLimits {
+    GroupLimits {
+        edits: found.get_one("group-edits").unwrap_or(u64::MAX),
+        bytes: found.get_one("group-bytes").unwrap_or(u64::MAX),
     }
 }
 

@@ -8,7 +8,7 @@ use crate::settings::settings;
 use crate::texts::Trouble;
 use crate::troubles::{Subject, tell, trouble_of};
 use anyhow::{Context, Result};
-use hosting::Seat;
+use hosting::{GroupLimits, Seat};
 use rows_cell::{Settings, StoreFault};
 use rows_remote::FrameRecords;
 use std::fs::File;
@@ -21,6 +21,7 @@ pub(crate) fn serve_rows<I: Read + Drop, W: Write>(
     rt: &HostRuntime,
     named: Option<&str>,
     folder: &str,
+    limits: GroupLimits,
     reader: I,
     writer: &mut W,
 ) -> Result<u8>
@@ -29,7 +30,7 @@ pub(crate) fn serve_rows<I: Read + Drop, W: Write>(
     ensures none { OnErr result (W.contents writer.new ≡ W.contents writer.old) }
 {
     match settings(rt, named) {
-        Ok(chosen) => serve_folder(rt, &chosen.settings, folder, reader, writer),
+        Ok(chosen) => serve_folder(rt, &chosen.settings, folder, limits, reader, writer),
         Err(status) => Ok(status),
     }
 }
@@ -39,16 +40,17 @@ fn serve_folder<I: Read + Drop, W: Write>(
     rt: &HostRuntime,
     settings: &Settings,
     folder: &str,
+    limits: GroupLimits,
     reader: I,
     writer: &mut W,
 ) -> Result<u8>
     ensures exit { IfOk result IsExit }
-    ensures served { IfOk result (λ status. EndsFrames settings.now.lease (I.remaining reader) status (W.contents writer.old) (W.contents writer.new)) }
+    ensures served { IfOk result (λ status. EndsFrames (record { lease = settings.now.lease; limits = limits }) (I.remaining reader) status (W.contents writer.old) (W.contents writer.new)) }
     ensures none { OnErr result (W.contents writer.new ≡ W.contents writer.old) }
 {
     let path = format!(in rt.alloc(); "{folder}/asked").context("naming the pipe")?;
     match File::create(rt, path.as_str()) {
-        Ok(asked) => serve_asked(rt, settings, folder, asked, reader, writer),
+        Ok(asked) => serve_asked(rt, settings, folder, limits, asked, reader, writer),
         Err(error) => Ok(tell(rt, Subject::Pipe, path.as_str(), trouble_of(error.kind()))),
     }
 }
@@ -57,17 +59,18 @@ fn serve_asked<I: Read + Drop, W: Write>(
     rt: &HostRuntime,
     settings: &Settings,
     folder: &str,
+    limits: GroupLimits,
     asked: File,
     reader: I,
     writer: &mut W,
 ) -> Result<u8>
     ensures exit { IfOk result IsExit }
-    ensures served { IfOk result (λ status. EndsFrames settings.now.lease (I.remaining reader) status (W.contents writer.old) (W.contents writer.new)) }
+    ensures served { IfOk result (λ status. EndsFrames (record { lease = settings.now.lease; limits = limits }) (I.remaining reader) status (W.contents writer.old) (W.contents writer.new)) }
     ensures none { OnErr result (W.contents writer.new ≡ W.contents writer.old) }
 {
     let path = format!(in rt.alloc(); "{folder}/answered").context("naming the pipe")?;
     match File::open(rt, path.as_str()) {
-        Ok(answered) => serve_pipes(rt, settings, folder, (asked, answered), reader, writer),
+        Ok(answered) => serve_pipes(rt, settings, folder, limits, (asked, answered), reader, writer),
         Err(error) => Ok(tell(rt, Subject::Pipe, path.as_str(), trouble_of(error.kind()))),
     }
 }
@@ -76,12 +79,13 @@ fn serve_pipes<I: Read + Drop, W: Write>(
     rt: &HostRuntime,
     settings: &Settings,
     folder: &str,
+    limits: GroupLimits,
     pipes: (File, File),
     reader: I,
     writer: &mut W,
 ) -> Result<u8>
     ensures exit { IfOk result IsExit }
-    ensures served { IfOk result (λ status. EndsFrames settings.now.lease (I.remaining reader) status (W.contents writer.old) (W.contents writer.new)) }
+    ensures served { IfOk result (λ status. EndsFrames (record { lease = settings.now.lease; limits = limits }) (I.remaining reader) status (W.contents writer.old) (W.contents writer.new)) }
     ensures none { OnErr result (W.contents writer.new ≡ W.contents writer.old) }
 {
     let (asked, answered) = pipes;
@@ -91,6 +95,7 @@ fn serve_pipes<I: Read + Drop, W: Write>(
             let frames = Frames {
                 reader,
                 errors: rt.stderr(),
+                limits,
             };
             let seat = Seat::Down(records);
             let (seat, status) = serve_seat(rt.alloc(), settings, seat, frames, writer);

@@ -14,7 +14,7 @@ use crate::runs::Unclosed;
 use crate::settings::{Chosen, settings};
 use crate::stores::{left_open, tell_unfound};
 use anyhow::{Context, Result};
-use hosting::{GroupStop, Seat, Stop, serve_groups};
+use hosting::{GroupLimits, GroupStop, GroupTerms, Seat, Stop, serve_groups};
 use rows_cell::{Records, Settings};
 use rows_sql::SqlRecords;
 use sqlite::{Connection, FileStore, Files};
@@ -32,6 +32,8 @@ const READ_SIZE: usize = 0x1_0000;
 pub(crate) struct Frames<I, E> {
     pub(crate) reader: I,
     pub(crate) errors: E,
+    /// What is committed as one change.
+    pub(crate) limits: GroupLimits,
 }
 
 /// Answers the frames of an input over the store in the file at a path, which is made where there is none, with the settings
@@ -41,6 +43,7 @@ pub(crate) fn serve_path<I: Read + Drop, W: Write>(
     rt: &HostRuntime,
     named: Option<&str>,
     path: &str,
+    limits: GroupLimits,
     reader: I,
     writer: &mut W,
 ) -> Result<u8>
@@ -50,7 +53,7 @@ pub(crate) fn serve_path<I: Read + Drop, W: Write>(
     ensures none { OnErr result (W.contents writer.new ≡ W.contents writer.old) }
 {
     match settings(rt, named) {
-        Ok(chosen) => serve_at(rt, &chosen, path, reader, writer),
+        Ok(chosen) => serve_at(rt, &chosen, path, limits, reader, writer),
         Err(status) => Ok(status),
     }
 }
@@ -60,19 +63,20 @@ fn serve_at<I: Read + Drop, W: Write>(
     rt: &HostRuntime,
     chosen: &Chosen,
     path: &str,
+    limits: GroupLimits,
     reader: I,
     writer: &mut W,
 ) -> Result<u8>
     ensures exit { IfOk result IsExit }
-    ensures served { IfOk result (λ status. EndsFrames chosen.now.settings.lease (I.remaining reader) status (W.contents writer.old) (W.contents writer.new)) }
+    ensures served { IfOk result (λ status. EndsFrames (record { lease = chosen.now.settings.lease; limits = limits }) (I.remaining reader) status (W.contents writer.old) (W.contents writer.new)) }
     ensures none { OnErr result (W.contents writer.new ≡ W.contents writer.old) }
 {
     match fs::canonicalize(rt, path) {
-        Ok(real) => serve_there(rt, chosen, real.as_str(), reader, writer),
+        Ok(real) => serve_there(rt, chosen, real.as_str(), limits, reader, writer),
         Err(error) => match error.kind() {
             io::ErrorKind::NotFound => {
                 let _ = make_file(rt, path);
-                serve_real(rt, chosen, path, reader, writer)
+                serve_real(rt, chosen, path, limits, reader, writer)
             }
             kind => Ok(tell_unfound(rt, path, kind)),
         },
@@ -84,16 +88,17 @@ fn serve_there<I: Read + Drop, W: Write>(
     rt: &HostRuntime,
     chosen: &Chosen,
     path: &str,
+    limits: GroupLimits,
     reader: I,
     writer: &mut W,
 ) -> Result<u8>
     ensures exit { IfOk result IsExit }
-    ensures served { IfOk result (λ status. EndsFrames chosen.now.settings.lease (I.remaining reader) status (W.contents writer.old) (W.contents writer.new)) }
+    ensures served { IfOk result (λ status. EndsFrames (record { lease = chosen.now.settings.lease; limits = limits }) (I.remaining reader) status (W.contents writer.old) (W.contents writer.new)) }
     ensures none { OnErr result (W.contents writer.new ≡ W.contents writer.old) }
 {
     let log = format!(in rt.alloc(); "{path}-wal").context("naming the log")?;
     match admit_served(rt, chosen, path, log.as_str()) {
-        Ok(()) => serve_real(rt, chosen, path, reader, writer),
+        Ok(()) => serve_real(rt, chosen, path, limits, reader, writer),
         Err(status) => Ok(status),
     }
 }
@@ -103,17 +108,19 @@ fn serve_real<I: Read + Drop, W: Write>(
     rt: &HostRuntime,
     chosen: &Chosen,
     path: &str,
+    limits: GroupLimits,
     reader: I,
     writer: &mut W,
 ) -> Result<u8>
     ensures exit { IfOk result IsExit }
-    ensures served { IfOk result (λ status. EndsFrames chosen.now.settings.lease (I.remaining reader) status (W.contents writer.old) (W.contents writer.new)) }
+    ensures served { IfOk result (λ status. EndsFrames (record { lease = chosen.now.settings.lease; limits = limits }) (I.remaining reader) status (W.contents writer.old) (W.contents writer.new)) }
     ensures none { OnErr result (W.contents writer.new ≡ W.contents writer.old) }
 {
     let log = format!(in rt.alloc(); "{path}-wal").context("naming the log")?;
     let frames = Frames {
         reader,
         errors: rt.stderr(),
+        limits,
     };
     match serve_file(rt, &chosen.settings, path, Unknown, frames, writer) {
         Ok((status, files)) => {
@@ -135,10 +142,10 @@ fn serve_file<S: Start, I: Read + Drop, W: Write, E: Write + Drop>(
     frames: Frames<I, E>,
     writer: &mut W,
 ) -> Result<(u8, Files<FileFrom<S>>), Unclosed<FileFrom<S>>>
-    ensures closed { IfOk result (λ r. AreClean ⟦<FileFrom<S> as Disk>⟧ r.1.log r.1.db → ServedAt ⟦<FileFrom<S> as Disk>⟧ settings.now (image_at S.Start) (I.remaining frames.reader) r.0 r.1 (W.contents writer.old) (W.contents writer.new)) }
+    ensures closed { IfOk result (λ r. AreClean ⟦<FileFrom<S> as Disk>⟧ r.1.log r.1.db → ServedAt ⟦<FileFrom<S> as Disk>⟧ settings.now frames.limits (image_at S.Start) (I.remaining frames.reader) r.0 r.1 (W.contents writer.old) (W.contents writer.new)) }
     // And whatever the disk did: they were served.
-    ensures served { IfOk result (λ r. LedOn (FramesLead settings.now.lease (I.remaining frames.reader) (W.contents writer.old) (W.contents writer.new) r.0)) }
-    ensures left { IfErr result (LeavesAt settings.now (image_at S.Start) (FramesLead settings.now.lease (I.remaining frames.reader) (W.contents writer.old) (W.contents writer.new)) (W.contents writer.old) (W.contents writer.new)) }
+    ensures served { IfOk result (λ r. LedOn (FramesLead (record { lease = settings.now.lease; limits = frames.limits }) (I.remaining frames.reader) (W.contents writer.old) (W.contents writer.new) r.0)) }
+    ensures left { IfErr result (LeavesAt settings.now (image_at S.Start) (FramesLead (record { lease = settings.now.lease; limits = frames.limits }) (I.remaining frames.reader) (W.contents writer.old) (W.contents writer.new)) (W.contents writer.old) (W.contents writer.new)) }
     ensures status { IfOk result (λ r. IsExit r.0) }
 {
     match Connection::open_from(rt, path, false, start) {
@@ -158,11 +165,11 @@ fn serve_store<D: Disk + Drop, I: Read + Drop, W: Write, E: Write + Drop>(
 ) -> Result<(u8, Files<D>), Unclosed<D>>
     // Where nobody else wrote the files, and the disk gave back what was written: the frames led from the rows that they had
     // to those that they have.
-    ensures closed { IfOk result (λ r. AreClean D.Disk r.1.log r.1.db → ServedOver D.Disk settings.now (file_state conn) (I.remaining frames.reader) r.0 r.1 (W.contents writer.old) (W.contents writer.new)) }
+    ensures closed { IfOk result (λ r. AreClean D.Disk r.1.log r.1.db → ServedOver D.Disk settings.now frames.limits (file_state conn) (I.remaining frames.reader) r.0 r.1 (W.contents writer.old) (W.contents writer.new)) }
     // And whatever the disk did: they were served.
-    ensures served { IfOk result (λ r. LedOn (FramesLead settings.now.lease (I.remaining frames.reader) (W.contents writer.old) (W.contents writer.new) r.0)) }
+    ensures served { IfOk result (λ r. LedOn (FramesLead (record { lease = settings.now.lease; limits = frames.limits }) (I.remaining frames.reader) (W.contents writer.old) (W.contents writer.new) r.0)) }
     // Else it is said what a crash leaves.
-    ensures left { IfErr result (LeavesOver settings.now conn (FramesLead settings.now.lease (I.remaining frames.reader) (W.contents writer.old) (W.contents writer.new)) (W.contents writer.old) (W.contents writer.new)) }
+    ensures left { IfErr result (LeavesOver settings.now conn (FramesLead (record { lease = settings.now.lease; limits = frames.limits }) (I.remaining frames.reader) (W.contents writer.old) (W.contents writer.new)) (W.contents writer.old) (W.contents writer.new)) }
     ensures status { IfOk result (λ r. IsExit r.0) }
 {
     let records = match SqlRecords::adopt(alloc, conn, settings) {
@@ -184,14 +191,22 @@ pub(crate) fn serve_seat<R: Records, I: Read + Drop, W: Write, E: Write + Drop>(
     frames: Frames<I, E>,
     writer: &mut W,
 ) -> (Seat<R>, u8)
-    ensures served { EndsServing settings.now.lease (I.remaining frames.reader) (W.contents writer.old) (W.contents writer.new) result.1 (hosted R.store seat) (hosted R.store result.0) }
+    ensures served { EndsServing (record { lease = settings.now.lease; limits = frames.limits }) (I.remaining frames.reader) (W.contents writer.old) (W.contents writer.new) result.1 (hosted R.store seat) (hosted R.store result.0) }
     ensures exit { IsExit result.1 }
 {
-    let Frames { reader, mut errors } = frames;
+    let Frames {
+        reader,
+        mut errors,
+        limits,
+    } = frames;
     let Ok(mut input) = BufReader::with_capacity(alloc, READ_SIZE, reader) else {
         return (seat, 4);
     };
-    let (seat, ended) = serve_groups(alloc, settings.lease(), seat, &mut input, writer);
+    let terms = GroupTerms {
+        lease: settings.lease(),
+        limits,
+    };
+    let (seat, ended) = serve_groups(alloc, terms, seat, &mut input, writer);
     tell_ended(&ended, &mut errors);
     (seat, ended_status(&ended))
 }

@@ -1,6 +1,7 @@
 //! The words of the command line.
 use crate::help::{FRAMES, SCRIPTS, STORES, VERSION};
 use crate::lives::with_live;
+use clap::builder::ValueParser;
 use clap::{Arg, ArgAction, Command};
 use std::alloc::{AllocError, Global};
 
@@ -98,7 +99,9 @@ fn check_about<'a>(alloc: Global) -> Command<'a> {
 fn serve_words<'a>(alloc: Global) -> Result<Command<'a>, AllocError> {
     let serve = serve_about(alloc).arg(settings_word(alloc))?;
     let serve = with_word(serve, served_word(alloc))?;
-    with_word(serve, rows_word(alloc))
+    let serve = with_word(serve, rows_word(alloc))?;
+    let serve = with_word(serve, group_edits_word(alloc))?;
+    with_word(serve, group_bytes_word(alloc))
 }
 
 fn with_word<'a>(
@@ -138,6 +141,24 @@ fn rows_word<'a>(alloc: Global) -> Result<Arg<'a>, AllocError> {
         )
         .action(ArgAction::Set)
         .conflicts_with("store")
+}
+
+fn group_edits_word<'a>(alloc: Global) -> Result<Arg<'a>, AllocError> {
+    Arg::new(alloc, "group-edits")
+        .long("group-edits")
+        .value_name("NUMBER")
+        .help("The most edits that are committed as one change, where one sweep alone has not more; without it any number")
+        .action(ArgAction::Set)
+        .value_parser(ValueParser::unsigned(1, u64::MAX))
+}
+
+fn group_bytes_word<'a>(alloc: Global) -> Result<Arg<'a>, AllocError> {
+    Arg::new(alloc, "group-bytes")
+        .long("group-bytes")
+        .value_name("NUMBER")
+        .help("The most bytes that are committed as one change, 2,048 for each edit beside its content; without it any number")
+        .action(ArgAction::Set)
+        .value_parser(ValueParser::unsigned(1, u64::MAX))
 }
 
 fn settings_word<'a>(alloc: Global) -> Arg<'a> {

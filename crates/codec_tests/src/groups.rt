@@ -4,7 +4,7 @@ use crate::frames::{LEASE, hexadecimal};
 use crate::reports::Report;
 use crate::stops::Stop;
 use crate::tables::Part;
-use hosting::{GroupStop, Seat, serve_groups, serve_on};
+use hosting::{GroupLimits, GroupStop, GroupTerms, Seat, serve_groups, serve_on};
 use rows_cell::{FailAt, ListRecords, Settings};
 use std::alloc::Global;
 use std::io::{self, BufReader, Write};
@@ -54,11 +54,16 @@ fn ended_word(ended: &Result<(), GroupStop>) -> &'static str {
 fn serve_kept(
     alloc: Global,
     records: Kept,
+    limits: GroupLimits,
     reader: &mut BufReader<&[u8]>,
     paper: &mut Paper,
     ended: &mut &'static str,
 ) -> Kept {
-    let (seat, end) = serve_groups(alloc, LEASE, Seat::Down(records), reader, paper);
+    let terms = GroupTerms {
+        lease: LEASE,
+        limits,
+    };
+    let (seat, end) = serve_groups(alloc, terms, Seat::Down(records), reader, paper);
     *ended = ended_word(&end);
     seat.close()
 }
@@ -76,6 +81,7 @@ fn told_again(alloc: Global, records: Kept, sent: &[u8]) -> Vec<u8> {
 fn group_words(
     alloc: Global,
     records: Kept,
+    limits: GroupLimits,
     sent: &[u8],
     room: usize,
     again: &[u8],
@@ -89,7 +95,7 @@ fn group_words(
         room,
     };
     let mut ended = "";
-    let records = serve_kept(alloc, records, &mut reader, &mut paper, &mut ended);
+    let records = serve_kept(alloc, records, limits, &mut reader, &mut paper, &mut ended);
     let then = told_again(alloc, records, again);
     let told = hexadecimal(alloc, paper.written.as_slice())?;
     let found = hexadecimal(alloc, then.as_slice())?;
@@ -98,7 +104,8 @@ fn group_words(
 
 /// What is told of frames that come together to a store of their own.
 pub(crate) fn whole_words(alloc: Global, sent: &[u8]) -> Result<String, Stop> {
-    group_words(alloc, kept(alloc, 0)?, sent, usize::MAX, &[])
+    let records = kept(alloc, 0)?;
+    group_words(alloc, records, GroupLimits::none(), sent, usize::MAX, &[])
 }
 
 // How much may be told of the frames of a row; where nothing is said, all.
@@ -106,6 +113,17 @@ fn room_of(row: Part<'_, '_>) -> usize {
     match row.value("room").parse::<usize>() {
         Ok(room) => room,
         Err(_) => usize::MAX,
+    }
+}
+
+// How many edits of a row are committed as one change; where nothing is said, any number.
+fn limits_of(row: Part<'_, '_>) -> GroupLimits {
+    match row.value("edits").parse::<u64>() {
+        Ok(edits) => GroupLimits {
+            edits,
+            bytes: u64::MAX,
+        },
+        Err(_) => GroupLimits::none(),
     }
 }
 
@@ -127,6 +145,7 @@ pub(crate) fn run_groups(
         let came = group_words(
             alloc,
             records,
+            limits_of(*row),
             sent.as_slice(),
             room_of(*row),
             again.as_slice(),

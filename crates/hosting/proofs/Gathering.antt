@@ -2,7 +2,9 @@
 use Rattle.std.proofs.Common.{◌≡◌, inl, inr, ℕ, List, [], ◌∷◌, ◌++◌, Option, None, Some, Result, Ok, Err, refl, sym, ap, subst, ◌∙◌, append-nil, append_assoc}
 use Rattle.codec.specs.declared.faults.WireFault.{WireFault}
 use Rattle.master_state.specs.State.{MasterState}
-use Rattle.hosting.specs.Held.{GroupState, seen}
+use Rattle.hosting.specs.Held.{GroupState, ground, seen}
+use Rattle.hosting.specs.Pieces.{no_pieces}
+use Rattle.hosting.specs.declared.pieces.GroupTerms.{GroupTerms}
 use Rattle.hosting.specs.declared.frames.Frame.{Frame}
 use Rattle.hosting.specs.declared.seats.Reply.{Reply}
 use Rattle.hosting.specs.declared.stops.Stop.{Stop}
@@ -135,7 +137,7 @@ tries_by tries.Done sent old mid new reply before after d p same =
       store = d.1;
     })
 tries_by tries.Alone sent old mid new reply before after d p same = absurd p
-tries_by (tries.Stopped stop) sent old mid new reply before after d p same = (p, ap (λ (g : GroupState). g.store) same ∙ d.1)
+tries_by (tries.Stopped stop) sent old mid new reply before after d p same = (p, ap ground same ∙ d.1)
 
 pub tries_some : (done : Option Reply) (tried : Tried) (sent : Result Frame WireFault) (old mid new : GroupState) (reply : Reply) (before after : List ℕ) → done ≡ Some reply → DoesHeld sent old done mid
     → PutsReply tried mid.master reply before after → new ≡ mid → Tries sent old tried new before after
@@ -162,31 +164,31 @@ from_none t0 t1 begun here rest first group behind empty g =
     let P : List ℕ → Type 0 = λ u. GathersBy begun here first behind group rest u t1 in
     subst P empty g
 
-pub together_nothing : (behind : Behind) (course : Course) (lease : ℕ) (begun : Result Frame WireFault) (here rest before after : Known) (first group : GroupState) (t0 told slice : List ℕ) (new : Hosted)
-    → behind ≡ behinds.Nothing → t0 ≡ [] → slice ≡ told → first.held ≡ [] → GathersBy begun here first behind group rest t0 told → Keeps group slice course new before after
-    → GoesBy lease (Some begun) here (together first) course new rest before after
-together_nothing behind course lease begun here rest before after first group t0 told slice new is empty same none g k text f =
+pub together_nothing : (behind : Behind) (course : Course) (terms : GroupTerms) (begun : Result Frame WireFault) (here rest before after : Known) (first group : GroupState) (t0 told slice : List ℕ) (new : Hosted)
+    → behind ≡ behinds.Nothing → t0 ≡ [] → slice ≡ told → first.held ≡ no_pieces terms.limits → GathersBy begun here first behind group rest t0 told → Keeps group slice course new before after
+    → GoesBy terms (Some begun) here (together first) course new rest before after
+together_nothing behind course terms begun here rest before after first group t0 told slice new is empty same none g k text f =
     let P : Behind → Type 0 = λ u. GathersBy begun here first u group rest [] told in
-    let done = subst P is (from_none t0 told begun here rest first group behind empty g) lease text f in
+    let done = subst P is (from_none t0 told begun here rest first group behind empty g) terms.lease text f in
     let Q : List ℕ → Type 0 = λ u. Keeps group u course new before after in
-    let W : Known → Type 0 = λ u. Goes lease text (together first) course new u before after in
-    subst W (sym done.2) (kept_goes course lease text done.0 before after first group told new none done.1 (subst Q same k))
+    let W : Known → Type 0 = λ u. Goes terms text (together first) course new u before after in
+    subst W (sym done.2) (kept_goes course terms text done.0 before after first group told new none done.1 (subst Q same k))
 
-pub together_found : (behind : Behind) (found : Option (Result Frame WireFault)) (kept course : Course) (lease : ℕ) (begun : Result Frame WireFault) (here rest before between after : Known)
-    (first group : GroupState) (t0 told slice : List ℕ) (mid new : Hosted) → behind ≡ behinds.Found found → t0 ≡ [] → slice ≡ told → first.held ≡ []
+pub together_found : (behind : Behind) (found : Option (Result Frame WireFault)) (kept course : Course) (terms : GroupTerms) (begun : Result Frame WireFault) (here rest before between after : Known)
+    (first group : GroupState) (t0 told slice : List ℕ) (mid new : Hosted) → behind ≡ behinds.Found found → t0 ≡ [] → slice ≡ told → first.held ≡ no_pieces terms.limits
     → GathersBy begun here first behind group rest t0 told → Keeps group slice kept mid before between
-    → ((there : Known) → ServesBehind lease kept found there mid course new between after) → GoesBy lease (Some begun) here (together first) course new rest before after
-together_found behind found kept course lease begun here rest before between after first group t0 told slice mid new is empty same none g k s text f =
+    → ((there : Known) → ServesBehind terms kept found there mid course new between after) → GoesBy terms (Some begun) here (together first) course new rest before after
+together_found behind found kept course terms begun here rest before between after first group t0 told slice mid new is empty same none g k s text f =
     let P : Behind → Type 0 = λ u. GathersBy begun here first u group rest [] told in
-    let done = subst P is (from_none t0 told begun here rest first group behind empty g) lease text f in
+    let done = subst P is (from_none t0 told begun here rest first group behind empty g) terms.lease text f in
     let Q : List ℕ → Type 0 = λ u. Keeps group u kept mid before between in
-    behind_goes kept course lease found text done.0 rest before between after (together first) mid new
-    (kept_goes kept lease text done.0 before between first group told mid none done.1 (subst Q same k)) (s rest) done.2
+    behind_goes kept course terms found text done.0 rest before between after (together first) mid new
+    (kept_goes kept terms text done.0 before between first group told mid none done.1 (subst Q same k)) (s rest) done.2
 
-pub together_lost : (behind : Behind) (stop : Stop) (lease : ℕ) (begun : Result Frame WireFault) (here rest before : Known) (first group : GroupState) (t0 told : List ℕ) (store : Store)
-    → behind ≡ behinds.Lost stop → first.held ≡ [] → GathersBy begun here first behind group rest t0 told → store ≡ group.store
-    → GoesBy lease (Some begun) here (together first) (courses.Ends (Stopped stop)) (without_master store) rest before before
-together_lost behind stop lease begun here rest before first group t0 told store is none g kept text f =
+pub together_lost : (behind : Behind) (stop : Stop) (terms : GroupTerms) (begun : Result Frame WireFault) (here rest before : Known) (first group : GroupState) (t0 told : List ℕ) (store : Store)
+    → behind ≡ behinds.Lost stop → first.held ≡ no_pieces terms.limits → GathersBy begun here first behind group rest t0 told → store ≡ group.store
+    → GoesBy terms (Some begun) here (together first) (courses.Ends (Stopped stop)) (without_master store) rest before before
+together_lost behind stop terms begun here rest before first group t0 told store is none g kept text f =
     let P : Behind → Type 0 = λ u. GathersBy begun here first u group rest t0 told in
-    let done = subst P is g lease text f in
-    lost_goes stop lease text rest before first group store none done.0 done.1 kept
+    let done = subst P is g terms.lease text f in
+    lost_goes stop terms text rest before first group store none done.0 done.1 kept

@@ -11,7 +11,10 @@ use Rattle.over_core.specs.Plans.{first_action}
 use Rattle.over_core.specs.Sweep.{is_over, swept, sweep_step, sweep_edits, sweep_frees, IsSwept, IsHeldUp}
 use Rattle.over_core.proofs.Settled.{unasked}
 use Rattle.master_state.specs.Lookups.{noted}
-use Rattle.hosting.specs.Held.{GroupState, store_behind, seen}
+use Rattle.hosting.specs.Held.{GroupState, ground, store_behind, seen}
+use Rattle.hosting.specs.Pieces.{all_held, held_with}
+use Rattle.hosting.specs.declared.pieces.GroupLimits.{GroupLimits}
+use Rattle.hosting.proofs.PieceLaws.{held_limits}
 use Rattle.hosting.specs.Serving.{SweepsOnce, StopsAt, is_shut}
 use Rattle.hosting.specs.declared.settling.End.TheVariants.{Refused}
 
@@ -19,8 +22,8 @@ pub held_once : (now : ℕ) (old new : GroupState) (swept : Swept) → sweep_ste
     → IsSwept (sweep_frees old.master now) (sweep_edits old.master now) (seen old).store (seen new).store → SweepsOnce now (seen old) swept (seen new)
 held_once now old new swept step committed = record { step = step; committed = committed }
 
-pub store_kept : (old new : GroupState) (edits : List Edit) → new ≡ record old { master = new.master; held = old.held ++ edits } → new.store ≡ old.store
-store_kept old new edits is = ap (λ (g : GroupState). g.store) is
+pub store_kept : (old new : GroupState) (edits : List Edit) → new ≡ record old { master = new.master; held = held_with old.held edits } → ground new ≡ ground old
+store_kept old new edits is = ap ground is ∙ ap (λ (l : GroupLimits). (old.store, l)) (held_limits old.held edits)
 
 refused_so : (now : ℕ) (old new : GroupState) (fault : Fault) → (sweep_step old.master now ≡ Err fault) ⊎ (fault ≡ NoMemory) → new ≡ old
     → (sweep_step (seen old).master now ≡ Err fault × seen new ≡ seen old) ⊎ IsHeldUp fault (sweep_frees (seen old).master now) (sweep_edits (seen old).master now) (seen old).store (seen new).store
@@ -52,4 +55,4 @@ open_held s now fault (inr none) = ap (λ (f : Fault). is_shut (Refused f)) none
 
 -- a step that holds nothing back
 pub seen_store : (old new : GroupState) → new ≡ record old { master = new.master } → (seen new).store ≡ (seen old).store
-seen_store old new is = ap (λ (g : GroupState). store_behind g.store g.held) is
+seen_store old new is = ap (λ (g : GroupState). store_behind g.store (all_held g.held)) is

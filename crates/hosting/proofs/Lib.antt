@@ -11,6 +11,7 @@ pub mod Passages
 pub mod Served
 pub mod Standings
 pub mod HeldBack
+pub mod PieceLaws
 pub mod HeldKept
 pub mod HeldSweeps
 pub mod Grouped

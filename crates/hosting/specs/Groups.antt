@@ -1,14 +1,15 @@
--- Frames that are there together: each is done in its turn, over changes that are held back; then all that they changed is committed as
--- one change, and only then it is told of them.
+-- Frames that are there together: each is done in its turn, over changes that are held back; then all that they changed is committed in
+-- pieces that the store takes, and only then it is told of them.
 use Rattle.std.specs.Prelude.{◌≡◌, ◌⊎◌, ◌≤◌, ⊤, ℕ, List, [], ◌∷◌, ◌++◌, Option, Some, None, Result, Ok, Err}
 use Rattle.std.specs.Io.KnownBytes.{Appends, IsAtEnd}
 use Rattle.node_core.specs.declared.refusals.Fault.{Fault}
 use Rattle.rows_cell.specs.declared.tables.Edit.{Edit}
-use Rattle.rows_cell.specs.Stores.{IsCommitted, IsRefused}
 use Rattle.master_state.specs.State.{MasterState}
 use Rattle.codec.specs.declared.faults.WireFault.{WireFault}
 use Rattle.output.specs.Fronts.{AppendsFront}
-use Rattle.hosting.specs.Held.{GroupState, store_behind, seen}
+use Rattle.hosting.specs.Held.{GroupState, ground, store_behind, seen}
+use Rattle.hosting.specs.Pieces.{AreTaken, CommitsEach, IsCutShort, all_pieces, joined}
+use Rattle.hosting.specs.declared.pieces.GroupTerms.{GroupTerms}
 use Rattle.hosting.specs.declared.frames.Frame.{Frame}
 use Rattle.hosting.specs.declared.seats.Reply.{Reply}
 use Rattle.hosting.specs.declared.stops.Stop.{Stop}
@@ -35,45 +36,48 @@ Known = Option (List ℕ)
 -- ---- groups
 
 -- frames were done, each by the master that the one before it left, over rows that nobody else sees; then all that they changed was
--- committed as one change of the store
-pub record KeptGroup (lease : ℕ) (text : Known) (old : Hosted) (answers : List Answer) (new : Hosted) (rest : Known) : Type 0 where
+-- committed, piece by piece
+pub record KeptGroup (terms : GroupTerms) (text : Known) (old : Hosted) (answers : List Answer) (new : Hosted) (rest : Known) : Type 0 where
   pub done : Hosted
-  pub turns : Turns lease text old answers done rest
-  pub edits : List Edit
-  pub held : done.store ≡ store_behind old.store edits
-  pub committed : IsCommitted edits old.store new.store
+  pub turns : Turns terms.lease text old answers done rest
+  pub pieces : List (List Edit)
+  pub taken : AreTaken terms.limits pieces
+  pub held : done.store ≡ store_behind old.store (joined pieces)
+  pub committed : CommitsEach pieces old.store new.store
   pub master : new.master ≡ done.master
 
--- frames were done likewise; the store refused what they changed, the master is gone, and the rows are as they were before the first
-pub record LostGroup (lease : ℕ) (text : Known) (old : Hosted) (fault : Fault) (new : Hosted) : Type 0 where
+-- frames were done likewise; the store refused a piece of what they changed, the master is gone, and the rows are as the pieces before it
+-- left them
+pub record LostGroup (terms : GroupTerms) (text : Known) (old : Hosted) (fault : Fault) (new : Hosted) : Type 0 where
   pub done : Hosted
   pub answers : List Answer
   pub rest : Known
-  pub turns : Turns lease text old answers done rest
-  pub edits : List Edit
-  pub held : done.store ≡ store_behind old.store edits
-  pub refused : IsRefused fault edits old.store new.store
+  pub turns : Turns terms.lease text old answers done rest
+  pub pieces : List (List Edit)
+  pub taken : AreTaken terms.limits pieces
+  pub held : done.store ≡ store_behind old.store (joined pieces)
+  pub refused : IsCutShort fault pieces old.store new.store
   pub gone : new.master ≡ None
 
 -- frames were done by themselves, one behind the other; or as a group
-abbrev pub TakesGroup : ℕ → Known → Hosted → List Answer → Hosted → Known → Type 0
-TakesGroup lease text old answers new rest = Turns lease text old answers new rest ⊎ KeptGroup lease text old answers new rest
+abbrev pub TakesGroup : GroupTerms → Known → Hosted → List Answer → Hosted → Known → Type 0
+TakesGroup terms text old answers new rest = Turns terms.lease text old answers new rest ⊎ KeptGroup terms text old answers new rest
 
 -- groups, one behind the other
-abbrev pub Groups : ℕ → Known → Hosted → List (List Answer) → Hosted → Known → Type 0
-Groups lease text old [] new rest = (new ≡ old) × (rest ≡ text)
-Groups lease text old (group ∷ groups) new rest =
-    (mid : Hosted) × (behind : Known) × TakesGroup lease text old group mid behind × Groups lease behind mid groups new rest
+abbrev pub Groups : GroupTerms → Known → Hosted → List (List Answer) → Hosted → Known → Type 0
+Groups terms text old [] new rest = (new ≡ old) × (rest ≡ text)
+Groups terms text old (group ∷ groups) new rest =
+    (mid : Hosted) × (behind : Known) × TakesGroup terms text old group mid behind × Groups terms behind mid groups new rest
 
 abbrev pub all_answers : List (List Answer) → List Answer
 all_answers [] = []
 all_answers (group ∷ groups) = group ++ all_answers groups
 
 -- groups were done and committed, and all that is told of them was written
-pub record ServedGroups (lease : ℕ) (text : Known) (old new : Hosted) (rest before after : Known) : Type 0 where
+pub record ServedGroups (terms : GroupTerms) (text : Known) (old new : Hosted) (rest before after : Known) : Type 0 where
   pub groups : List (List Answer)
   pub bytes : List ℕ
-  pub done : Groups lease text old groups new rest
+  pub done : Groups terms text old groups new rest
   pub told : AreAnswers (all_answers groups) bytes
   pub written : Appends before after bytes
 
@@ -82,35 +86,35 @@ abbrev pub MaybeLost : Hosted → Hosted → Type 0
 MaybeLost old new = (new ≡ old) ⊎ (new ≡ without_master old.store)
 
 -- a group was done and committed, and a front of all that is told of it was written
-abbrev pub BreaksGroup : ℕ → Known → Hosted → Hosted → Known → Known → Known → Type 0
-BreaksGroup lease text old new rest before after =
-    (group : List Answer) × (bytes : List ℕ) × TakesGroup lease text old group new rest × AreAnswers group bytes × AppendsFront before after bytes
+abbrev pub BreaksGroup : GroupTerms → Known → Hosted → Hosted → Known → Known → Known → Type 0
+BreaksGroup terms text old new rest before after =
+    (group : List Answer) × (bytes : List ℕ) × TakesGroup terms text old group new rest × AreAnswers group bytes × AppendsFront before after bytes
 
 -- all frames of a text were done and told of; or those of the groups before one that couldn't be read, for which there was no memory, or
 -- which the store refused; or those before one that was done, a front alone of what is told of it
-abbrev pub EndsGroups : ℕ → Known → Hosted → Result (Unit {0}) GroupStop → Hosted → Known → Known → Type 0
-EndsGroups lease text old (Ok x) new before after = (rest : Known) × ServedGroups lease text old new rest before after × IsAtEnd rest
-EndsGroups lease text old (Err (Stopped Unread)) new before after =
-    (mid : Hosted) × (rest : Known) × ServedGroups lease text old mid rest before after × MaybeLost mid new
-EndsGroups lease text old (Err (Stopped NoMemory)) new before after =
-    (mid : Hosted) × (rest : Known) × ServedGroups lease text old mid rest before after × (MaybeOne lease rest mid new ⊎ MaybeLost mid new)
-EndsGroups lease text old (Err (Stopped Unwritten)) new before after =
+abbrev pub EndsGroups : GroupTerms → Known → Hosted → Result (Unit {0}) GroupStop → Hosted → Known → Known → Type 0
+EndsGroups terms text old (Ok x) new before after = (rest : Known) × ServedGroups terms text old new rest before after × IsAtEnd rest
+EndsGroups terms text old (Err (Stopped Unread)) new before after =
+    (mid : Hosted) × (rest : Known) × ServedGroups terms text old mid rest before after × MaybeLost mid new
+EndsGroups terms text old (Err (Stopped NoMemory)) new before after =
+    (mid : Hosted) × (rest : Known) × ServedGroups terms text old mid rest before after × (MaybeOne terms rest mid new ⊎ MaybeLost mid new)
+EndsGroups terms text old (Err (Stopped Unwritten)) new before after =
     (mid : Hosted) × (rest : Known) × (behind : Known) × (between : Known)
-    × ServedGroups lease text old mid rest before between × BreaksGroup lease rest mid new behind between after
-EndsGroups lease text old (Err (Refused fault)) new before after =
-    (mid : Hosted) × (rest : Known) × ServedGroups lease text old mid rest before after × LostGroup lease rest mid fault new
+    × ServedGroups terms text old mid rest before between × BreaksGroup terms rest mid new behind between after
+EndsGroups terms text old (Err (Refused fault)) new before after =
+    (mid : Hosted) × (rest : Known) × ServedGroups terms text old mid rest before after × LostGroup terms rest mid fault new
 
 -- ---- one of them
 
 -- groups were served, and it goes on; or it is over so
-abbrev pub Goes : ℕ → Known → Hosted → Course → Hosted → Known → Known → Known → Type 0
-Goes lease text old courses.On new rest before after = ServedGroups lease text old new rest before after
-Goes lease text old courses.Over new rest before after = EndsGroups lease text old (Ok tt) new before after
-Goes lease text old (courses.Ends stop) new rest before after = EndsGroups lease text old (Err stop) new before after
+abbrev pub Goes : GroupTerms → Known → Hosted → Course → Hosted → Known → Known → Known → Type 0
+Goes terms text old courses.On new rest before after = ServedGroups terms text old new rest before after
+Goes terms text old courses.Over new rest before after = EndsGroups terms text old (Ok tt) new before after
+Goes terms text old (courses.Ends stop) new rest before after = EndsGroups terms text old (Err stop) new before after
 
 -- the same, where a frame was read, or none is left
-abbrev pub GoesBy : ℕ → Option (Result Frame WireFault) → Known → Hosted → Course → Hosted → Known → Known → Known → Type 0
-GoesBy lease found here old course new rest before after = (text : Known) → FoundFrame found text here → Goes lease text old course new rest before after
+abbrev pub GoesBy : GroupTerms → Option (Result Frame WireFault) → Known → Hosted → Course → Hosted → Known → Known → Known → Type 0
+GoesBy terms found here old course new rest before after = (text : Known) → FoundFrame found text here → Goes terms text old course new rest before after
 
 -- what a frame by itself came to
 abbrev pub course_of : Turned → Course
@@ -119,9 +123,9 @@ course_of turned_as.Over = courses.Over
 course_of (turned_as.Stopped stop) = courses.Ends (Stopped stop)
 
 -- what was found behind a group that was kept was done by itself
-abbrev pub ServesBehind : ℕ → Course → Option (Result Frame WireFault) → Known → Hosted → Course → Hosted → Known → Known → Type 0
-ServesBehind lease courses.On found here old course new before after = GoesBy lease found here old course new here before after
-ServesBehind lease kept found here old course new before after = (course ≡ kept) × (new ≡ old) × (after ≡ before)
+abbrev pub ServesBehind : GroupTerms → Course → Option (Result Frame WireFault) → Known → Hosted → Course → Hosted → Known → Known → Type 0
+ServesBehind terms courses.On found here old course new before after = GoesBy terms found here old course new here before after
+ServesBehind terms kept found here old course new before after = (course ≡ kept) × (new ≡ old) × (after ≡ before)
 
 -- what is hosted while changes are held back: the master sees them as committed
 abbrev pub together : GroupState → Hosted
@@ -135,11 +139,11 @@ pub record HeldTurn (sent : Result Frame WireFault) (old new : GroupState) (befo
   pub due : IsDue (Some new.master) answer.deadline
   pub blocks : AreBlocks (all_told answer.reply answer.deadline) bytes
   pub told : after ≡ before ++ bytes
-  pub store : new.store ≡ old.store
+  pub store : ground new ≡ ground old
 
 -- a frame was done so, or it is none that is done in a group
 abbrev pub DoesHeld : Result Frame WireFault → GroupState → Option Reply → GroupState → Type 0
-DoesHeld sent old (Some reply) new = ((lease : ℕ) → Does lease sent (together old) reply (together new)) × (new.store ≡ old.store)
+DoesHeld sent old (Some reply) new = ((lease : ℕ) → Does lease sent (together old) reply (together new)) × (ground new ≡ ground old)
 DoesHeld sent old None new = new ≡ old
 
 -- why a group is lost before it is committed
@@ -161,7 +165,7 @@ PutsReply (tries.Stopped stop) master reply before after = IsLosing stop
 abbrev pub Tries : Result Frame WireFault → GroupState → Tried → GroupState → List ℕ → List ℕ → Type 0
 Tries sent old tries.Done new before after = HeldTurn sent old new before after
 Tries sent old tries.Alone new before after = (new ≡ old) × (after ≡ before)
-Tries sent old (tries.Stopped stop) new before after = IsLosing stop × (new.store ≡ old.store)
+Tries sent old (tries.Stopped stop) new before after = IsLosing stop × (ground new ≡ ground old)
 
 -- what stands behind a frame: nobody looked; or it was found; or it can't be read
 abbrev pub StandsBehind : Behind → Known → Known → Type 0
@@ -180,11 +184,11 @@ pub record Gathered (lease : ℕ) (text : Known) (old new : GroupState) (rest : 
   pub turns : Turns lease text (together old) answers (together new) rest
   pub told : AreAnswers answers bytes
   pub behind : after ≡ before ++ bytes
-  pub store : new.store ≡ old.store
+  pub store : ground new ≡ ground old
 
 -- and what stands behind them was looked for
 abbrev pub Gathers : ℕ → Known → GroupState → Behind → GroupState → Known → List ℕ → List ℕ → Type 0
-Gathers lease text old (behinds.Lost stop) new rest before after = IsLosing stop × (new.store ≡ old.store)
+Gathers lease text old (behinds.Lost stop) new rest before after = IsLosing stop × (ground new ≡ ground old)
 Gathers lease text old behind new rest before after = (there : Known) × Gathered lease text old new there before after × StandsBehind behind there rest
 
 abbrev pub GathersOn : ℕ → Known → GroupState → Onward → GroupState → Known → List ℕ → List ℕ → Type 0
@@ -203,11 +207,13 @@ GathersOnBy begun here old onward new rest before after =
 -- ---- the commit
 
 pub record IsKeptAs (group : GroupState) (new : Hosted) : Type 0 where
-  pub committed : IsCommitted group.held group.store new.store
+  pub taken : AreTaken group.held.limits (all_pieces group.held)
+  pub committed : CommitsEach (all_pieces group.held) group.store new.store
   pub master : new.master ≡ Some group.master
 
 pub record IsLostAs (fault : Fault) (group : GroupState) (new : Hosted) : Type 0 where
-  pub refused : IsRefused fault group.held group.store new.store
+  pub taken : AreTaken group.held.limits (all_pieces group.held)
+  pub refused : IsCutShort fault (all_pieces group.held) group.store new.store
   pub gone : new.master ≡ None
 
 -- what is held back was committed, and what is told was written then, or a front of it; or the store refused it, and nothing was written

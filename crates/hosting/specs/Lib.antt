@@ -8,5 +8,6 @@ pub mod Laws
 pub mod Seats
 pub mod Replies
 pub mod Streams
+pub mod Pieces
 pub mod Held
 pub mod Groups

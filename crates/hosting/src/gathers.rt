@@ -83,6 +83,9 @@ fn go_on<R: Records, I: Read>(
     match do_held(alloc, group, &sent, told) {
         Tried::Done => {
             drop(sent);
+            if group.is_parted() {
+                return Onward::Ends(Behind::Nothing);
+            }
             next_there(alloc, reader, buffer, told.len())
         }
         Tried::Alone => Onward::Ends(Behind::Found(Some(sent))),

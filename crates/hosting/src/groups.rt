@@ -2,12 +2,14 @@
 ghost use Rattle.std.specs.Prelude.{◌≡◌, ◌≤◌, ℕ, List, [], length, Option, Some};
 ghost use Rattle.std.specs.Io.Buffered.{reader_remaining};
 ghost use Rattle.hosting.specs.Seats.{hosted, with_master};
+ghost use Rattle.hosting.specs.Pieces.{no_pieces};
 ghost use Rattle.hosting.specs.Groups.{EndsGroups, Goes, GoesBy, Keeps, ServesBehind, together, course_of};
 
 use crate::frames::Frame;
 use crate::gathers::{Behind, gather, is_there};
 use crate::holds::Group;
 use crate::inputs::next_frame;
+use crate::pieces::GroupTerms;
 use crate::seats::Seat;
 use crate::stops::{GroupStop, Stop};
 use crate::streams::{Turned, block_room, serve_found};
@@ -29,41 +31,42 @@ pub enum Course {
 }
 
 /// Answers the frames of a stream to its end as `serve_on` does, but messages and ticks that are there together are done
-/// one behind the other, all that they change is committed as one change, and then all that is told of them is written and
-/// flushed. Together are at most 256 that stand whole in the reader's buffer, while what is told of them is below 1 MiB. A
-/// frame that stands there alone, or is another one, is done and told by itself. Where the store refuses what a group
-/// changed nothing is told of it: the master is gone, and the records are as they were before the group.
+/// one after the other, all that they change is committed, and then all that is told of them is written and flushed.
+/// Together are at most 256 that stand whole in the reader's buffer, while what is told of them is below 1 MiB, and what
+/// they change is within the limits for one change of the store. What one frame changes beyond these is committed in
+/// pieces. A frame that stands there alone, or is another one, is done and told by itself. If the store refuses a piece,
+/// nothing is told of the group: the master is gone, and the records are as the pieces before it left them.
 pub fn serve_groups<R: Records, I: Read, W: Write>(
     alloc: Global,
-    lease: u64,
+    terms: GroupTerms,
     seat: Seat<R>,
     reader: &mut BufReader<I>,
     writer: &mut W,
 ) -> (Seat<R>, Result<(), GroupStop>)
-    requires { (1000 ≤ lease) × (lease ≤ 60000) }
-    ensures { EndsGroups lease (reader_remaining I.remaining reader.old) (hosted R.store seat) result.1 (hosted R.store result.0) (W.contents writer.old) (W.contents writer.new) }
+    requires { (1000 ≤ terms.lease) × (terms.lease ≤ 60000) }
+    ensures { EndsGroups terms (reader_remaining I.remaining reader.old) (hosted R.store seat) result.1 (hosted R.store result.0) (W.contents writer.old) (W.contents writer.new) }
 {
     match block_room(alloc) {
-        Ok(mut room) => serve_all(alloc, lease, seat, reader, room.as_mut_slice(), writer),
+        Ok(mut room) => serve_all(alloc, terms, seat, reader, room.as_mut_slice(), writer),
         Err(_) => (seat, Err(GroupStop::Stopped(Stop::NoMemory))),
     }
 }
 
 fn serve_all<R: Records, I: Read, W: Write>(
     alloc: Global,
-    lease: u64,
+    terms: GroupTerms,
     first: Seat<R>,
     reader: &mut BufReader<I>,
     buffer: &mut [u8],
     writer: &mut W,
 ) -> (Seat<R>, Result<(), GroupStop>)
-    requires lease { (1000 ≤ lease) × (lease ≤ 60000) }
+    requires lease { (1000 ≤ terms.lease) × (terms.lease ≤ 60000) }
     requires room { length buffer.old ≡ 1048576 }
-    ensures { EndsGroups lease (reader_remaining I.remaining reader.old) (hosted R.store first) result.1 (hosted R.store result.0) (W.contents writer.old) (W.contents writer.new) }
+    ensures { EndsGroups terms (reader_remaining I.remaining reader.old) (hosted R.store first) result.1 (hosted R.store result.0) (W.contents writer.old) (W.contents writer.new) }
 {
     let mut seat = first;
     for _group in 0..u64::MAX {
-        let (next, course) = serve_some(alloc, lease, seat, reader, buffer, writer);
+        let (next, course) = serve_some(alloc, terms, seat, reader, buffer, writer);
         seat = next;
         match course {
             Course::On => {}
@@ -77,18 +80,18 @@ fn serve_all<R: Records, I: Read, W: Write>(
 // The frames that are there.
 fn serve_some<R: Records, I: Read, W: Write>(
     alloc: Global,
-    lease: u64,
+    terms: GroupTerms,
     seat: Seat<R>,
     reader: &mut BufReader<I>,
     buffer: &mut [u8],
     writer: &mut W,
 ) -> (Seat<R>, Course)
-    requires lease { (1000 ≤ lease) × (lease ≤ 60000) }
+    requires lease { (1000 ≤ terms.lease) × (terms.lease ≤ 60000) }
     requires room { length buffer.old ≡ 1048576 }
-    ensures { Goes lease (reader_remaining I.remaining reader.old) (hosted R.store seat) result.1 (hosted R.store result.0) (reader_remaining I.remaining reader.new) (W.contents writer.old) (W.contents writer.new) }
+    ensures { Goes terms (reader_remaining I.remaining reader.old) (hosted R.store seat) result.1 (hosted R.store result.0) (reader_remaining I.remaining reader.new) (W.contents writer.old) (W.contents writer.new) }
 {
     match next_frame(alloc, reader, buffer) {
-        Ok(found) => serve_from(alloc, lease, seat, found, reader, buffer, writer),
+        Ok(found) => serve_from(alloc, terms, seat, found, reader, buffer, writer),
         Err(stop) => (seat, Course::Ends(GroupStop::Stopped(stop))),
     }
 }
@@ -96,80 +99,80 @@ fn serve_some<R: Records, I: Read, W: Write>(
 // A frame that was found, and those behind it that are there.
 fn serve_from<R: Records, I: Read, W: Write>(
     alloc: Global,
-    lease: u64,
+    terms: GroupTerms,
     seat: Seat<R>,
     found: Option<Result<Frame, WireFault>>,
     reader: &mut BufReader<I>,
     buffer: &mut [u8],
     writer: &mut W,
 ) -> (Seat<R>, Course)
-    requires lease { (1000 ≤ lease) × (lease ≤ 60000) }
+    requires lease { (1000 ≤ terms.lease) × (terms.lease ≤ 60000) }
     requires room { length buffer.old ≡ 1048576 }
-    ensures { GoesBy lease found (reader_remaining I.remaining reader.old) (hosted R.store seat) result.1 (hosted R.store result.0) (reader_remaining I.remaining reader.new) (W.contents writer.old) (W.contents writer.new) }
+    ensures { GoesBy terms found (reader_remaining I.remaining reader.old) (hosted R.store seat) result.1 (hosted R.store result.0) (reader_remaining I.remaining reader.new) (W.contents writer.old) (W.contents writer.new) }
 {
     if !is_there(reader.buffer()) {
-        return serve_alone(alloc, lease, seat, found, writer);
+        return serve_alone(alloc, terms, seat, found, writer);
     }
     match found {
-        Some(sent) => serve_sent(alloc, lease, seat, sent, reader, buffer, writer),
-        None => serve_alone(alloc, lease, seat, None, writer),
+        Some(sent) => serve_sent(alloc, terms, seat, sent, reader, buffer, writer),
+        None => serve_alone(alloc, terms, seat, None, writer),
     }
 }
 
 // What was sent, and the frames behind it that are there, where a master is up.
 fn serve_sent<R: Records, I: Read, W: Write>(
     alloc: Global,
-    lease: u64,
+    terms: GroupTerms,
     seat: Seat<R>,
     sent: Result<Frame, WireFault>,
     reader: &mut BufReader<I>,
     buffer: &mut [u8],
     writer: &mut W,
 ) -> (Seat<R>, Course)
-    requires lease { (1000 ≤ lease) × (lease ≤ 60000) }
+    requires lease { (1000 ≤ terms.lease) × (terms.lease ≤ 60000) }
     requires room { length buffer.old ≡ 1048576 }
-    ensures { GoesBy lease (Some sent) (reader_remaining I.remaining reader.old) (hosted R.store seat) result.1 (hosted R.store result.0) (reader_remaining I.remaining reader.new) (W.contents writer.old) (W.contents writer.new) }
+    ensures { GoesBy terms (Some sent) (reader_remaining I.remaining reader.old) (hosted R.store seat) result.1 (hosted R.store result.0) (reader_remaining I.remaining reader.new) (W.contents writer.old) (W.contents writer.new) }
 {
     match seat {
-        Seat::Up(cell) => serve_up(alloc, lease, cell, sent, reader, buffer, writer),
-        Seat::Down(records) => serve_alone(alloc, lease, Seat::Down(records), Some(sent), writer),
+        Seat::Up(cell) => serve_up(alloc, terms, cell, sent, reader, buffer, writer),
+        Seat::Down(records) => serve_alone(alloc, terms, Seat::Down(records), Some(sent), writer),
     }
 }
 
 // The same of a master that is up. Behind a commit that was refused a frame is done by itself, until another one stands.
 fn serve_up<R: Records, I: Read, W: Write>(
     alloc: Global,
-    lease: u64,
+    terms: GroupTerms,
     cell: Cell<R>,
     sent: Result<Frame, WireFault>,
     reader: &mut BufReader<I>,
     buffer: &mut [u8],
     writer: &mut W,
 ) -> (Seat<R>, Course)
-    requires lease { (1000 ≤ lease) × (lease ≤ 60000) }
+    requires lease { (1000 ≤ terms.lease) × (terms.lease ≤ 60000) }
     requires room { length buffer.old ≡ 1048576 }
-    ensures { GoesBy lease (Some sent) (reader_remaining I.remaining reader.old) (with_master cell) result.1 (hosted R.store result.0) (reader_remaining I.remaining reader.new) (W.contents writer.old) (W.contents writer.new) }
+    ensures { GoesBy terms (Some sent) (reader_remaining I.remaining reader.old) (with_master cell) result.1 (hosted R.store result.0) (reader_remaining I.remaining reader.new) (W.contents writer.old) (W.contents writer.new) }
 {
     if cell.is_settled() {
-        let group = Group::of(alloc, cell);
-        serve_together(alloc, lease, group, sent, reader, buffer, writer)
+        let group = Group::of(alloc, cell, terms.limits);
+        serve_together(alloc, terms, group, sent, reader, buffer, writer)
     } else {
-        serve_alone(alloc, lease, Seat::Up(cell), Some(sent), writer)
+        serve_alone(alloc, terms, Seat::Up(cell), Some(sent), writer)
     }
 }
 
 // A frame that was found, by itself.
 fn serve_alone<R: Records, W: Write>(
     alloc: Global,
-    lease: u64,
+    terms: GroupTerms,
     seat: Seat<R>,
     found: Option<Result<Frame, WireFault>>,
     writer: &mut W,
 ) -> (Seat<R>, Course)
-    requires { (1000 ≤ lease) × (lease ≤ 60000) }
-    ensures { (here : Option (List ℕ)) → GoesBy lease found here (hosted R.store seat) result.1 (hosted R.store result.0) here (W.contents writer.old) (W.contents writer.new) }
+    requires { (1000 ≤ terms.lease) × (terms.lease ≤ 60000) }
+    ensures { (here : Option (List ℕ)) → GoesBy terms found here (hosted R.store seat) result.1 (hosted R.store result.0) here (W.contents writer.old) (W.contents writer.new) }
 {
-    let (next, turned) = serve_found(alloc, lease, seat, found, writer);
+    let (next, turned) = serve_found(alloc, terms.lease, seat, found, writer);
     (next, course_of(turned))
 }
 
@@ -186,17 +189,17 @@ fn course_of(turned: Turned) -> Course
 // A frame and those behind it that are there, as a group, and the one behind it that was found by itself.
 fn serve_together<R: Records, I: Read, W: Write>(
     alloc: Global,
-    lease: u64,
+    terms: GroupTerms,
     first: Group<R>,
     begun: Result<Frame, WireFault>,
     reader: &mut BufReader<I>,
     buffer: &mut [u8],
     writer: &mut W,
 ) -> (Seat<R>, Course)
-    requires lease { (1000 ≤ lease) × (lease ≤ 60000) }
+    requires lease { (1000 ≤ terms.lease) × (terms.lease ≤ 60000) }
     requires room { length buffer.old ≡ 1048576 }
-    requires none { first.held ≡ [] }
-    ensures { GoesBy lease (Some begun) (reader_remaining I.remaining reader.old) (together first) result.1 (hosted R.store result.0) (reader_remaining I.remaining reader.new) (W.contents writer.old) (W.contents writer.new) }
+    requires none { first.held ≡ no_pieces terms.limits }
+    ensures { GoesBy terms (Some begun) (reader_remaining I.remaining reader.old) (together first) result.1 (hosted R.store result.0) (reader_remaining I.remaining reader.new) (W.contents writer.old) (W.contents writer.new) }
 {
     let mut told = Vec::new(alloc);
     let (group, behind) = gather(alloc, first, begun, reader, buffer, &mut told);
@@ -204,7 +207,7 @@ fn serve_together<R: Records, I: Read, W: Write>(
         Behind::Nothing => keep(group, told.as_slice(), writer),
         Behind::Found(found) => {
             let (seat, course) = keep(group, told.as_slice(), writer);
-            serve_behind(alloc, lease, seat, course, found, writer)
+            serve_behind(alloc, terms, seat, course, found, writer)
         }
         Behind::Lost(stop) => (
             Seat::Down(group.lose()),
@@ -216,17 +219,17 @@ fn serve_together<R: Records, I: Read, W: Write>(
 // Behind a group that was kept, what was found behind it.
 fn serve_behind<R: Records, W: Write>(
     alloc: Global,
-    lease: u64,
+    terms: GroupTerms,
     seat: Seat<R>,
     course: Course,
     found: Option<Result<Frame, WireFault>>,
     writer: &mut W,
 ) -> (Seat<R>, Course)
-    requires { (1000 ≤ lease) × (lease ≤ 60000) }
-    ensures { (here : Option (List ℕ)) → ServesBehind lease course found here (hosted R.store seat) result.1 (hosted R.store result.0) (W.contents writer.old) (W.contents writer.new) }
+    requires { (1000 ≤ terms.lease) × (terms.lease ≤ 60000) }
+    ensures { (here : Option (List ℕ)) → ServesBehind terms course found here (hosted R.store seat) result.1 (hosted R.store result.0) (W.contents writer.old) (W.contents writer.new) }
 {
     match course {
-        Course::On => serve_alone(alloc, lease, seat, found, writer),
+        Course::On => serve_alone(alloc, terms, seat, found, writer),
         Course::Over => {
             drop(found);
             (seat, Course::Over)

@@ -1,6 +1,6 @@
 //! What is answered to a message, and to the time, where changes are held back.
 ghost use Rattle.std.specs.Prelude.{◌≡◌, false};
-ghost use Rattle.hosting.specs.Held.{seen};
+ghost use Rattle.hosting.specs.Held.{ground, seen};
 ghost use Rattle.hosting.specs.Serving.{Answers, EndsIn, is_shut, Settles};
 
 use crate::answers::Answered;
@@ -18,7 +18,7 @@ pub(crate) fn answer_held<R: Records>(
     request: &Request,
 ) -> Answered
     ensures answers { Answers now request.now (seen group.old) result (seen group.new) }
-    ensures store { group.new.store ≡ group.old.store }
+    ensures store { ground group.new ≡ ground group.old }
 {
     match group.take(now, request) {
         Ok(taken) => Answered::Taken(taken, settle_held(alloc, group, now)),
@@ -29,7 +29,7 @@ pub(crate) fn answer_held<R: Records>(
 /// Sweeps at a moment, as `settle` does it.
 pub(crate) fn settle_held<R: Records>(alloc: Global, group: &mut Group<R>, now: u64) -> Settled
     ensures settles { Settles now (seen group.old) result (seen group.new) }
-    ensures store { group.new.store ≡ group.old.store }
+    ensures store { ground group.new ≡ ground group.old }
 {
     let round = sweep_on(alloc, group, now);
     Settled {
@@ -42,7 +42,7 @@ pub(crate) fn settle_held<R: Records>(alloc: Global, group: &mut Group<R>, now: 
 fn sweep_on<R: Records>(alloc: Global, group: &mut Group<R>, now: u64) -> Round
     ensures ends { EndsIn now (seen group.old) result.sweeps result.end (seen group.new) }
     ensures open { is_shut result.end ≡ false }
-    ensures store { group.new.store ≡ group.old.store }
+    ensures store { ground group.new ≡ ground group.old }
 {
     let mut sweeps = Vec::new(alloc);
     for _done in 0..u64::MAX {

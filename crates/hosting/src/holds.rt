@@ -1,29 +1,29 @@
 //! A master over its records, whose changes are committed together.
-ghost use Rattle.std.specs.Prelude.{◌≡◌, ◌≢◌, ◌⊎◌, ◌<◌, ◌++◌, [], Ok, Err, IfOk, IfErr, OnOk, OnErr};
+ghost use Rattle.std.specs.Prelude.{◌≡◌, ◌≢◌, ◌⊎◌, ◌<◌, Ok, Err, IfOk, IfErr, OnOk, OnErr};
 ghost use Rattle.std.specs.Vec.{vec_len, vec_capacity};
 ghost use Rattle.cell_core.specs.Step.{take_step};
-ghost use Rattle.rows_cell.specs.Stores.{IsCommitted, IsRefused};
 ghost use Rattle.over_core.specs.Sweep.{IsSettled, IsSwept, sweep_step, sweep_edits, sweep_frees};
 ghost use Rattle.hosting.specs.Held.{seen};
+ghost use Rattle.hosting.specs.Pieces.{AreTaken, CommitsEach, IsCutShort, all_pieces, held_with, no_pieces};
 ghost use Rattle.over_core.specs.Deadlines.{IsDeadline};
 
+use crate::pieces::{GroupLimits, Pieces};
 use crate::sweeping::sweep_held;
-use collections::Items;
 use master_parts::Taken;
 use node_core::Fault;
 use over_core::{Cell, Swept, next_deadline};
-use rows_cell::{Edit, Records};
+use rows_cell::Records;
 use std::alloc::{AllocError, Global};
 use std::marker::Model;
 use tags_cell::Request;
 
-/// A master over its records. What its steps change is held back, and committed as one change in the end; until then the
-/// records aren't asked. To a contract, what the master is, what its records keep, and the edits that are held back.
+/// A master over its records. What its steps change is held back, and committed in the end; until then the records aren't
+/// asked. To a contract, what the master is, what its records keep, and the edits that are held back.
 #[derive(Drop)]
 pub struct Group<R: Records> {
     records: R,
     master: cell_core::Cell,
-    held: Items<Edit>,
+    held: Pieces,
 }
 
 impl<R: Records> Model for Group<R> {
@@ -31,6 +31,7 @@ impl<R: Records> Model for Group<R> {
     ghost use Rattle.over_core.specs.Kept.{IsKept};
     ghost use Rattle.over_core.specs.Sweep.{IsSettled};
     ghost use Rattle.hosting.specs.Held.{GroupState, store_behind};
+    ghost use Rattle.hosting.specs.Pieces.{AreSound, AreTaken, all_held, all_pieces};
 
     ghost Value = { GroupState };
 
@@ -43,16 +44,17 @@ impl<R: Records> Model for Group<R> {
 }
 
 impl<R: Records> Group<R> {
-    /// A master that goes on in a group: nothing is held back yet. Its last commit stood.
-    pub fn of(alloc: Global, cell: Cell<R>) -> Group<R>
+    /// A master that goes on in a group: nothing is held back yet. Its last commit stood. What is held back is committed
+    /// in pieces within these limits.
+    pub fn of(alloc: Global, cell: Cell<R>, limits: GroupLimits) -> Group<R>
         requires { IsSettled cell.store }
-        ensures { result ≡ record { master = cell.master; store = cell.store; held = [] } }
+        ensures { result ≡ record { master = cell.master; store = cell.store; held = no_pieces limits } }
     {
         let (master, records) = cell.into_parts();
         Group {
             records,
             master,
-            held: Items::new(alloc),
+            held: Pieces::new(alloc, limits),
         }
     }
 
@@ -72,7 +74,7 @@ impl<R: Records> Group<R> {
     /// the step, or want of memory.
     pub fn sweep_with_room<T>(&mut self, now: u64, room: &mut Vec<T>) -> Result<Swept, Fault>
         ensures ok { IfOk result (λ swept. sweep_step self.old.master now ≡ Ok (self.new.master, swept)) }
-        ensures held { OnOk result (self.new ≡ record self.old { master = self.new.master; held = self.old.held ++ sweep_edits self.old.master now }) }
+        ensures held { OnOk result (self.new ≡ record self.old { master = self.new.master; held = held_with self.old.held (sweep_edits self.old.master now) }) }
         ensures swept { OnOk result (IsSwept (sweep_frees self.old.master now) (sweep_edits self.old.master now) (seen self.old).store (seen self.new).store) }
         ensures fault { IfErr result (λ e. (sweep_step self.old.master now ≡ Err e) ⊎ (e ≡ Fault.NoMemory)) }
         ensures err { OnErr result (self.new ≡ self.old) }
@@ -80,6 +82,11 @@ impl<R: Records> Group<R> {
         ensures room { OnOk result (vec_len room.new < vec_capacity room.new) }
     {
         sweep_held(&mut self.master, &mut self.held, now, room)
+    }
+
+    /// Whether what is held back is more than one piece.
+    pub(crate) fn is_parted(&self) -> bool {
+        self.held.is_parted()
     }
 
     /// The earliest moment at which a sweep would do something, as `next_deadline` of `over_core` tells it.
@@ -90,24 +97,23 @@ impl<R: Records> Group<R> {
         next_deadline(&mut self.master)
     }
 
-    /// All that is held back is committed as one change, and the master goes on over it. Where the store refuses that, the
-    /// master is gone, and the records come back as they were before the group.
+    /// All that is held back is committed, piece by piece, and the master goes on over it. Where the store refuses a piece
+    /// the master is gone, and the records come back with the pieces before it.
     pub fn commit(self) -> Result<Cell<R>, (Fault, R)>
-        ensures ok { IfOk result (λ cell. (cell.master ≡ self.master) × IsCommitted self.held self.store cell.store) }
-        ensures refused { IfErr result (λ e. IsRefused e.0 self.held self.store (R.store e.1)) }
+        ensures ok { IfOk result (λ cell. (cell.master ≡ self.master) × CommitsEach (all_pieces self.held) self.store cell.store) }
+        ensures taken { AreTaken self.held.limits (all_pieces self.held) }
+        ensures refused { IfErr result (λ e. IsCutShort e.0 (all_pieces self.held) self.store (R.store e.1)) }
     {
         let Group {
             mut records,
             master,
             held,
         } = self;
-        let committed = records.commit(&held);
-        drop(held);
-        match committed {
+        match held.commit(&mut records) {
             Ok(()) => Ok(Cell::of_parts(master, records)),
             Err(fault) => {
                 drop(master);
-                Err((fault.into(), records))
+                Err((fault, records))
             }
         }
     }

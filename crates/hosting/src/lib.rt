@@ -14,6 +14,7 @@ mod inputs;
 mod kinds;
 mod laws;
 mod outputs;
+mod pieces;
 mod runs;
 mod seats;
 mod settling;
@@ -36,6 +37,7 @@ pub use laws::{
     told_is_next, written_frame_is_read, written_told_is_read,
 };
 pub use outputs::write_reply;
+pub use pieces::{GroupLimits, GroupTerms};
 pub use runs::{Asked, serve};
 pub use seats::{Reply, Seat};
 pub use settling::{End, Round, Settled, settle};

@@ -5,8 +5,10 @@ ghost use Rattle.gate_core.specs.Gate.{push_answer};
 ghost use Rattle.master_state.specs.Updates.{BeginsNew, edits_of, done};
 ghost use Rattle.cell_core.specs.Ephemerals.{is_ok, tidied};
 ghost use Rattle.over_core.specs.Plans.{tellings_of, first_action, plan_of};
+ghost use Rattle.hosting.specs.Pieces.{held_with};
 ghost use Rattle.over_core.specs.Sweep.{is_quiet, done_and_told, swept, action_edits, is_over, sweep_edits, sweep_step};
 
+use crate::pieces::Pieces;
 use cell_core::Cell;
 use collections::Items;
 use lease_core::MOMENT_LIMIT;
@@ -30,12 +32,12 @@ struct Prepared {
 #[tactic(auto, unfolding(over_core::specs::Sweep::sweep_step))]
 pub(crate) fn sweep_held<T>(
     cell: &mut Cell,
-    held: &mut Items<Edit>,
+    held: &mut Pieces,
     now: u64,
     room: &mut Vec<T>,
 ) -> Result<Swept, Fault>
     ensures ok { IfOk result (λ came. sweep_step cell.old now ≡ Ok (cell.new, came)) }
-    ensures held { OnOk result (held.new ≡ held.old ++ sweep_edits cell.old now) }
+    ensures held { OnOk result (held.new ≡ held_with held.old (sweep_edits cell.old now)) }
     ensures fault { IfErr result (λ e. (sweep_step cell.old now ≡ Err e) ⊎ (e ≡ Fault.NoMemory)) }
     ensures err { OnErr result ((cell.new ≡ cell.old) × (held.new ≡ held.old)) }
     ensures items { room.new.items ≡ room.old.items }
@@ -63,9 +65,9 @@ fn is_over(master: &Master, now: u64) -> bool
 }
 
 // Does the first action that there is, and holds back what it commits.
-fn sweep_at(cell: &mut Cell, held: &mut Items<Edit>) -> Result<Swept, AllocError>
+fn sweep_at(cell: &mut Cell, held: &mut Pieces) -> Result<Swept, AllocError>
     ensures ok { IfOk result (λ came. swept cell.old (first_action cell.old) ≡ (cell.new, came)) }
-    ensures held { OnOk result (held.new ≡ held.old ++ action_edits cell.old (first_action cell.old)) }
+    ensures held { OnOk result (held.new ≡ held_with held.old (action_edits cell.old (first_action cell.old))) }
     ensures err { OnErr result ((cell.new ≡ cell.old) × (held.new ≡ held.old)) }
 {
     match first_action(cell)? {
@@ -90,9 +92,9 @@ fn tidy(cell: &mut Cell, idle: Idle) -> Result<Swept, AllocError>
 }
 
 // Does what is planned for any other action, and behind all else the clients of open handles are told of it.
-fn act(cell: &mut Cell, held: &mut Items<Edit>, action: &Action) -> Result<Swept, AllocError>
+fn act(cell: &mut Cell, held: &mut Pieces, action: &Action) -> Result<Swept, AllocError>
     ensures ok { IfOk result (λ came. done_and_told cell.old (plan_of cell.old action.now) (is_quiet action.now) ≡ (cell.new, came)) }
-    ensures held { OnOk result (held.new ≡ held.old ++ action_edits cell.old action.now) }
+    ensures held { OnOk result (held.new ≡ held_with held.old (action_edits cell.old action.now)) }
     ensures err { OnErr result ((cell.new ≡ cell.old) × (held.new ≡ held.old)) }
 {
     note_if_quiet(cell, action);
@@ -174,17 +176,17 @@ fn with_changes(master: &Master, plan: &Plan) -> Result<(Items<Telling>, Items<E
 // The update is done, and its edits are held back; where there is no memory it is taken back.
 fn hold(
     cell: &mut Cell,
-    held: &mut Items<Edit>,
+    held: &mut Pieces,
     update: Update,
     edits: Items<Edit>,
 ) -> Result<(), AllocError>
     requires { BeginsNew cell.old update.session }
     ensures ok { OnOk result (cell.new ≡ done cell.old update) }
-    ensures held { OnOk result (held.new ≡ held.old ++ edits) }
+    ensures held { OnOk result (held.new ≡ held_with held.old edits) }
     ensures err { OnErr result ((cell.new ≡ cell.old) × (held.new ≡ held.old)) }
 {
     let Grown { former, rest } = cell.grow(update)?;
-    match held.append(edits) {
+    match held.hold(edits) {
         Ok(()) => {
             cell.settle(former);
             cell.finish(rest);

@@ -209,6 +209,12 @@ fn takes(gateway: &Gateway, prefix: &str) -> Result<bool> {
     Ok(*TAKES.get_or_init(|| takes))
 }
 
+/// Whether etcd takes a transaction of many operations, as far as that was asked.
+#[must_use]
+pub fn takes_many() -> bool {
+    TAKES.get().copied().unwrap_or(false)
+}
+
 // What the rows in etcd are, and what stands beside them.
 fn look_beside(options: &Options, rows: &Rows, warm: Warm) -> Result<Found> {
     let settings = Settings::read(options.settings.as_deref())?;

@@ -3,6 +3,7 @@
 use nix::sys::signal::Signal;
 use serde_json::json;
 use std::process::Command;
+use std::sync::Barrier;
 use std::sync::atomic::{AtomicBool, Ordering};
 use std::thread;
 use std::time::{Duration, Instant};
@@ -138,6 +139,32 @@ fn writes_go_on_soon_after_etcd_is_back() {
     println!("etcd: away for {AWAY:?}; the first write after its return was done within {after:?}");
     assert!(after.is_some_and(|after| after < Duration::from_secs(2)), "{}", server.logged());
     assert!(!writer.is_lost());
+}
+
+// Everybody's change comes at the same time: what is done together is more than one transaction of a stock etcd takes, in operations and
+// in bytes.
+#[test]
+fn what_many_change_at_once_goes_to_a_stock_etcd() {
+    const SMALL: usize = 200;
+    const LARGE: usize = 10;
+    let etcd = Etcd::with_cell(&[]).unwrap();
+    let server = etcd.server("server", etcd.address).with(&LONG).start().unwrap();
+    let clients: Vec<Client> = (0..SMALL + LARGE).map(|_| client(&server, "ann")).collect();
+    let (large, together) = (vec![0xff; 262_144], Barrier::new(clients.len()));
+    let begun = Instant::now();
+    let done: Vec<_> = thread::scope(|scope| {
+        let create = |(place, client): (usize, &Client)| {
+            together.wait();
+            client.create(&format!("/ls/c/{place}"), if place < LARGE { &large } else { b"small" })
+        };
+        let making: Vec<_> = clients.iter().enumerate().map(|made| scope.spawn(move || create(made))).collect();
+        making.into_iter().map(|made| made.join().unwrap()).collect()
+    });
+    let refused: Vec<_> = done.iter().filter_map(|made| made.as_ref().err()).collect();
+    println!("etcd: {} creates at once within {:?}, {} refused; epochs {:?}", done.len(), begun.elapsed(), refused.len(), epochs(&server));
+    assert!(refused.is_empty(), "{refused:?}");
+    assert_eq!(epochs(&server).len(), 1, "{}", server.logged());
+    assert!(!server.logged().contains("etcd refuses a commit"));
 }
 
 #[test]

@@ -8,34 +8,34 @@ use Rattle.cellctl.proofs.serves.serve_store.Goals as goal
 
 pub returns-in-Ok-close-clause-closed : goal.returns-in-Ok-close-clause-closed
 returns-in-Ok-close-clause-closed g c clean =
-    let lease = c.args.settings.now.lease in
+    let terms = record { lease = c.args.settings.now.lease; limits = c.args.frames.limits } in
     let text = g.I.Read.remaining c.args.frames.reader in
     let before = g.W.Write.contents c.args.writer.now in
     let after = g.W.Write.contents c.serve_seat-seat.new.writer in
     let status = c.serve_seat-seat.result.1 in
-    done_over g.D.Disk c.args.settings.now (file_state c.args.conn) c.in-Ok-close.files (FramesLead lease text before after status) c.in-Ok.records c.close.result
+    done_over g.D.Disk c.args.settings.now (file_state c.args.conn) c.in-Ok-close.files (FramesLead terms text before after status) c.in-Ok.records c.close.result
     (record { cell = c.in-Ok.ensures.cell; left = c.in-Ok.ensures.left; none = c.in-Ok.ensures.counted; doubted = c.in-Ok.ensures.doubted; adopts = c.in-Ok.ensures.rows })
-    (frames_led_surely lease text before after status c.in-Ok.records c.close.result (without_master c.in-Ok.records) (hosted (λ s. s) c.serve_seat-seat.result.0) refl c.close.ensures c.serve_seat-seat.ensures.served)
+    (frames_led_surely terms text before after status c.in-Ok.records c.close.result (without_master c.in-Ok.records) (hosted (λ s. s) c.serve_seat-seat.result.0) refl c.close.ensures c.serve_seat-seat.ensures.served)
     (c.in-Ok-close.ensures.closed clean)
 
 pub returns-in-Ok-close-clause-served : goal.returns-in-Ok-close-clause-served
 returns-in-Ok-close-clause-served g c = (
   c.in-Ok.records,
   c.close.result,
-  frames_led c.args.settings.now.lease (g.I.Read.remaining c.args.frames.reader) (g.W.Write.contents c.args.writer.now) (g.W.Write.contents c.serve_seat-seat.new.writer) c.serve_seat-seat.result.1 c.in-Ok.records c.close.result
+  frames_led (record { lease = c.args.settings.now.lease; limits = c.args.frames.limits }) (g.I.Read.remaining c.args.frames.reader) (g.W.Write.contents c.args.writer.now) (g.W.Write.contents c.serve_seat-seat.new.writer) c.serve_seat-seat.result.1 c.in-Ok.records c.close.result
       (without_master c.in-Ok.records) (hosted (λ s. s) c.serve_seat-seat.result.0) refl c.close.ensures c.serve_seat-seat.ensures.served,
 )
 
 pub returns-in-Err-close-clause-left : goal.returns-in-Err-close-clause-left
 returns-in-Err-close-clause-left g c =
-    let lease = c.args.settings.now.lease in
+    let terms = record { lease = c.args.settings.now.lease; limits = c.args.frames.limits } in
     let text = g.I.Read.remaining c.args.frames.reader in
     let before = g.W.Write.contents c.args.writer.now in
     let after = g.W.Write.contents c.serve_seat-seat.new.writer in
     let status = c.serve_seat-seat.result.1 in
-    left_open c.args.settings.now (file_state c.args.conn) (FramesLead lease text before after status) c.in-Ok.records c.close.result c.in-Err-close.store
+    left_open c.args.settings.now (file_state c.args.conn) (FramesLead terms text before after status) c.in-Ok.records c.close.result c.in-Err-close.store
     (record { cell = c.in-Ok.ensures.cell; left = c.in-Ok.ensures.left; none = c.in-Ok.ensures.counted; doubted = c.in-Ok.ensures.doubted; adopts = c.in-Ok.ensures.rows })
-    (frames_led lease text before after status c.in-Ok.records c.close.result (without_master c.in-Ok.records) (hosted (λ s. s) c.serve_seat-seat.result.0) refl c.close.ensures c.serve_seat-seat.ensures.served)
+    (frames_led terms text before after status c.in-Ok.records c.close.result (without_master c.in-Ok.records) (hosted (λ s. s) c.serve_seat-seat.result.0) refl c.close.ensures c.serve_seat-seat.ensures.served)
     c.in-Err-close.ensures.refused
 
 pub returns-in-Err-clause-left : goal.returns-in-Err-clause-left

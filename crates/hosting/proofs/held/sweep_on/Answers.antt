@@ -1,7 +1,7 @@
 use Rattle.std.proofs.Common.{refl, ◌∙◌, ap, arith}
 use Rattle.over_core.specs.Sweep.{sweep_edits}
 use Rattle.hosting.specs.declared.settling.Round.{Round}
-use Rattle.hosting.specs.Held.{GroupState, seen}
+use Rattle.hosting.specs.Held.{ground, seen}
 use Rattle.hosting.specs.Serving.{is_shut}
 use Rattle.hosting.proofs.Sweeps.{begins, begins_counting, counts_more, goes_on, ends_quiet, ends_refused, ends_late}
 use Rattle.hosting.proofs.HeldSweeps.{held_once, store_kept, held_refused, open_held}
@@ -43,7 +43,7 @@ pub returns-in-Err-clause-open : goal.returns-in-Err-clause-open
 returns-in-Err-clause-open g c = ap (λ (r : Round). is_shut r.end) c.ended_in-in-Err.ensures ∙ open_held _ _ _ c.in-Err.ensures.fault
 
 pub returns-in-Err-clause-store : goal.returns-in-Err-clause-store
-returns-in-Err-clause-store g c = ap (λ (s : GroupState). s.store) c.in-Err.ensures.err ∙ c.loop-done.invariant.store
+returns-in-Err-clause-store g c = ap ground c.in-Err.ensures.err ∙ c.loop-done.invariant.store
 
 pub returns-clause-ends : goal.returns-clause-ends
 returns-clause-ends g c = ends_late _ _ _ _ _ _ c.loop-done.invariant.going (omega arith) c.ended_in-2.ensures

@@ -1,5 +1,5 @@
 use Rattle.std.proofs.Common.{◌≡◌, length}
-use Rattle.hosting.specs.Held.{seen}
+use Rattle.hosting.specs.Held.{ground, seen}
 use Rattle.hosting.specs.Serving.{SweepsOnce}
 use Rattle.hosting.proofs.Sweeps.{Going}
 use Rattle.hosting.proofs.held.sweep_on.Given as goal
@@ -8,5 +8,5 @@ abbrev pub invariant-loop-done : goal.invariant-loop-done
 invariant-loop-done g l = record {
   going : Going (SweepsOnce l.now) (seen l.fn.group) l.sweeps.items (seen l.group);
   counted : length l.sweeps.items ≡ l._done;
-  store : l.group.store ≡ l.fn.group.store;
+  store : ground l.group ≡ ground l.fn.group;
 }

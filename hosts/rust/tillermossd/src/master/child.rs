@@ -10,7 +10,7 @@ use crate::master::starts::Starts;
 use crate::master::store::{self, Identity};
 use crate::net::connections::Hall;
 use crate::net::outgoing::Outgoing;
-use crate::serving::Reading;
+use crate::serving::{Reading, takes_many};
 use crate::settings::Settings;
 use anyhow::{Context, Result, bail};
 use host_wire::{ANSWER_LIMIT, Answer, Asked, Blocks, Frame, Heard, Printed, Said, Text, Told};
@@ -223,7 +223,7 @@ impl Making {
     fn spawn(&self, settings: &Path, pipes: Option<&Path>) -> Result<Child> {
         let mut command = self.program.command();
         match pipes {
-            Some(folder) => command.arg("serve").arg("--rows").arg(folder),
+            Some(folder) => command.arg("serve").arg("--rows").arg(folder).args(group_words(takes_many())),
             None => command.arg("serve").arg("--store").arg(&self.store),
         };
         command.arg("--settings").arg(settings);
@@ -252,6 +252,12 @@ impl Input {
             self.stream = None;
         }
     }
+}
+
+// What a master over etcd commits as one change. An edit is at most three operations beside that of the cell's own row; a stock etcd takes
+// 128 of them, and 1.5 MiB, in which a content that is no text takes two bytes for each of its own.
+fn group_words(takes_many: bool) -> [&'static str; 4] {
+    ["--group-edits", if takes_many { "3000" } else { "40" }, "--group-bytes", "700000"]
 }
 
 // What a block of the master tells.
