@@ -132,7 +132,7 @@ class Run:
         kind = words[0]
         self.counts[kind] = self.counts.get(kind, 0) + 1
         read = getattr(self, f"read_{kind.replace('-', '_')}", None)
-        holds("each line is one of those that FORMATS has", read is not None, kind)
+        holds("each line is one of those that SCRIPT has", read is not None, kind)
         if kind in ("started", "ended", "applied", "granted", "acked", "expired", "locked", "freed", "lapsed", "reopened", "recovered"):
             holds("only a master that is up changes anything", self.is_up, " ".join(step))
         read(*words[1:])

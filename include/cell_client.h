@@ -308,7 +308,7 @@ uint32_t cell_client_give(struct client_exports *client, uint64_t now, const uin
 uint32_t cell_client_message(struct client_exports *client, uint8_t *room, size_t room_length, size_t *length);
 
 /*
- * The lines, each with a LF behind it, as docs/FORMATS.md has them. "done C N RESULT" is how the call of number N ended, or one that the
+ * The lines, each with a LF after it, as docs/SCRIPT.md has them. "done C N RESULT" is how the call of number N ended, or one that the
  * client answered by itself, which is 0: there stands the number of a new handle, and what a call gives. "event C EVENT" tells of an
  * event, "jeopardy C", "safe C" and "lost C" of the session.
  */
