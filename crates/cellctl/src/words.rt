@@ -100,8 +100,8 @@ fn serve_words<'a>(alloc: Global) -> Result<Command<'a>, AllocError> {
     let serve = serve_about(alloc).arg(settings_word(alloc))?;
     let serve = with_word(serve, served_word(alloc))?;
     let serve = with_word(serve, rows_word(alloc))?;
-    let serve = with_word(serve, group_edits_word(alloc))?;
-    with_word(serve, group_bytes_word(alloc))
+    let serve = serve.arg(group_edits_word(alloc))?;
+    serve.arg(group_bytes_word(alloc))
 }
 
 fn with_word<'a>(
@@ -143,7 +143,7 @@ fn rows_word<'a>(alloc: Global) -> Result<Arg<'a>, AllocError> {
         .conflicts_with("store")
 }
 
-fn group_edits_word<'a>(alloc: Global) -> Result<Arg<'a>, AllocError> {
+fn group_edits_word<'a>(alloc: Global) -> Arg<'a> {
     Arg::new(alloc, "group-edits")
         .long("group-edits")
         .value_name("NUMBER")
@@ -152,7 +152,7 @@ fn group_edits_word<'a>(alloc: Global) -> Result<Arg<'a>, AllocError> {
         .value_parser(ValueParser::unsigned(1, u64::MAX))
 }
 
-fn group_bytes_word<'a>(alloc: Global) -> Result<Arg<'a>, AllocError> {
+fn group_bytes_word<'a>(alloc: Global) -> Arg<'a> {
     Arg::new(alloc, "group-bytes")
         .long("group-bytes")
         .value_name("NUMBER")
