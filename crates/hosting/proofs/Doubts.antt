@@ -24,6 +24,8 @@ use Rattle.hosting.specs.declared.stops.GroupStop.TheVariants.{Stopped, Refused}
 use Rattle.hosting.specs.Serving.{SweepsOnce, BeatsOnce, StepsTo, StopsAt, BeatStops, EndsBy, BeatsBehind, Settles, Answers, is_shut}
 use Rattle.hosting.specs.Seats.{Hosted, with_master, without_master, cell_of, ComesIn, Arrives, Listens, Ticks, Leaves, Stands, Does}
 use Rattle.hosting.specs.Streams.{Answer, Done, Turn, Turns, MaybeOne}
+use Rattle.hosting.specs.declared.pieces.GroupTerms.{GroupTerms}
+use Rattle.hosting.proofs.PieceLaws.{cut_doubts, each_committed}
 use Rattle.hosting.specs.Groups.{TakesGroup, Groups, ServedGroups, MaybeLost, EndsGroups}
 
 abbrev Known : Type 0
@@ -157,14 +159,14 @@ turns_grow lease text a (answer ∷ given) b rest t =
     let turn : Turn lease text a answer t.0 t.1 = t.2 in
     chain a.store.doubt t.0.store.doubt b.store.doubt (does_grow lease turn.done.sent a answer.reply t.0 turn.done.does) (turns_grow lease t.1 t.0 given b rest t.3)
 
-takes_grow : (lease : ℕ) (text : Known) (a : Hosted) (given : List Answer) (b : Hosted) (rest : Known) → TakesGroup lease text a given b rest → Grows a.store b.store
-takes_grow lease text a given b rest (inl t) = turns_grow lease text a given b rest t
-takes_grow lease text a given b rest (inr k) = k.committed.doubted
+takes_grow : (terms : GroupTerms) (text : Known) (a : Hosted) (given : List Answer) (b : Hosted) (rest : Known) → TakesGroup terms text a given b rest → Grows a.store b.store
+takes_grow terms text a given b rest (inl t) = turns_grow terms.lease text a given b rest t
+takes_grow terms text a given b rest (inr k) = (each_committed k.pieces a.store b.store k.committed).doubted
 
-groups_grow : (lease : ℕ) (text : Known) (a : Hosted) (groups : List (List Answer)) (b : Hosted) (rest : Known) → Groups lease text a groups b rest → Grows a.store b.store
-groups_grow lease text a [] b rest t = host_stays a b t.0
-groups_grow lease text a (group ∷ groups) b rest t =
-    chain a.store.doubt t.0.store.doubt b.store.doubt (takes_grow lease text a group t.0 t.1 t.2) (groups_grow lease t.1 t.0 groups b rest t.3)
+groups_grow : (terms : GroupTerms) (text : Known) (a : Hosted) (groups : List (List Answer)) (b : Hosted) (rest : Known) → Groups terms text a groups b rest → Grows a.store b.store
+groups_grow terms text a [] b rest t = host_stays a b t.0
+groups_grow terms text a (group ∷ groups) b rest t =
+    chain a.store.doubt t.0.store.doubt b.store.doubt (takes_grow terms text a group t.0 t.1 t.2) (groups_grow terms t.1 t.0 groups b rest t.3)
 
 lost_grows : (a b : Hosted) → MaybeLost a b → Grows a.store b.store
 lost_grows a b (inl e) = host_stays a b e
@@ -175,16 +177,16 @@ one_grows lease text a b (inl e) = host_stays a b e
 one_grows lease text a b (inr (reply, rest, done)) = does_grow lease done.sent a reply b done.does
 
 -- however groups of frames ended
-pub ends_groups_grow : (lease : ℕ) (text : Known) (a : Hosted) (ended : Result (Unit {0}) GroupStop) (b : Hosted) (before after : Known) → EndsGroups lease text a ended b before after
+pub ends_groups_grow : (terms : GroupTerms) (text : Known) (a : Hosted) (ended : Result (Unit {0}) GroupStop) (b : Hosted) (before after : Known) → EndsGroups terms text a ended b before after
     → Grows a.store b.store
-ends_groups_grow lease text a (Ok x) b before after e = groups_grow lease text a e.1.groups b e.0 e.1.done
-ends_groups_grow lease text a (Err (Stopped Unread)) b before after e =
-    chain a.store.doubt e.0.store.doubt b.store.doubt (groups_grow lease text a e.2.groups e.0 e.1 e.2.done) (lost_grows e.0 b e.3)
-ends_groups_grow lease text a (Err (Stopped NoMemory)) b before after e =
-    chain a.store.doubt e.0.store.doubt b.store.doubt (groups_grow lease text a e.2.groups e.0 e.1 e.2.done)
-    (elim e.3 [ inl one ↦ one_grows lease e.1 e.0 b one | inr lost ↦ lost_grows e.0 b lost ])
-ends_groups_grow lease text a (Err (Stopped Unwritten)) b before after e =
-    chain a.store.doubt e.0.store.doubt b.store.doubt (groups_grow lease text a e.4.groups e.0 e.1 e.4.done)
-    (takes_grow lease e.1 e.0 e.5.0 b e.2 e.5.2)
-ends_groups_grow lease text a (Err (Refused fault)) b before after e =
-    chain a.store.doubt e.0.store.doubt b.store.doubt (groups_grow lease text a e.2.groups e.0 e.1 e.2.done) e.3.refused.doubted
+ends_groups_grow terms text a (Ok x) b before after e = groups_grow terms text a e.1.groups b e.0 e.1.done
+ends_groups_grow terms text a (Err (Stopped Unread)) b before after e =
+    chain a.store.doubt e.0.store.doubt b.store.doubt (groups_grow terms text a e.2.groups e.0 e.1 e.2.done) (lost_grows e.0 b e.3)
+ends_groups_grow terms text a (Err (Stopped NoMemory)) b before after e =
+    chain a.store.doubt e.0.store.doubt b.store.doubt (groups_grow terms text a e.2.groups e.0 e.1 e.2.done)
+    (elim e.3 [ inl one ↦ one_grows terms.lease e.1 e.0 b one | inr lost ↦ lost_grows e.0 b lost ])
+ends_groups_grow terms text a (Err (Stopped Unwritten)) b before after e =
+    chain a.store.doubt e.0.store.doubt b.store.doubt (groups_grow terms text a e.4.groups e.0 e.1 e.4.done)
+    (takes_grow terms e.1 e.0 e.5.0 b e.2 e.5.2)
+ends_groups_grow terms text a (Err (Refused fault)) b before after e =
+    chain a.store.doubt e.0.store.doubt b.store.doubt (groups_grow terms text a e.2.groups e.0 e.1 e.2.done) (cut_doubts fault e.3.pieces e.0.store b.store e.3.refused)

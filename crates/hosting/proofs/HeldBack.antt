@@ -12,7 +12,7 @@ pub changed_behind : (rows : Rows) (front back : List Edit) → changed_rows row
 changed_behind rows [] back = refl
 changed_behind rows (edit ∷ front) back = changed_behind (edited rows edit) front back
 
-left_behind : (front back : List Edit) (leave : List Rows) (mid rows : Rows) → (back ≡ [] → rows ≡ mid) → left_by (front ++ back) leave rows ≡ left_by back (left_by front leave mid) rows
+pub left_behind : (front back : List Edit) (leave : List Rows) (mid rows : Rows) → (back ≡ [] → rows ≡ mid) → left_by (front ++ back) leave rows ≡ left_by back (left_by front leave mid) rows
 left_behind [] [] leave mid rows same = refl
 left_behind [] (edit ∷ back) leave mid rows same = refl
 left_behind (edit ∷ front) [] leave mid rows same = ap (λ (r : Rows). r ∷ []) (same refl)

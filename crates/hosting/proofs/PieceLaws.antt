@@ -1,21 +1,23 @@
 -- What a group changes, in pieces that the store takes.
-use Rattle.std.proofs.Common.{◌≡◌, ◌≢◌, inl, inr, ℕ, ◌≤◌, ◌+◌, ◌-◌, Bool, true, false, cond, ◌&&◌, nat_le, List, [], ◌∷◌, ◌++◌, length, Option, None, Some, refl, sym, ap, subst, ◌∙◌, arith, append-nil, append_assoc, if◌then◌else◌}
-use Rattle.std.specs.Prelude.{◌⊎◌}
+use Rattle.std.proofs.Common.{◌≡◌, ◌≢◌, inl, inr, ℕ, ◌≤◌, ◌+◌, ◌-◌, Bool, true, false, cond, ◌&&◌, nat_le, List, [], ◌∷◌, ◌++◌, length, Option, None, Some, refl, sym, ap, subst, ◌∙◌, arith, append-nil, append_assoc, length-append, if◌then◌else◌, suc, take, drop, get_or, take-suc, ◌<◌, nat_lt}
+use Rattle.std.specs.Prelude.{◌⊎◌, Result, Ok, Err, OnOk, IfErr}
 use Rattle.std.specs.List.{AllByRecursion}
 use Rattle.node_core.specs.declared.refusals.Fault.{Fault}
 use Rattle.rows_cell.specs.declared.tables.Edit.{Edit}
 use Rattle.rows_cell.specs.declared.tables.Rows.{Rows}
 use Rattle.rows_cell.specs.Rows.{changed_rows}
 use Rattle.rows_cell.specs.Sound.{sound}
-use Rattle.rows_cell.specs.Stores.{Store, IsCommitted, IsRefused}
+use Rattle.rows_cell.specs.Stores.{Store, left_by, IsCommitted, IsRefused}
 use Rattle.hosting.specs.declared.pieces.GroupLimits.{GroupLimits}
 use Rattle.hosting.specs.Pieces.{HeldPieces, AreSound, AreTaken, CommitsEach, IsCutShort, IsOneSweep, all_held, all_pieces, begun, bytes_left, full_with, held_with, is_within, joined, no_pieces, room_beside, total_weight, weight}
+use Rattle.std.proofs.lemmas.Bool.Decides.{nat_tests}
+use Rattle.std.proofs.lemmas.List.{take-append-drop}
 use Rattle.hosting.proofs.HeldBack.{changed_behind, left_behind}
 
 -- ---- what is within the limits
 
 pub total_behind : (front back : List Edit) → total_weight (front ++ back) ≡ total_weight front + total_weight back
-total_behind [] back = refl
+total_behind [] back = omega arith
 total_behind (edit ∷ front) back = omega (arith, total_behind front back)
 
 -- ---- all that is held
@@ -80,14 +82,14 @@ held_taken held (edit ∷ edits) t one =
     (taken_with held.limits (full_with held.full held.last) (edit ∷ edits) (taken_full held.limits held.full held.last t) (inr one))
 
 pub none_taken : (limits : GroupLimits) → AreTaken limits (all_pieces (no_pieces limits))
-none_taken limits = (inl refl, tt)
+none_taken limits = (inl (grind (arith, nat_tests)), tt)
 
 -- ---- the rows are sound after each
 
 joined_one : (rows : Rows) (piece : List Edit) → changed_rows rows (joined (piece ∷ [])) ≡ changed_rows rows piece
 joined_one rows piece = ap (changed_rows rows) (append-nil piece)
 
-sound_front : (cell : List ℕ) (rows : Rows) (front : List (List Edit)) (piece : List Edit) → AreSound cell rows (front ++ piece ∷ []) → AreSound cell rows front
+pub sound_front : (cell : List ℕ) (rows : Rows) (front : List (List Edit)) (piece : List Edit) → AreSound cell rows (front ++ piece ∷ []) → AreSound cell rows front
 sound_front cell rows [] piece s = tt
 sound_front cell rows (first ∷ front) piece s = (s.0, sound_front cell (changed_rows rows first) front piece s.1)
 
@@ -110,7 +112,7 @@ held_sound cell rows held (edit ∷ edits) s is =
     let P : HeldPieces → Type 0 = λ h. AreSound cell rows (all_pieces h) in
     let Q : List Edit → Type 0 = λ u. sound cell (changed_rows rows u) ≡ true in
     let before : all_held held ≡ joined held.full ++ held.last = joined_behind held.full held.last in
-    let beside : Q (joined held.full ++ held.last ++ edit ∷ edits) =
+    let beside : Q (joined held.full ++ (held.last ++ edit ∷ edits)) =
         subst Q (ap (λ (u : List Edit). u ++ edit ∷ edits) before ∙ append_assoc (joined held.full) held.last (edit ∷ edits)) is in
     let begins : Q (joined (full_with held.full held.last) ++ edit ∷ edits) =
         subst Q (ap (λ (u : List Edit). u ++ edit ∷ edits) (before ∙ sym (full_joined held.full held.last))) is in
@@ -158,3 +160,66 @@ sound_after (piece ∷ front) back old mid c s =
     let P : List ℕ → Type 0 = λ u. AreSound u (changed_rows old.rows piece) (front ++ back) in
     let Q : Rows → Type 0 = λ r. AreSound c.0.cell r (front ++ back) in
     sound_after front back c.0 mid c.2 (subst Q (sym first.rows) (subst P (sym first.cell) s.1))
+
+pub cut_front : (fault : Fault) (front : List (List Edit)) (last : List Edit) (old new : Store) → IsCutShort fault front old new → IsCutShort fault (front ++ last ∷ []) old new
+cut_front fault front last old new d =
+    (d.0, d.1, d.2 ++ last ∷ [], d.3, ap (λ (u : List (List Edit)). u ++ last ∷ []) d.4 ∙ append_assoc d.0 (d.1 ∷ d.2) (last ∷ []), d.5, d.6)
+
+-- ---- one after the other
+
+split_at : {X : Type 0} (xs : List X) (i : ℕ) (x : X) → i < length xs → x ≡ get_or xs i x → xs ≡ take i xs ++ x ∷ drop (suc i) xs
+split_at {X = X} xs i x lt at =
+    sym (take-append-drop (suc i) xs) ∙ ap (λ (u : List X). u ++ drop (suc i) xs) (take-suc xs i x lt ∙ ap (λ (y : X). take i xs ++ y ∷ []) (sym at)) ∙ append_assoc (take i xs) (x ∷ []) (drop (suc i) xs)
+
+taken_more : {X : Type 0} (xs : List X) (i : ℕ) (x : X) → i < length xs → x ≡ get_or xs i x → take (i + 1) xs ≡ take i xs ++ x ∷ []
+taken_more {X = X} xs i x lt at =
+    let next : i + 1 ≡ suc i = omega arith in
+    ap (λ (n : ℕ). take n xs) next ∙ take-suc xs i x lt ∙ ap (λ (y : X). take i xs ++ y ∷ []) (sym at)
+
+pub commit_more : (pieces : List (List Edit)) (i : ℕ) (piece : List Edit) (old now new : Store) → i < length pieces → piece ≡ get_or pieces i piece → CommitsEach (take i pieces) old now → IsCommitted piece now new
+    → CommitsEach (take (i + 1) pieces) old new
+commit_more pieces i piece old now new lt at before c =
+    let P : List (List Edit) → Type 0 = λ u. CommitsEach u old new in
+    subst P (sym (taken_more pieces i piece lt at)) (each_then (take i pieces) (piece ∷ []) old now new before (new, c, refl))
+
+pub sound_next : (pieces : List (List Edit)) (i : ℕ) (piece : List Edit) (old now : Store) → i < length pieces → piece ≡ get_or pieces i piece → AreSound old.cell old.rows pieces → CommitsEach (take i pieces) old now
+    → sound now.cell (changed_rows now.rows piece) ≡ true
+sound_next pieces i piece old now lt at s before =
+    let P : List (List Edit) → Type 0 = λ u. AreSound old.cell old.rows u in
+    (sound_after (take i pieces) (piece ∷ drop (suc i) pieces) old now before (subst P (split_at pieces i piece lt at) s)).0
+
+pub cut_at : (fault : Fault) (pieces : List (List Edit)) (i : ℕ) (piece : List Edit) (old now new : Store) → i < length pieces → piece ≡ get_or pieces i piece → CommitsEach (take i pieces) old now → IsRefused fault piece now new
+    → IsCutShort fault pieces old new
+cut_at fault pieces i piece old now new lt at before r = (take i pieces, piece, drop (suc i) pieces, now, split_at pieces i piece lt at, before, r)
+
+-- ---- how many bytes are left
+
+some_weight : (edits : List Edit) → edits ≢ [] → 1 ≤ total_weight edits
+some_weight [] none = absurd (none refl)
+some_weight (edit ∷ edits) some = omega arith
+
+room_plain : (last more most bytes there come left : ℕ) → left ≡ bytes - there → 1 ≤ come → more ≤ most → last ≤ most - more
+    → (if nat_le come left then Some (left - come) else None) ≡ (if nat_le (last + more) most && nat_le (there + come) bytes then Some (bytes - (there + come)) else None)
+room_plain last more most bytes there come left is some few fit = grind (arith, nat_tests)
+
+pub room_is : (held : HeldPieces) (edits : List Edit) (left : ℕ) → left ≡ held.limits.bytes - total_weight held.last → edits ≢ [] → length edits ≤ held.limits.edits
+    → length held.last ≤ held.limits.edits - length edits → bytes_left left edits ≡ room_beside held edits
+room_is held edits left is some few fit =
+    let P : ℕ → ℕ → Type 0 = λ n w. bytes_left left edits ≡ (if nat_le n held.limits.edits && nat_le w held.limits.bytes then Some (held.limits.bytes - w) else None) in
+    subst (λ w. P (length (held.last ++ edits)) w) (sym (total_behind held.last edits)) (subst (λ n. P n (total_weight held.last + total_weight edits)) (sym (length-append held.last edits))
+    (room_plain (length held.last) (length edits) held.limits.edits held.limits.bytes (total_weight held.last) (total_weight edits) left is (some_weight edits some) few fit))
+
+-- ---- the last one
+
+pub ends_each : (result : Result (Unit {0}) Fault) (front : List (List Edit)) (last : List Edit) (old mid new : Store) → CommitsEach front old mid → OnOk result (IsCommitted last mid new) → OnOk result (CommitsEach (front ++ last ∷ []) old new)
+ends_each (Ok x) front last old mid new c d = each_then front (last ∷ []) old mid new c (new, d, refl)
+ends_each (Err e) front last old mid new c d = tt
+
+pub cut_ends : (result : Result (Unit {0}) Fault) (front : List (List Edit)) (last : List Edit) (old mid new : Store) → CommitsEach front old mid → IfErr result (λ e. IsRefused e last mid new) → IfErr result (λ e. IsCutShort e (front ++ last ∷ []) old new)
+cut_ends (Ok x) front last old mid new c r = tt
+cut_ends (Err e) front last old mid new c r = (front, last, [], mid, refl, c, r)
+
+pub cut_doubts : (fault : Fault) (pieces : List (List Edit)) (old new : Store) → IsCutShort fault pieces old new → old.doubt ≤ new.doubt
+cut_doubts fault pieces old new d =
+    let front = each_committed d.0 old d.3 d.5 in
+    omega (arith, front.doubted, d.6.doubted)

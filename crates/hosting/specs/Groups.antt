@@ -97,7 +97,7 @@ EndsGroups terms text old (Ok x) new before after = (rest : Known) × ServedGrou
 EndsGroups terms text old (Err (Stopped Unread)) new before after =
     (mid : Hosted) × (rest : Known) × ServedGroups terms text old mid rest before after × MaybeLost mid new
 EndsGroups terms text old (Err (Stopped NoMemory)) new before after =
-    (mid : Hosted) × (rest : Known) × ServedGroups terms text old mid rest before after × (MaybeOne terms rest mid new ⊎ MaybeLost mid new)
+    (mid : Hosted) × (rest : Known) × ServedGroups terms text old mid rest before after × (MaybeOne terms.lease rest mid new ⊎ MaybeLost mid new)
 EndsGroups terms text old (Err (Stopped Unwritten)) new before after =
     (mid : Hosted) × (rest : Known) × (behind : Known) × (between : Known)
     × ServedGroups terms text old mid rest before between × BreaksGroup terms rest mid new behind between after

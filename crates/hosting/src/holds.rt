@@ -38,8 +38,10 @@ impl<R: Records> Model for Group<R> {
     ghost view = { λ g. record { master = g.master; store = R.store g.records; held = g.held } };
 
     ghost invariant = { λ g. record {
-      kept : IsKept (R.store g.records).cell (changed_rows (R.store g.records).rows g.held) g.master;
-      settled : IsSettled (store_behind (R.store g.records) g.held);
+      kept : IsKept (R.store g.records).cell (changed_rows (R.store g.records).rows (all_held g.held)) g.master;
+      settled : IsSettled (store_behind (R.store g.records) (all_held g.held));
+      sound : AreSound (R.store g.records).cell (R.store g.records).rows (all_pieces g.held);
+      taken : AreTaken g.held.limits (all_pieces g.held);
     } };
 }
 

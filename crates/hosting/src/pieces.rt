@@ -1,7 +1,9 @@
 //! What a group changes, in pieces that the store takes.
-ghost use Rattle.std.specs.Prelude.{◌≡◌, ◌≢◌, [], OnOk, OnErr, IfErr, length};
-ghost use Rattle.rows_cell.specs.Stores.{Store};
-ghost use Rattle.hosting.specs.Pieces.{HeldPieces, AreSound, CommitsEach, IsCutShort, all_held, all_pieces, begun, bytes_left, held_with, is_within, no_pieces, room_beside};
+ghost use Rattle.std.specs.Prelude.{◌≡◌, ◌≢◌, ◌++◌, [], true, Some, OnOk, OnErr, IfErr, length};
+ghost use Rattle.rows_cell.specs.Rows.{changed_rows};
+ghost use Rattle.rows_cell.specs.Sound.{sound};
+ghost use Rattle.rows_cell.specs.Stores.{IsCommitted, IsRefused};
+ghost use Rattle.hosting.specs.Pieces.{AreSound, CommitsEach, IsCutShort, all_pieces, begun, bytes_left, content_bytes, held_with, no_pieces, room_beside};
 
 use node_core::Fault;
 use collections::Items;
@@ -135,8 +137,10 @@ impl Pieces {
         ensures err { IfErr result (λ e. IsCutShort e (all_pieces self) (R.store records.old) (R.store records.new)) }
     {
         let Pieces { full, last, .. } = self;
-        commit_each(records, full.as_slice())?;
-        Ok(records.commit(&last)?)
+        match commit_each(records, full.as_slice()) {
+            Ok(()) => commit_one(records, &last),
+            Err(fault) => Err(fault),
+        }
     }
 }
 
@@ -146,9 +150,23 @@ fn commit_each<R: Records>(records: &mut R, pieces: &[Items<Edit>]) -> Result<()
     ensures err { IfErr result (λ e. IsCutShort e pieces.now (R.store records.old) (R.store records.new)) }
 {
     for piece in pieces {
-        records.commit(piece)?;
+        match commit_one(records, piece) {
+            Ok(()) => {}
+            Err(fault) => return Err(fault),
+        }
     }
     Ok(())
+}
+
+fn commit_one<R: Records>(records: &mut R, piece: &Items<Edit>) -> Result<(), Fault>
+    requires { sound (R.store records.old).cell (changed_rows (R.store records.old).rows piece.now) ≡ true }
+    ensures ok { OnOk result (IsCommitted piece.now (R.store records.old) (R.store records.new)) }
+    ensures err { IfErr result (λ e. IsRefused e piece.now (R.store records.old) (R.store records.new)) }
+{
+    match records.commit(piece) {
+        Ok(()) => Ok(()),
+        Err(fault) => Err(fault.into()),
+    }
 }
 
 // How many bytes are left behind edits, where they fit.

@@ -1,6 +1,6 @@
 -- A watch whose passes are all there, with sound receipts.
 use Rattle.std.proofs.Common.{◌≡◌, ◌⊎◌, inl, inr, ℕ, zero, suc, ◌+◌, ◌<◌, ◌≤◌, max, List, [], ◌∷◌, ◌++◌, length, true, false, ◌==◌, refl, sym, ap, ◌∙◌, subst, arith, length-append}
-use Rattle.std.specs.Prelude.{if◌then◌else◌}
+use Rattle.std.specs.Prelude.{if◌then◌else◌, Result, Ok, Err, IfErr}
 use Rattle.std.proofs.lemmas.Bool.Decides.{nat_tests}
 use Rattle.std.proofs.lemmas.Option.{slice_get_within}
 use Rattle.rights_core.specs.declared.totals.Totals.{Totals}
@@ -131,3 +131,8 @@ settled_by opening cell seats trail trail' r r' ps ps' early late i a x c totals
     subst (λ (w : List Hand). Settled opening seats (early ++ w) cell trail totals) (sym el)
     (subst (λ (w : List Hand). Settled opening seats (w ++ ps) cell trail totals) (sym ee)
     (settled opening cell seats trail (r ++ ps) i a x c totals kept is balance there' sound' ji.few receipts (λ n. (ji.sum n, ja.sum n, jx.sum n, jc.sum n))))
+
+-- of what comes back with a refusal, the other half
+pub other_half : {X E : Type 0} (A B : E → Type 0) (result : Result X E) → IfErr result (λ e. A e × B e) → IfErr result B
+other_half A B (Ok x) back = tt
+other_half A B (Err e) back = back.1

@@ -1,8 +1,14 @@
+use Rattle.std.proofs.Common.{refl}
+use Rattle.hosting.specs.declared.gathers.Behind.TheVariants as behinds
+use Rattle.hosting.specs.declared.gathers.Onward.TheVariants as onwards
 use Rattle.hosting.proofs.Gathering.{done_on, alone_on, stopped_on}
 use Rattle.hosting.proofs.gathers.go_on.Goals as goal
 
-pub returns-in-Done : goal.returns-in-Done
-returns-in-Done g c = done_on _ _ _ _ _ _ _ _ _ c.in-Done.is c.do_held.ensures c.next_there.ensures
+pub returns-then-is_parted : goal.returns-then-is_parted
+returns-then-is_parted g c = done_on (onwards.Ends behinds.Nothing) _ _ _ _ _ _ _ _ c.in-Done.is c.do_held.ensures refl
+
+pub returns-else-is_parted : goal.returns-else-is_parted
+returns-else-is_parted g c = done_on _ _ _ _ _ _ _ _ _ c.in-Done.is c.do_held.ensures c.next_there.ensures
 
 pub returns-in-Alone : goal.returns-in-Alone
 returns-in-Alone g c = alone_on _ _ _ _ _ _ _ c.in-Alone.is c.do_held.ensures
