@@ -88,7 +88,7 @@ struct cell_client_line {
     uint64_t length;
     uint32_t kind;
     uint32_t life;
-    /* Of a refusal, what docs/FORMATS.md has behind its name: a generation, a count, milliseconds, an epoch or a place; of 8 the KIND that
+    /* Of a refusal, what docs/FORMATS.md has after its name: a generation, a count, milliseconds, an epoch or a place; of 8 the KIND that
      * is there, of 10 the right that is missing (READ, WRITE or CHANGE_ACL), of 23 the lock's mode. */
     uint64_t argument;
     /* Of an EVENT, the number of the call that opened its handle; 0 where it is of no handle. */
@@ -148,7 +148,7 @@ struct cell_client_line {
 #define CELL_CLIENT_NO_MEMORY 1u
 /* The cache holds that the name has no node, at an Open. */
 #define CELL_CLIENT_NOT_FOUND 6u
-/* A moment of 2^53 or more, or a number behind the last. */
+/* A moment of 2^53 or more, or a number after the last. */
 #define CELL_CLIENT_EXHAUSTED 13u
 /* The cache holds that the node of this handle is gone. */
 #define CELL_CLIENT_STALE_INSTANCE 14u
@@ -267,7 +267,7 @@ uint32_t cell_client_leave(struct client_exports *client, uint64_t now);
  * view, of a directory with its children. DONE: the Close of a handle whose node stays open for others. Else a refusal: NOT_FOUND
  * and STALE_INSTANCE out of the cache, all others as above.
  *
- * A Leave ends the session. From then on the cache is empty and off, and each other call is NO_SESSION; go on beating. Behind "done C N ok"
+ * A Leave ends the session. From then on the cache is empty and off, and each other call is NO_SESSION; go on beating. After "done C N ok"
  * the session is over, and the cell waits for the client no more. Where that was refused, ask again.
  */
 uint32_t cell_client_ask(struct client_exports *client, uint64_t now, const uint8_t *call, size_t call_length);
@@ -315,7 +315,7 @@ uint32_t cell_client_message(struct client_exports *client, uint8_t *room, size_
 uint32_t cell_client_lines(struct client_exports *client, uint8_t *room, size_t room_length, size_t *length);
 
 /*
- * The line that stands at this place among those of the last step, the first at 0; its `what` is NO_LINE behind the last.
+ * The line that stands at this place among those of the last step, the first at 0; its `what` is NO_LINE after the last.
  */
 void cell_client_line(struct client_exports *client, size_t place, struct cell_client_line *line);
 
