@@ -246,6 +246,30 @@ uint32_t cell_client_release(struct client_exports *client, uint64_t now, uint64
 /* Asks for what describes the lock that the handle holds; cell_client_line_bytes has it then. */
 uint32_t cell_client_get_sequencer(struct client_exports *client, uint64_t now, uint64_t handle);
 
+/* The fencing number of a sequencer, in decimal digits with a 0 byte after them: it is greater for each later holder of a lock, also if the
+ * node was deleted in between and made again. Whoever holds the lock shows it to what it guards, which takes no number below the
+ * greatest that it saw. The answer is how many digits there are; 0 if these are no sequencer's bytes. */
+static inline size_t cell_client_fencing_number(const uint8_t *sequencer, size_t sequencer_length, char digits[40]) {
+    size_t count = 0;
+    uint8_t number[16];
+    if (sequencer_length < 18 || sequencer[0] != 1) return 0;
+    for (size_t at = 0; at < 16; at++) number[at] = sequencer[2 + at];
+    for (int is_zero = 0; !is_zero;) {
+        unsigned rest = 0;
+        is_zero = 1;
+        for (size_t at = 0; at < 16; at++) {
+            rest = rest << 8 | number[at];
+            number[at] = (uint8_t)(rest / 10);
+            rest %= 10;
+            if (number[at]) is_zero = 0;
+        }
+        for (size_t at = count++; at > 0; at--) digits[at] = digits[at - 1];
+        digits[0] = (char)('0' + rest);
+    }
+    digits[count] = 0;
+    return count;
+}
+
 /* Once this is done each later call on the handle but a Close stands under this sequencer. */
 uint32_t cell_client_set_sequencer(struct client_exports *client, uint64_t now, uint64_t handle, const uint8_t *sequencer,
                                    size_t sequencer_length);
