@@ -14,6 +14,7 @@ mod greetings;
 mod heard;
 mod library;
 mod notices;
+mod numbers;
 mod refusals;
 pub mod rows;
 mod said;

@@ -31,6 +31,7 @@ mod keeper;
 mod library;
 mod lines;
 mod nodes;
+mod numbers;
 mod outgoing;
 mod reaching;
 mod refusals;
