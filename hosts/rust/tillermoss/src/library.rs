@@ -312,6 +312,15 @@ impl Library {
         }
     }
 
+    /// Whether the cache would serve a read of this handle now. No step, and nothing is copied.
+    pub fn holds(&mut self, now: u64, number: u64) -> bool {
+        let mut handle = self.handle();
+        let mut length = 0;
+        // SAFETY: as above; into no room nothing is written.
+        let code = unsafe { cell_client_hit(&raw mut handle, now, number, NonNull::dangling().as_ptr(), 0, &raw mut length) };
+        Status::of(code) == Status::Served
+    }
+
     /// Poisons a handle.
     pub fn poison(&mut self, now: u64, number: u64) -> Status {
         let mut handle = self.handle();

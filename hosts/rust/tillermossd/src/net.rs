@@ -3,7 +3,6 @@
 pub(crate) mod connections;
 pub(crate) mod crowd;
 pub(crate) mod doors;
-pub(crate) mod lobby;
 pub(crate) mod outgoing;
 pub(crate) mod rates;
 pub(crate) mod routes;

@@ -1,12 +1,16 @@
 //! What server, clients and command line are tested with.
 
+mod asking;
 mod disks;
 mod etcd;
 mod fail_overs;
 mod far;
+mod gateway_history;
+mod gateways;
 mod history;
 mod holder;
 mod holds;
+mod languages;
 mod masters;
 mod members;
 mod plain;
@@ -24,9 +28,12 @@ pub use fail_overs::{
     write_beside_one_that_stays_behind,
 };
 pub use far::far_from;
+pub use gateway_history::{Tally, Trouble, run_gateway_history};
+pub use gateways::{Answered, Gateway, curl};
 pub use history::{Read, Write, check_history};
 pub use holder::Holder;
 pub use holds::{Hold, check_holds};
+pub use languages::run_languages;
 pub use masters::{Master, forged, messages, opening};
 pub use members::Member;
 pub use plain::{Plain, Talker, again, answer, new, start};
