@@ -118,7 +118,10 @@ impl Desk {
         let begun = Instant::now();
         while begun.elapsed() < LATEST {
             match timeout(LOOK, &mut asked).await {
-                Ok(answered) => return Ok(answered.unwrap_or(Err(Error::Closed))?),
+                Ok(answered) => {
+                    let answered = answered.unwrap_or(Err(Error::Closed)).map_err(Fault::from);
+                    return answered.map_err(Fault::of_what_may_be_asked_again);
+                }
                 Err(_) if reader.lease_left().is_zero() => return Err(Refusal::InJeopardy.into()),
                 Err(_) => {}
             }

@@ -133,6 +133,14 @@ impl Fault {
         matches!(self.parts().2, 423 | 429 | 503)
     }
 
+    /// Of what changes nothing, or may be asked for again, it doesn't matter whether it was done.
+    pub fn of_what_may_be_asked_again(self) -> Fault {
+        match self {
+            Fault::Unknown | Fault::Cell(Error::Refused(Refusal::Unknown)) => Fault::Late,
+            fault => fault,
+        }
+    }
+
     fn message(&self) -> String {
         match self {
             Fault::Cell(error) => error.to_string(),
@@ -194,6 +202,8 @@ mod tests {
         for (fault, status) in rows {
             assert_eq!(fault.status().as_u16(), status, "{fault:?}");
         }
+        assert_eq!(Fault::from(Refusal::Unknown).of_what_may_be_asked_again().status().as_u16(), 503);
+        assert_eq!(Fault::from(Refusal::NotFound).of_what_may_be_asked_again().status().as_u16(), 404);
         let shown = Fault::from(Refusal::WrongGeneration(3)).shown();
         assert_eq!((shown["number"].as_u64(), shown["name"].as_str()), (Some(11), Some("WrongGeneration")));
     }

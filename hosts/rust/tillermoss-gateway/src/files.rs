@@ -179,7 +179,10 @@ fn replace(
 /// Makes a directory.
 pub async fn make_directory(desk: &Arc<Desk>, name: &str) -> Result<Response<Body>, Fault> {
     let opening = Opening { create: Some(Create { must: true, ..Create::default() }), ..Opening::new(name, Mode::READ) };
-    let make = move |client: &Client, opened: &mut Vec<Handle>| Ok(opened.push(client.open_with(&opening)?));
+    let make = move |client: &Client, opened: &mut Vec<Handle>| {
+        opened.push(client.open_with(&opening)?);
+        Ok(())
+    };
     desk.write(make).await?;
     Ok(answers::bare(StatusCode::CREATED))
 }

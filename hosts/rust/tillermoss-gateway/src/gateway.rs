@@ -171,10 +171,12 @@ async fn on_list(desk: &Arc<Desk>, name: &str, request: &Request<Body>) -> Resul
 }
 
 async fn on_lock(asker: Asker<'_>, name: &str, request: &Request<Body>) -> Result<Response<Body>, Fault> {
-    if *request.method() == Method::DELETE {
-        return asker.release(name, &Query::of(request.uri(), &["session"])?).await;
-    }
-    asker.acquire(name, &Query::of(request.uri(), &["session", "mode", "wait", "delay"])?).await
+    let answered = if *request.method() == Method::DELETE {
+        asker.release(name, &Query::of(request.uri(), &["session"])?).await
+    } else {
+        asker.acquire(name, &Query::of(request.uri(), &["session", "mode", "wait", "delay"])?).await
+    };
+    answered.map_err(Fault::of_what_may_be_asked_again)
 }
 
 async fn watch(desk: &Arc<Desk>, name: &str, request: &Request<Body>) -> Result<Response<Body>, Fault> {

@@ -11,7 +11,7 @@ use hyper::{Body, Response, StatusCode};
 use serde_json::{Value, json};
 use std::sync::Arc;
 use std::time::Duration;
-use tillermoss::{Error, LockMode, Refusal, Sequencer};
+use tillermoss::{LockMode, Refusal, Sequencer};
 
 /// So many seconds a session lives behind the last request that names it, where nothing else is said; and at most.
 const SPAN: (u64, u64) = (30, 3600);
@@ -102,7 +102,7 @@ pub async fn check(desk: &Arc<Desk>, body: &Bytes) -> Result<Response<Body>, Fau
     let text = object.as_ref().map_or(Some(text), |object| object["sequencer"].as_str()).ok_or(Refusal::BadSequencer)?;
     let bytes = hex::decode(text).map_err(|_| Refusal::BadSequencer)?;
     let shown = shown::sequencer(&bytes, &read(&bytes)?);
-    let checked: Result<(), Error> = desk.write(move |client, _| Ok(client.check_sequencer(&bytes))).await?;
-    checked?;
+    let checked = desk.write(move |client, _| client.check_sequencer(&bytes)).await;
+    checked.map_err(Fault::of_what_may_be_asked_again)?;
     Ok(answers::json(StatusCode::OK, &shown))
 }
