@@ -109,7 +109,40 @@ impl Cell {
             .spawn()
             .context("starting etcd")?;
         self.etcd = Some((child, own.port()));
+        self.seed()
+    }
+
+    // A new cell, which is made over a file, and copied into etcd.
+    fn seed(&mut self) -> Result<()> {
+        let (seed, settings) = (self.folder.join("seed.db"), self.folder.join("settings.toml"));
+        let out = self.folder.join("seed.out");
+        let quiet = |command: &mut Command| -> Result<Child> {
+            let log = File::options().append(true).create(true).open(self.folder.join("server.log"))?;
+            Ok(command.stdin(Stdio::null()).stderr(log).spawn()?)
+        };
+        let mut made = Command::new(&self.programs.server);
+        made.arg("0").arg("--settings").arg(settings).arg("--store").arg(&seed).arg("--master").arg(&self.programs.master);
+        let mut made = quiet(made.stdout(File::create(&out)?))?;
+        let begun = Instant::now();
+        while !fs::read_to_string(&out)?.contains("listening") {
+            if begun.elapsed() > PATIENCE || made.try_wait()?.is_some() {
+                bail!("no cell was made: see {}", self.folder.join("server.log").display());
+            }
+            std::thread::sleep(Duration::from_millis(50));
+        }
+        kill(Pid::from_raw(made.id() as i32), Signal::SIGTERM)?;
+        made.wait()?;
+        let mut copied = Command::new(&self.programs.server);
+        copied.arg("copy").arg("--from").arg(seed).arg("--to").arg(self.rows());
+        if !quiet(copied.stdout(Stdio::null()))?.wait()?.success() {
+            bail!("the cell wasn't copied into etcd: see {}", self.folder.join("server.log").display());
+        }
         Ok(())
+    }
+
+    // Where the rows stand in etcd.
+    fn rows(&self) -> String {
+        self.etcd.as_ref().map_or_else(String::new, |(_, port)| format!("etcd://127.0.0.1:{port}/c"))
     }
 
     fn server(&mut self, at: usize) -> Result<Server> {
@@ -120,7 +153,7 @@ impl Cell {
         command.arg(self.places[at].to_string()).arg("--settings").arg(self.folder.join("settings.toml"));
         match &self.etcd {
             None => command.arg("--store").arg(self.folder.join("cell.db")),
-            Some((_, port)) => command.arg("--rows").arg(format!("etcd://127.0.0.1:{port}/c")),
+            Some(_) => command.arg("--rows").arg(self.rows()),
         };
         command.arg("--master").arg(&self.programs.master).arg("--admin").arg(format!("unix:{}/admin.{at}", self.folder.display()));
         let child = command.stdin(Stdio::null()).stdout(File::create(&out)?).stderr(log).spawn();

@@ -5,7 +5,7 @@ use crate::wire::{self, Call, NO_SESSION, OLD_EPOCH, Outcome, Said};
 use std::collections::{HashMap, VecDeque};
 use std::time::Instant;
 
-/// Milliseconds behind the end of a lease in which a better one saves the session.
+/// Milliseconds after the end of a lease in which a better one saves the session.
 const GRACE: u64 = 45_000;
 
 /// Between two Beats without anything to acknowledge.
@@ -395,7 +395,7 @@ mod tests {
     }
 
     #[test]
-    fn a_session_goes_on_behind_a_fail_over() {
+    fn a_session_goes_on_after_a_fail_over() {
         let mut client = live();
         client.beat(1020).unwrap();
         client.keep(0, 4);

@@ -7,7 +7,7 @@ use crate::fail_overs::FailOver;
 use crate::links::{Came, Link, State};
 use crate::names::{Names, Range};
 use crate::table::Table;
-use crate::wire::{self, BUSY, Call, EXISTS, NOT_FOUND, Outcome, READ, READ_WRITE, RECOVERING, Said, Welcome};
+use crate::wire::{self, BUSY, EXISTS, NOT_FOUND, Outcome, RECOVERING, Said, Welcome};
 use anyhow::Result;
 use mio::{Events, Poll};
 use rand::Rng;
@@ -412,27 +412,9 @@ impl Load {
             Step::Set(_) | Step::Make(_) if self.names.is_file(name) => self.names.content(name, version),
             _ => Vec::new(),
         };
-        let text = self.names.text(name);
-        let is_directory = name >= self.names.files && name < self.names.absence(0);
-        let call = match step {
-            Step::Open(_) => Call::Open(text, READ),
-            Step::OpenToWrite(_) => Call::Open(text, READ_WRITE),
-            Step::Make(_) if is_directory => Call::MakeDirectory(text),
-            Step::Make(_) => Call::MakeFile(text, &content),
-            Step::Close(_) => Call::Close(handle),
-            Step::Read(_) if is_directory => Call::List(handle),
-            Step::Read(_) => Call::Read(handle),
-            Step::Stat(_) => Call::Stat(handle),
-            Step::Set(_) => Call::Set(handle, &content),
-            Step::Delete(_) => Call::Delete(handle),
-            Step::Acquire(_) => Call::Acquire(handle),
-            Step::Release(_) => Call::Release(handle),
-            Step::Leave => Call::Leave,
-        };
+        let call = self.names.call(step, handle, &content);
         self.counts.sent[kind(step)] += 1;
-        if let Some(over) = &mut self.fail_over
-            && !over.unheard.is_empty()
-        {
+        if let Some(over) = self.fail_over.as_mut().filter(|over| !over.unheard.is_empty()) {
             over.waiting.insert(slot as u32);
         }
         if let Some(bytes) = self.clients[slot].ask(step, call, range, version) {
@@ -475,11 +457,7 @@ impl Load {
                     if self.names.is_file(name) { self.names.version(name, content) } else { self.names.presence(name, children.len()) };
                 self.shown(slot, asked, name, shown, may_keep);
             }
-            (Step::Stat(_), Outcome::Stat { length }) => {
-                if self.names.is_file(name) && length != self.names.content(name, 0).len() as u64 && self.names.range(name).to < 10 {
-                    self.wrong(&format!("{} has {length} bytes", self.names.text(name)));
-                }
-            }
+            (Step::Stat(_), Outcome::Stat { length }) => self.has_length(name, length),
             (Step::Set(_) | Step::Delete(_), Outcome::Done) => self.changed(name, asked.version),
             (Step::Close(_), Outcome::Done | Outcome::Refused(_)) => self.clients[slot].handles.retain(|(of, _)| *of != name),
             (Step::Acquire(_) | Step::Release(_), Outcome::Done) => {}
@@ -487,13 +465,25 @@ impl Load {
                 self.clients[slot].phase = Phase::Left;
                 self.begin_anew(slot);
             }
-            (step, other) => {
-                self.totals.refused += 1;
-                if matches!(step, Step::Set(_) | Step::Make(_) | Step::Delete(_)) {
-                    self.names.leave(name);
-                }
-                println!("REFUSED at {} ms: slot {slot} {step:?} {}: {other:?}", self.now, self.names.text(name));
-            }
+            (step, other) => self.refused(slot, step, &other),
+        }
+    }
+
+    // (a file has the same length in all its versions, but for the digits of their numbers)
+    fn has_length(&mut self, name: u32, length: u64) {
+        if self.names.is_file(name) && length != self.names.content(name, 0).len() as u64 {
+            self.wrong(&format!("{} has {length} bytes", self.names.text(name)));
+        }
+    }
+
+    fn refused(&mut self, slot: usize, step: Step, outcome: &Outcome<'_>) {
+        let name = step.name().unwrap_or_default();
+        if matches!(step, Step::Set(_) | Step::Make(_) | Step::Delete(_)) {
+            self.names.leave(name);
+        }
+        self.totals.refused += 1;
+        if self.totals.refused <= TOLD {
+            println!("REFUSED at {} ms: slot {slot} {step:?} {}: {outcome:?}", self.now, self.names.text(name));
         }
     }
 
@@ -572,7 +562,7 @@ impl Load {
         client.phase == Phase::Live && client.asked.is_none() && client.plan.is_empty() && self.links[slot].state == State::Bound
     }
 
-    /// Gives a client steps, behind what it has to do.
+    /// Gives a client steps, after what it has to do.
     pub fn give(&mut self, slot: usize, steps: &[Step]) {
         self.clients[slot].plan.extend(steps);
         self.ask(slot);

@@ -36,7 +36,7 @@ pub struct Options {
     /// So long the rates are held, in seconds, once all is there.
     #[arg(long, default_value_t = 60)]
     seconds: u64,
-    /// Kills the master so many seconds behind the beginning of the rates: master@10, server@30 or standby@50; may be given again.
+    /// Kills the master so many seconds after the beginning of the rates: master@10, server@30 or standby@50; may be given again.
     #[arg(long, value_parser = kill_at)]
     kill: Vec<(Kill, u64)>,
     /// So many clients cache one more file, which is set each so many seconds.
@@ -44,7 +44,7 @@ pub struct Options {
     shared: usize,
     #[arg(long, default_value_t = 30)]
     every: u64,
-    /// Within so many seconds behind a fail-over caches are filled again.
+    /// Within so many seconds after a fail-over caches are filled again.
     #[arg(long, default_value_t = 120)]
     refill: u64,
     /// Clients wait for no random time.

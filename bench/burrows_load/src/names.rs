@@ -1,6 +1,8 @@
 //! The cell's names, each by a number, and what was written there: by it all that is read and cached is tested.
 
+use crate::client::Step;
 use crate::table::{Table, file_size};
+use crate::wire::{Call, READ, READ_WRITE};
 use rand::Rng;
 use std::collections::HashMap;
 
@@ -25,7 +27,7 @@ pub struct Range {
     pub to: u32,
 }
 
-/// All names: files, behind them directories, and behind these names that are absent. In each directory one absent name comes and goes.
+/// All names: files, after them directories, and after these names that are absent. In each directory one absent name comes and goes.
 #[derive(Debug)]
 pub struct Names {
     texts: Vec<String>,
@@ -150,9 +152,32 @@ impl Names {
         range.to > range.from || shown == range.to % 2
     }
 
+    /// The call of a step, by this handle where it wants one, with this content of a file that is made or set.
+    pub fn call<'a>(&'a self, step: Step, handle: &'a [u8], content: &'a [u8]) -> Call<'a> {
+        let name = step.name().unwrap_or_default();
+        let text = self.text(name);
+        let is_directory = (self.files..self.absence(0)).contains(&name);
+        match step {
+            Step::Open(_) => Call::Open(text, READ),
+            Step::OpenToWrite(_) => Call::Open(text, READ_WRITE),
+            Step::Make(_) if is_directory => Call::MakeDirectory(text),
+            Step::Make(_) => Call::MakeFile(text, content),
+            Step::Close(_) => Call::Close(handle),
+            Step::Read(_) if is_directory => Call::List(handle),
+            Step::Read(_) => Call::Read(handle),
+            Step::Stat(_) => Call::Stat(handle),
+            Step::Set(_) => Call::Set(handle, content),
+            Step::Delete(_) => Call::Delete(handle),
+            Step::Acquire(_) => Call::Acquire(handle),
+            Step::Release(_) => Call::Release(handle),
+            Step::Leave => Call::Leave,
+        }
+    }
+
     /// The content of a file of this version.
     pub fn content(&self, file: u32, version: u32) -> Vec<u8> {
         let mut content = format!("{file} {version} ").into_bytes();
+        // (the least size has room for what stands there)
         content.resize(self.records[file as usize].size as usize, b'.');
         content
     }

@@ -18,7 +18,7 @@ const KILLED: u32 = 10;
 /// So many files are cached by many: each client that stays has one of them.
 const POPULAR: u32 = 10;
 
-/// What is read behind an invalidation: that which is sent for at once, and that which the rates of the table leave for later.
+/// What is read after an invalidation: that which is sent for at once, and that which the rates of the table leave for later.
 #[derive(Debug, Default)]
 pub struct Again {
     at: BinaryHeap<Reverse<(u64, u32, u32)>>,
@@ -258,7 +258,8 @@ fn make(load: &mut Load) {
     let Some(slot) = idle(load).filter(|_| load.names.take(name)) else {
         return;
     };
-    let is_there = if range.to > range.from { range.to % 2 == 0 } else { range.to % 2 == 1 };
+    // (one whose outcome isn't known is asked for again)
+    let is_there = (range.to > range.from) == range.to.is_multiple_of(2);
     if is_there {
         load.give(slot, &[Step::OpenToWrite(name), Step::Delete(name), Step::Close(name)]);
     } else {
