@@ -9,13 +9,19 @@ use std::net::{IpAddr, TcpStream as StdTcpStream};
 use std::path::Path;
 use std::pin::Pin;
 use std::sync::Arc;
+use std::time::Duration;
+use tokio::io::{AsyncReadExt, AsyncWriteExt};
 use tokio::net::TcpStream;
 use tokio::runtime::{Builder, Runtime};
 use tokio::task::JoinSet;
+use tokio::time::timeout;
 use ureq::{ReadWrite, TlsConnector};
 
 /// Handshakes are made by so many threads, which do nothing else: what strangers cost there they take from each other.
 const THREADS: usize = 2;
+
+/// So long who made none that succeeded may take to hear why.
+const PARTING: Duration = Duration::from_millis(500);
 
 /// By what an etcd is known, and by what this server is known there, where it shows itself.
 pub fn client_config(authority: &Path, own: Option<(&Path, &Path)>) -> Result<Arc<Connector>> {
@@ -99,11 +105,25 @@ impl Handshakes {
         let mut making = JoinSet::new();
         let made = async move {
             let accepted = Pin::new(&mut stream).accept().await;
-            accepted.map_err(|error| why(stream.ssl(), &error)).map(|()| stream)
+            (accepted.map_err(|error| why(stream.ssl(), &error)), stream)
         };
         making.spawn_on(made, threads.handle());
-        Ok(making.join_next().await.context("a handshake that wasn't begun")???)
+        let (made, mut stream) = making.join_next().await.context("a handshake that wasn't begun")??;
+        if made.is_err() {
+            part(stream.get_mut()).await;
+        }
+        made?;
+        Ok(stream)
     }
+}
+
+// Ends a connection whose handshake has failed. What it was told of that would get lost on the way where something of it is unread.
+async fn part(stream: &mut TcpStream) {
+    // (one that is gone is told nothing)
+    let _ = stream.shutdown().await;
+    let mut room = [0; 1024];
+    let reading = async { while let Ok(1..) = stream.read(&mut room).await {} };
+    let _ = timeout(PARTING, reading).await;
 }
 
 impl Drop for Handshakes {
