@@ -6,13 +6,19 @@ use openssl::x509::X509Name;
 use std::io;
 use std::path::Path;
 use std::pin::Pin;
+use std::time::Duration;
+use tokio::io::{AsyncReadExt, AsyncWriteExt};
 use tokio::net::TcpStream;
 use tokio::runtime::{Builder, Runtime};
 use tokio::task::JoinSet;
+use tokio::time::timeout;
 use tokio_openssl::SslStream;
 
 /// Handshakes are made by so many threads, which do nothing else: what strangers cost there they take from each other.
 const THREADS: usize = 2;
+
+/// So long who made none that succeeded may take to hear why.
+const PARTING: Duration = Duration::from_millis(500);
 
 /// Whose certificates a server takes.
 #[derive(Clone, Copy, Debug)]
@@ -74,11 +80,25 @@ impl Handshakes {
         let mut making = JoinSet::new();
         let made = async move {
             let accepted = Pin::new(&mut stream).accept().await;
-            accepted.map_err(|error| why(stream.ssl(), &error)).map(|()| stream)
+            (accepted.map_err(|error| why(stream.ssl(), &error)), stream)
         };
         making.spawn_on(made, threads.handle());
-        making.join_next().await.ok_or_else(|| io::Error::other("a handshake that wasn't begun"))??
+        let (made, mut stream) = making.join_next().await.ok_or_else(|| io::Error::other("a handshake that wasn't begun"))??;
+        if made.is_err() {
+            part(stream.get_mut()).await;
+        }
+        made?;
+        Ok(stream)
     }
+}
+
+// Ends a connection whose handshake has failed. What it was told of that would get lost on the way where something of it is unread.
+async fn part(stream: &mut TcpStream) {
+    // (one that is gone is told nothing)
+    let _ = stream.shutdown().await;
+    let mut room = [0; 1024];
+    let reading = async { while let Ok(1..) = stream.read(&mut room).await {} };
+    let _ = timeout(PARTING, reading).await;
 }
 
 impl Drop for Handshakes {

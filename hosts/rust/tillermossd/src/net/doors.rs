@@ -121,6 +121,17 @@ impl Shown {
 }
 
 impl Guest {
+    /// From where it came, for an operator: an address, or the process at a socket.
+    #[must_use]
+    pub fn peer(&self) -> String {
+        let process = |stream: &UnixStream| stream.peer_cred().ok().and_then(|shown| shown.pid());
+        match self {
+            Guest::Unix(stream) => process(stream).map_or_else(|| "a socket".to_owned(), |process| format!("process {process}")),
+            // (of one that has gone meanwhile the system tells nothing)
+            Guest::Tls(stream, _) | Guest::Tcp(stream) => stream.peer_addr().map_or_else(|_| "gone".to_owned(), |peer| peer.to_string()),
+        }
+    }
+
     /// Lets it in, as far as its greeting: the stream to it, and whom it shows.
     pub async fn come_in(self) -> Result<(Box<dyn Stream>, Shown)> {
         match self {
