@@ -41,7 +41,7 @@ static void expect_message(shown *shows, struct client_exports *client, size_t c
     expect("message", shows(client, room, sizeof room, &length), CELL_CLIENT_DONE);
     expect("message's length", length, count);
     if (count > 0) expect("message's last byte", room[count - 1], (uint64_t)last);
-    expect("room behind it", room[count], 0);
+    expect("room after it", room[count], 0);
     if (count == 0) return;
     uint8_t none[1] = {7};
     expect("message without room", shows(client, none, 1, &length), CELL_CLIENT_DONE);
@@ -66,7 +66,7 @@ static void refuses(struct client_exports *client) {
     expect("a call that is cut", ask(client, 1010, call), CELL_CLIENT_CUT);
     put(&call, 0, 1);
     put(&call, 0, 1);
-    expect("bytes behind a call", ask(client, 1010, call), CELL_CLIENT_EXTRA);
+    expect("bytes after a call", ask(client, 1010, call), CELL_CLIENT_EXTRA);
     call.at[0] = 1;
     expect("another version", ask(client, 1010, call), CELL_CLIENT_BAD_VERSION);
     call = head(3, 1);
@@ -308,7 +308,7 @@ static void calls_by_parts(struct client_exports *client) {
     expect_line(client, "closed", (struct cell_client_line){.what = CELL_CLIENT_CLOSED});
     put(&leave, 0x0e00, 2);
     expect_call(client, "a Leave", cell_client_leave(client, at), leave, 17);
-    expect("a call behind a Leave", cell_client_stat(client, at, 1), CELL_CLIENT_NO_SESSION);
+    expect("a call after a Leave", cell_client_stat(client, at, 1), CELL_CLIENT_NO_SESSION);
 }
 
 /* What replies tell, on handle 1 of a client whose last call was of the number 1. */
@@ -337,7 +337,7 @@ static void lines_in_parts(struct client_exports *client) {
     };
     expect_line(client, "a view", seen);
     same("its bytes", room, cell_client_line_bytes(client, 0, room, 8), "hello", 5);
-    expect("no bytes behind the last line", cell_client_line_bytes(client, 1, room, 8), 0);
+    expect("no bytes after the last line", cell_client_line_bytes(client, 1, room, 8), 0);
     cell_client_read(client, 1010, 1, room, 0, &(size_t){0});
     seen.what = CELL_CLIENT_SEEN;
     seen.call = 0;
@@ -506,7 +506,7 @@ static void events_by_parts(struct client_exports *client) {
     event(client, 10, 8, 0, NULL, (struct cell_client_line){.event = CELL_CLIENT_EVENTS_LOST});
 }
 
-/* What stands behind the number of a refusal, so wide, and what the line says of it. */
+/* What stands after the number of a refusal, so wide, and what the line says of it. */
 static void refusals_by_parts(struct client_exports *client) {
     static const struct {
         uint32_t fault;

@@ -253,7 +253,7 @@ static void put_key(struct bytes *to) {
     put(to, 2, 8);
 }
 
-/* Each edit in turn, of the bytes behind the last one: so all are read, and nothing is left. */
+/* Each edit in turn, of the bytes after the last one: so all are read, and nothing is left. */
 static void expect_edits(struct bytes block, size_t at, const struct cell_server_edit *wanted, const char *const *texts, int count) {
     for (int i = 0; i < count; i++) {
         struct cell_server_edit found = {0}, parts = wanted[i];
@@ -265,7 +265,7 @@ static void expect_edits(struct bytes block, size_t at, const struct cell_server
         expect("an edit that is cut", found.taken <= left && cell_server_rows_edit(block.at + at, found.taken - 1, &found, room, 0) == CELL_SERVER_CUT);
         at += found.taken;
     }
-    expect("nothing behind the edits", at == block.count);
+    expect("nothing after the edits", at == block.count);
 }
 
 static void questions(void) {

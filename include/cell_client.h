@@ -88,7 +88,7 @@ struct cell_client_line {
     uint64_t length;
     uint32_t kind;
     uint32_t life;
-    /* Of a refusal, what docs/FORMATS.md has behind its name: a generation, a count, milliseconds, an epoch or a place; of 8 the KIND that
+    /* Of a refusal, what docs/FORMATS.md has after its name: a generation, a count, milliseconds, an epoch or a place; of 8 the KIND that
      * is there, of 10 the right that is missing (READ, WRITE or CHANGE_ACL), of 23 the lock's mode. */
     uint64_t argument;
     /* Of an EVENT, the number of the call that opened its handle; 0 where it is of no handle. */
@@ -148,7 +148,7 @@ struct cell_client_line {
 #define CELL_CLIENT_NO_MEMORY 1u
 /* The cache holds that the name has no node, at an Open. */
 #define CELL_CLIENT_NOT_FOUND 6u
-/* A moment of 2^53 or more, or a number behind the last. */
+/* A moment of 2^53 or more, or a number after the last. */
 #define CELL_CLIENT_EXHAUSTED 13u
 /* The cache holds that the node of this handle is gone. */
 #define CELL_CLIENT_STALE_INSTANCE 14u
@@ -246,6 +246,30 @@ uint32_t cell_client_release(struct client_exports *client, uint64_t now, uint64
 /* Asks for what describes the lock that the handle holds; cell_client_line_bytes has it then. */
 uint32_t cell_client_get_sequencer(struct client_exports *client, uint64_t now, uint64_t handle);
 
+/* The fencing number of a sequencer, in decimal digits with a 0 byte after them: it is greater for each later holder of a lock, also if the
+ * node was deleted in between and made again. Whoever holds the lock shows it to what it guards, which takes no number below the
+ * greatest that it saw. The answer is how many digits there are; 0 if these are no sequencer's bytes. */
+static inline size_t cell_client_fencing_number(const uint8_t *sequencer, size_t sequencer_length, char digits[40]) {
+    size_t count = 0;
+    uint8_t number[16];
+    if (sequencer_length < 18 || sequencer[0] != 1) return 0;
+    for (size_t at = 0; at < 16; at++) number[at] = sequencer[2 + at];
+    for (int is_zero = 0; !is_zero;) {
+        unsigned rest = 0;
+        is_zero = 1;
+        for (size_t at = 0; at < 16; at++) {
+            rest = rest << 8 | number[at];
+            number[at] = (uint8_t)(rest / 10);
+            rest %= 10;
+            if (number[at]) is_zero = 0;
+        }
+        for (size_t at = count++; at > 0; at--) digits[at] = digits[at - 1];
+        digits[0] = (char)('0' + rest);
+    }
+    digits[count] = 0;
+    return count;
+}
+
 /* Once this is done each later call on the handle but a Close stands under this sequencer. */
 uint32_t cell_client_set_sequencer(struct client_exports *client, uint64_t now, uint64_t handle, const uint8_t *sequencer,
                                    size_t sequencer_length);
@@ -267,7 +291,7 @@ uint32_t cell_client_leave(struct client_exports *client, uint64_t now);
  * view, of a directory with its children. DONE: the Close of a handle whose node stays open for others. Else a refusal: NOT_FOUND
  * and STALE_INSTANCE out of the cache, all others as above.
  *
- * A Leave ends the session. From then on the cache is empty and off, and each other call is NO_SESSION; go on beating. Behind "done C N ok"
+ * A Leave ends the session. From then on the cache is empty and off, and each other call is NO_SESSION; go on beating. After "done C N ok"
  * the session is over, and the cell waits for the client no more. Where that was refused, ask again.
  */
 uint32_t cell_client_ask(struct client_exports *client, uint64_t now, const uint8_t *call, size_t call_length);
@@ -315,7 +339,7 @@ uint32_t cell_client_message(struct client_exports *client, uint8_t *room, size_
 uint32_t cell_client_lines(struct client_exports *client, uint8_t *room, size_t room_length, size_t *length);
 
 /*
- * The line that stands at this place among those of the last step, the first at 0; its `what` is NO_LINE behind the last.
+ * The line that stands at this place among those of the last step, the first at 0; its `what` is NO_LINE after the last.
  */
 void cell_client_line(struct client_exports *client, size_t place, struct cell_client_line *line);
 

@@ -141,7 +141,7 @@ struct cell_server_heard {
     uint64_t changes;
     /* Of the name, in bytes. */
     uint64_t name_length;
-    /* Of a MESSAGE what it says. All bytes of it stand in the block behind the first MESSAGE_AT. */
+    /* Of a MESSAGE what it says. All bytes of it stand in the block after the first MESSAGE_AT. */
     struct cell_server_said said;
 };
 
@@ -260,8 +260,8 @@ struct cell_server_edit {
 #define CELL_SERVER_EDIT_PUT_LOCK 7u
 #define CELL_SERVER_EDIT_REMOVE_LOCK 8u
 
-/* The edit at the front of these bytes: DONE, and its texts go into the room where they all fit, one behind the other: the name, the three
- * ACL names, the content. The edits of a COMMIT are read from `edits_at` on, each behind the `taken` of the one before; all of them are
+/* The edit at the front of these bytes: DONE, and its texts go into the room where they all fit, one after the other: the name, the three
+ * ACL names, the content. The edits of a COMMIT are read from `edits_at` on, each after the `taken` of the one before; all of them are
  * there, and then the question is at its end. */
 uint32_t cell_server_rows_edit(const uint8_t *edits, size_t length, struct cell_server_edit *out, uint8_t *texts, size_t room);
 
@@ -298,7 +298,7 @@ struct cell_server_lock {
     uint64_t delay;
 };
 
-/* All rows are told by what this gives, and then the rows, one behind the other. BAD_TEXT for a cell that is no component, BAD_NUMBER for
+/* All rows are told by what this gives, and then the rows, one after the other. BAD_TEXT for a cell that is no component, BAD_NUMBER for
  * a secret that isn't 32 bytes, TOO_LONG where all were 2^32 bytes or more, told in this order. */
 uint32_t cell_server_rows_front(const struct cell_server_own *own, const uint8_t *cell, size_t cell_length, const uint8_t *secret,
                                 size_t secret_length, uint8_t *room, size_t room_length, size_t *length);

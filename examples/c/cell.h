@@ -29,7 +29,7 @@ static uint64_t now(void) {
     return (uint64_t)time.tv_sec * 1000 + (uint64_t)time.tv_nsec / 1000000;
 }
 
-/* ---- blocks, each behind its length */
+/* ---- blocks, each after its length */
 
 static void put(const void *bytes, size_t count) {
     if (send(stream, bytes, count, MSG_NOSIGNAL) != (ssize_t)count) fail("the connection is lost");

@@ -23,7 +23,10 @@ int main(int count, char **words) {
         done("acquire", cell_client_acquire(&client, now(), file, CELL_CLIENT_EXCLUSIVE));
     }
     done("set", cell_client_set(&client, now(), file, (const uint8_t *)who, strlen(who), 0));
-    printf("%s is the primary\n", who);
+    done("sequencer", cell_client_get_sequencer(&client, now(), file));
+    char number[40] = "";
+    cell_client_fencing_number(room, cell_client_line_bytes(&client, ended_at, room, sizeof room), number);
+    printf("%s is the primary, with the fencing number %s\n", who, number);
     fflush(stdout);
     for (uint64_t until = now() + 1000 * strtoull(words[3], NULL, 10); now() < until;) take(until - now() + 1);
     end();

@@ -15,7 +15,7 @@ const (
 	greeting = 1
 )
 
-// What a client sends, behind the version.
+// What a client sends, after the version.
 const (
 	kindStart = iota
 	kindBeat
@@ -354,7 +354,7 @@ func (left *fields) each(read func()) {
 	}
 }
 
-// ended is the reason where a field wasn't there, or where more stands behind the last one.
+// ended is the reason where a field wasn't there, or where more stands after the last one.
 func (left *fields) ended() error {
 	if left.wrong || len(left.block) > 0 {
 		return ErrMalformed
@@ -455,7 +455,7 @@ func readResult(left *fields, found *message) {
 	}
 }
 
-// readMessage reads what a server sends behind its welcome.
+// readMessage reads what a server sends after its welcome.
 func readMessage(block []byte) (*message, error) {
 	left := &fields{block: block}
 	left.wrong = left.byte() != version

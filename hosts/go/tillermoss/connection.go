@@ -48,7 +48,7 @@ func place(server string) string {
 	return server
 }
 
-// connection is blocks over a stream, each behind its length in four bytes.
+// connection is blocks over a stream, each after its length in four bytes.
 type connection struct {
 	stream net.Conn
 	reader *bufio.Reader

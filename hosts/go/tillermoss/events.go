@@ -50,7 +50,7 @@ func (it *Subscription) take() (Event, bool) {
 	return event, true
 }
 
-// Next waits for the next event. Behind the last one of a client that is closed, or whose session is lost, it gives ErrClosed.
+// Next waits for the next event. After the last one of a client that is closed, or whose session is lost, it gives ErrClosed.
 func (it *Subscription) Next(ctx context.Context) (Event, error) {
 	for {
 		if event, is := it.take(); is {

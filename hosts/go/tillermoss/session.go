@@ -28,7 +28,7 @@ type waiting struct {
 	teachesView    bool
 	teachesAbsence bool
 	limit          string
-	// done is closed behind the end; result then says what it is.
+	// done is closed after the end; result then says what it is.
 	done   chan struct{}
 	result any
 }

@@ -23,7 +23,7 @@ def not_master(address: str = "") -> bytes:
 
 
 class Server(threading.Thread):
-    """A server that answers each greeting by the next of these, the last again and again. Behind a welcome it begins a session, answers
+    """A server that answers each greeting by the next of these, the last again and again. After a welcome it begins a session, answers
     each call by the next answer, or not at all, and keeps each Beat."""
 
     def __init__(self, greetings: list, answers: tuple = (), tls: ssl.SSLContext = None, span: int = 60_000):

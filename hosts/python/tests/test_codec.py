@@ -10,7 +10,7 @@ DOCS = Path(__file__).resolve().parents[3] / "docs"
 
 
 def blocks_to_server(page: str) -> list:
-    """The blocks that a page shows behind `to`, without their lengths, which are compared with them."""
+    """The blocks that a page shows after `to`, without their lengths, which are compared with them."""
     lines = (DOCS / page).read_text().splitlines()
     found = []
     for at, line in enumerate(lines):

@@ -28,7 +28,7 @@ class Words:
         self.left = list(words)
 
     def next(self, *names: str) -> str:
-        """The word behind these."""
+        """The word after these."""
         for name in names:
             found = self.left.pop(0)
             assert found == name, (found, name)

@@ -241,7 +241,7 @@ def fencing_number(sequencer: bytes) -> int:
 
 
 def read_welcome(block: bytes) -> tuple:
-    """The client's number and its token; or None and the reason why there is none. Behind them where the master is, as a server
+    """The client's number and its token; or None and the reason why there is none. After them where the master is, as a server
     says that isn't."""
     fields = Fields(block)
     if fields.byte() != GREETING:
@@ -304,7 +304,7 @@ def read_result(fields: Fields) -> object:
 
 
 def read_message(block: bytes) -> Message:
-    """What a server sends behind its welcome."""
+    """What a server sends after its welcome."""
     fields = Fields(block)
     if fields.byte() != VERSION:
         raise Malformed("a message of another version")

@@ -66,7 +66,7 @@ class Schedule:
 
 
 class Connection:
-    """Blocks over a stream, each behind its length in four bytes."""
+    """Blocks over a stream, each after its length in four bytes."""
 
     def __init__(self, server: str, tls: Optional[ssl.SSLContext]):
         kind, place = kind_of(server), server.removeprefix("unix:").removeprefix("tls:").removeprefix("tcp:")

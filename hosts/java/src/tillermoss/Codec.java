@@ -21,7 +21,7 @@ final class Codec {
 
     private Codec() {}
 
-    /** Puts fields behind each other. */
+    /** Puts fields after each other. */
     static final class Out {
         private final ByteArrayOutputStream block = new ByteArrayOutputStream();
 
@@ -283,7 +283,7 @@ final class Codec {
         };
     }
 
-    /** What a server sends behind its welcome. */
+    /** What a server sends after its welcome. */
     static Message readMessage(byte[] block) throws Malformed {
         In in = new In(block);
         if (in.octet() != VERSION) {

@@ -16,7 +16,7 @@ import javax.net.ssl.SSLContext;
 import javax.net.ssl.SSLParameters;
 import javax.net.ssl.SSLSocket;
 
-/** Blocks over a stream, each behind its length in four bytes. */
+/** Blocks over a stream, each after its length in four bytes. */
 final class Connection {
     private static final int CONNECTING = 5000, UNWRITTEN = 64, PIECE = 65_536;
 

@@ -1,15 +1,7 @@
 //! What a client's message asks for, as far as a server has to know it: whose it is, for its limits, and to show who waits for what.
 
 use crate::library::{AskedParts, Name, asked};
-
-/// The kinds of messages, and of calls, as the library numbers them.
-const START: u32 = 1;
-const CALL: u32 = 3;
-const OPEN: u32 = 1;
-const SET: u32 = 6;
-const SET_ACL: u32 = 7;
-const DELETE: u32 = 8;
-const ACQUIRE: u32 = 9;
+use crate::numbers::{ACQUIRE, CALL, DELETE, OPEN, SET, SET_ACL, START};
 
 /// A message of a client.
 #[derive(Clone, Debug)]

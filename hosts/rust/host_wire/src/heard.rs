@@ -1,19 +1,12 @@
 //! What a master tells its server, and what it is sent.
 
 use crate::library::{HeardParts, Name, down, heard, message, text, tick, up};
+use crate::numbers;
 use crate::said::Said;
 use std::fmt::{self, Display, Formatter};
 
-/// The kinds of what is told, of lines and of changes, as the library numbers them.
-const LINE: u32 = 1;
-const MESSAGE: u32 = 2;
-const BAD: u32 = 3;
-const END: u32 = 4;
-const PUT: u32 = 1;
-const GONE: u32 = 2;
-
-/// Behind so many bytes of a block that tells a message all bytes of it stand, as the library says.
-const MESSAGE_AT: usize = 10;
+/// At which byte of a block that tells a message the bytes of it begin.
+const MESSAGE_AT: usize = numbers::MESSAGE_AT as usize;
 
 /// What a server sends to its master.
 #[derive(Clone, Copy, Debug)]
@@ -152,13 +145,13 @@ impl<'a> Heard<'a> {
     pub fn told(&self) -> Told<'_> {
         let HeardParts { what, fault, is_timed, client, moment, said, .. } = self.parts;
         match what {
-            LINE => Told::Line(self.printed().unwrap_or(Printed::Other)),
-            MESSAGE => match (Said::of(said), self.block.get(MESSAGE_AT..)) {
+            numbers::LINE => Told::Line(self.printed().unwrap_or(Printed::Other)),
+            numbers::MESSAGE => match (Said::of(said), self.block.get(MESSAGE_AT..)) {
                 (Some(said), Some(bytes)) => Told::Message(client, said, bytes),
                 _ => Told::Other,
             },
-            BAD => Told::Bad(fault),
-            END => Told::End((is_timed == 1).then_some(moment)),
+            numbers::BAD => Told::Bad(fault),
+            numbers::END => Told::End((is_timed == 1).then_some(moment)),
             _ => Told::Other,
         }
     }
@@ -167,20 +160,20 @@ impl<'a> Heard<'a> {
     fn printed(&self) -> Option<Printed<'_>> {
         let HeardParts { line, change, mode, fault, client, number, instance, generation, epoch, name_length, .. } = self.parts;
         Some(match (line, change) {
-            (1, _) => Printed::Up(epoch),
-            (3, _) => Printed::Recovered,
-            (4, _) => Printed::Started(client),
-            (5, _) => Printed::Ended(client),
-            (6, PUT) => Printed::Put(client, self.put()?),
-            (6, GONE) => Printed::Gone(self.name.text(name_length)?),
-            (7, _) => Printed::Granted(number, client, self.name.text(name_length)?),
-            (8, _) => Printed::Acked(number),
-            (9, _) => Printed::Expired(number),
-            (10, _) => Printed::Locked(Locked { client, instance, is_shared: mode == 1, generation }),
-            (11, _) => Printed::Freed(client, instance),
-            (12, _) => Printed::Lapsed(client, instance),
-            (13, _) => Printed::Reopened(instance),
-            (20, _) => Printed::Refused(fault),
+            (numbers::LINE_UP, _) => Printed::Up(epoch),
+            (numbers::LINE_RECOVERED, _) => Printed::Recovered,
+            (numbers::LINE_STARTED, _) => Printed::Started(client),
+            (numbers::LINE_ENDED, _) => Printed::Ended(client),
+            (numbers::LINE_APPLIED, numbers::PUT) => Printed::Put(client, self.put()?),
+            (numbers::LINE_APPLIED, numbers::GONE) => Printed::Gone(self.name.text(name_length)?),
+            (numbers::LINE_GRANTED, _) => Printed::Granted(number, client, self.name.text(name_length)?),
+            (numbers::LINE_ACKED, _) => Printed::Acked(number),
+            (numbers::LINE_EXPIRED, _) => Printed::Expired(number),
+            (numbers::LINE_LOCKED, _) => Printed::Locked(Locked { client, instance, is_shared: mode == 1, generation }),
+            (numbers::LINE_FREED, _) => Printed::Freed(client, instance),
+            (numbers::LINE_LAPSED, _) => Printed::Lapsed(client, instance),
+            (numbers::LINE_REOPENED, _) => Printed::Reopened(instance),
+            (numbers::LINE_REFUSED, _) => Printed::Refused(fault),
             _ => Printed::Other,
         })
     }

@@ -11,13 +11,17 @@ mod blocks;
 mod components;
 mod fields;
 mod greetings;
+pub mod handshakes;
 mod heard;
 mod library;
+pub mod lobby;
 mod notices;
+mod numbers;
 mod refusals;
 pub mod rows;
 mod said;
 mod shown;
+pub mod sockets;
 pub mod trust;
 
 pub use addresses::{Address, NoAddress};

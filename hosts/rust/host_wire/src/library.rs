@@ -9,7 +9,7 @@ use std::ptr;
 pub const NAME_ROOM: usize = 512;
 
 /// Done; all other answers are what is wrong.
-const DONE: u32 = 0;
+use crate::numbers::DONE;
 
 /// A client's message in plain numbers, as the library declares it.
 #[repr(C)]

@@ -4,18 +4,7 @@ use crate::library::{
     EditParts, LockParts, NodeParts, OwnParts, rows_asked, rows_edit, rows_front, rows_kept, rows_lock, rows_node, rows_refused,
     rows_session,
 };
-
-/// The kinds of questions and of edits, as the library numbers them.
-const LOAD: u32 = 1;
-const COMMIT: u32 = 2;
-const EPOCH: u32 = 1;
-const NEXT_INSTANCE: u32 = 2;
-const PUT_NODE: u32 = 3;
-const LOCK_GENERATION: u32 = 4;
-const REMOVE_NODE: u32 = 5;
-const PUT_SESSION: u32 = 6;
-const PUT_LOCK: u32 = 7;
-const REMOVE_LOCK: u32 = 8;
+use crate::numbers;
 
 /// What a master asks.
 #[derive(Clone, Debug, PartialEq, Eq)]
@@ -108,8 +97,8 @@ impl Question {
     pub fn read(block: &[u8]) -> Option<Question> {
         let parts = rows_asked(block)?;
         match parts.what {
-            LOAD => Some(Question::Load),
-            COMMIT => {
+            numbers::LOAD => Some(Question::Load),
+            numbers::COMMIT => {
                 let edits = block.get(usize::try_from(parts.edits_at).ok()?..)?;
                 Some(Question::Commit(parts.number, edits_of(edits, parts.edits)?))
             }
@@ -150,14 +139,14 @@ impl Edit {
         let name = texts.text(parts.name_length)?;
         let key = (parts.instance, parts.client, parts.handle);
         Some(match parts.what {
-            EPOCH => Edit::Epoch(parts.number),
-            NEXT_INSTANCE => Edit::NextInstance(parts.number),
-            PUT_NODE => Edit::PutNode(name, Node::of(parts, &mut texts)?),
-            LOCK_GENERATION => Edit::LockGeneration(name, parts.number),
-            REMOVE_NODE => Edit::RemoveNode(name),
-            PUT_SESSION => Edit::PutSession(parts.client, Session { principal: name, is_live: parts.live == 1 }),
-            PUT_LOCK => Edit::PutLock(key, Lock { state: parts.state, delay: parts.delay }),
-            REMOVE_LOCK => Edit::RemoveLock(key),
+            numbers::EDIT_EPOCH => Edit::Epoch(parts.number),
+            numbers::EDIT_NEXT_INSTANCE => Edit::NextInstance(parts.number),
+            numbers::EDIT_PUT_NODE => Edit::PutNode(name, Node::of(parts, &mut texts)?),
+            numbers::EDIT_LOCK_GENERATION => Edit::LockGeneration(name, parts.number),
+            numbers::EDIT_REMOVE_NODE => Edit::RemoveNode(name),
+            numbers::EDIT_PUT_SESSION => Edit::PutSession(parts.client, Session { principal: name, is_live: parts.live == 1 }),
+            numbers::EDIT_PUT_LOCK => Edit::PutLock(key, Lock { state: parts.state, delay: parts.delay }),
+            numbers::EDIT_REMOVE_LOCK => Edit::RemoveLock(key),
             _ => return None,
         })
     }

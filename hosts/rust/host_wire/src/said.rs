@@ -1,13 +1,8 @@
 //! What a master says to a client, as far as a host has to know it.
 
 use crate::library::{SaidParts, said, store_refused};
+use crate::numbers::{ALIVE, REFUSED, REPLY, STARTED};
 use std::time::Duration;
-
-/// The kinds of messages, as the library numbers them.
-const STARTED: u32 = 1;
-const ALIVE: u32 = 2;
-const REPLY: u32 = 3;
-const REFUSED: u32 = 4;
 
 /// The refusal that another master is up.
 const OLD_EPOCH: u32 = 28;

@@ -112,14 +112,52 @@ fn limit_chain(context: &mut SslContextBuilder) {
     unsafe { openssl_sys::SSL_CTX_ctrl(context.as_ptr(), SET_MAX_CERT_LIST, CHAIN, ptr::null_mut()) };
 }
 
+// How OpenSSL says that the authority isn't there which signed a certificate, or isn't trusted.
+const UNSIGNED: [c_int; 4] = [
+    openssl_sys::X509_V_ERR_UNABLE_TO_GET_ISSUER_CERT,
+    openssl_sys::X509_V_ERR_UNABLE_TO_GET_ISSUER_CERT_LOCALLY,
+    openssl_sys::X509_V_ERR_SELF_SIGNED_CERT_IN_CHAIN,
+    openssl_sys::X509_V_ERR_DEPTH_ZERO_SELF_SIGNED_CERT,
+];
+
+// What OpenSSL says where no TLS is spoken at the other end.
+const NO_TLS: [&str; 4] = ["wrong version number", "http request", "packet length too long", "unsupported protocol"];
+
+// What stands in front of what the other end has against this one.
+const ALERT: &str = "alert ";
+
 /// Why a handshake failed: by what is wrong with the certificate that was shown, where that is it.
 #[must_use]
 pub fn why(ssl: &SslRef, error: &openssl::ssl::Error) -> io::Error {
-    match (ssl.verify_result(), error.io_error()) {
-        (X509VerifyResult::OK, Some(error)) => io::Error::new(error.kind(), error.to_string()),
-        (X509VerifyResult::OK, None) => io::Error::new(ErrorKind::InvalidData, error.to_string()),
-        (result, _) => io::Error::new(ErrorKind::InvalidData, format!("the certificate isn't taken: {}", result.error_string())),
+    let result = ssl.verify_result();
+    if result != X509VerifyResult::OK {
+        let fault = match result.as_raw() {
+            fault if UNSIGNED.contains(&fault) => "no authority that is trusted here has signed it",
+            _ => result.error_string(),
+        };
+        return io::Error::new(ErrorKind::InvalidData, format!("the certificate that the other end shows isn't taken: {fault}"));
     }
+    match error.io_error() {
+        Some(error) if error.kind() != ErrorKind::ConnectionReset => io::Error::new(error.kind(), error.to_string()),
+        None if error.ssl_error().is_some() => io::Error::new(ErrorKind::InvalidData, said(error).unwrap_or_else(|| error.to_string())),
+        _ => io::Error::new(ErrorKind::UnexpectedEof, "the other end ended the handshake: does it speak TLS?"),
+    }
+}
+
+/// A fault of a stream in words, where TLS has made it: what the other end has against this one is told with what is read first.
+#[must_use]
+pub fn worded(error: io::Error) -> io::Error {
+    let told = error.get_ref().and_then(|inner| inner.downcast_ref::<openssl::ssl::Error>()).and_then(said);
+    told.map_or(error, |told| io::Error::new(ErrorKind::InvalidData, told))
+}
+
+// The fault in words, where it is a usual one.
+fn said(error: &openssl::ssl::Error) -> Option<String> {
+    let mut reasons = error.ssl_error()?.errors().iter().filter_map(openssl::error::Error::reason);
+    reasons.find_map(|reason| match reason.split_once(ALERT) {
+        Some((_, alert)) => Some(format!("the other end doesn't take what this one shows: {alert}")),
+        None => NO_TLS.contains(&reason).then(|| "the other end speaks no TLS".to_owned()),
+    })
 }
 
 /// The common name of a certificate; the last one where there are several. None where there is none, or it isn't written in UTF-8.

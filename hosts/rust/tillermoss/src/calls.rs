@@ -3,6 +3,7 @@
 use crate::events::Events;
 use crate::library::OpenParts;
 use crate::nodes::{LockMode, Mode};
+use crate::numbers;
 use crate::refusals::Refusal;
 use host_wire::{is_component, is_name};
 
@@ -93,15 +94,13 @@ impl Opening {
     // The plain numbers of it.
     pub(crate) fn parts(&self) -> OpenParts {
         let plain = OpenParts { lock_delay: self.lock_delay, mode: self.mode.0, events: self.events.0, ..OpenParts::default() };
-        match &self.create {
-            None => plain,
-            Some(create) => OpenParts {
-                create: 1 + u8::from(create.must),
-                kind: u8::from(create.content.is_none()),
-                life: u8::from(create.life == Life::Ephemeral),
-                ..plain
-            },
-        }
+        let Some(create) = &self.create else {
+            return OpenParts { create: numbers::MAKES_NOTHING as u8, ..plain };
+        };
+        let create_number = if create.must { numbers::MUST_MAKE } else { numbers::MAY_MAKE };
+        let kind = if create.content.is_some() { numbers::A_FILE } else { numbers::A_DIRECTORY };
+        let life = if create.life == Life::Ephemeral { numbers::EPHEMERAL } else { numbers::PERMANENT };
+        OpenParts { create: create_number as u8, kind: kind as u8, life: life as u8, ..plain }
     }
 
     // The content of the file that is made.

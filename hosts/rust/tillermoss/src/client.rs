@@ -2,7 +2,7 @@
 
 use crate::calls::{Call, Create, Opening};
 use crate::clock;
-use crate::core::{Core, End, Mark, Reply, Standing, State, Tried};
+use crate::core::{Core, End, Mark, Reply, Standing, State, Teller, Tried};
 use crate::errors::Error;
 use crate::events::{Event, Events};
 use crate::keeper::{Keeper, greet_any};
@@ -16,10 +16,11 @@ use crate::viewer::Viewer;
 use host_wire::{Hello, Welcome};
 use std::path::PathBuf;
 use std::sync::Arc;
-use std::sync::mpsc::{Receiver, RecvTimeoutError, Sender, channel};
+use std::sync::mpsc::{Receiver, RecvTimeoutError, channel};
 use std::thread;
 use std::time::{Duration, Instant};
 use tokio::runtime::Builder;
+use tokio::sync::mpsc::{UnboundedReceiver, unbounded_channel};
 
 /// So long between two tries of a call that was refused for now.
 const PAUSE: Duration = Duration::from_millis(50);
@@ -193,7 +194,7 @@ impl Client {
         self.number
     }
 
-    /// Whether the session is lost. Then each call but one is refused, for good: connect anew.
+    /// Whether the session is lost, or the server turns the client away. Then each call is refused, for good: connect anew.
     ///
     /// ```
     /// # trials::with_client(|client| {
@@ -202,7 +203,7 @@ impl Client {
     /// ```
     #[must_use]
     pub fn is_lost(&self) -> bool {
-        self.core.lock().standing() == Standing::Lost
+        !self.core.lock().goes_on()
     }
 
     /// So long this client trusts its lease still, by its own clock, which goes on while the machine sleeps: zero where it has ended, and
@@ -335,14 +336,14 @@ impl Client {
         }
     }
 
-    fn call(&self, call: &Call, watcher: Option<&Sender<Event>>) -> Result<Reply, Error> {
+    fn call(&self, call: &Call, watcher: Option<&Teller>) -> Result<Reply, Error> {
         let reply = self.ask(call.only_reads(), |state| state.call(call, watcher))?;
         reply.ok_or_else(|| Error::Malformed("an answer to another call".to_owned()))
     }
 
     // An Open that may make a node waits until all who cache the node, or its directory, have let it go, also where the node is there.
     // So it is opened plainly first, and asked for so only where that finds none.
-    fn open_for(&self, opening: &Opening, watcher: Option<&Sender<Event>>) -> Result<Handle, Error> {
+    fn open_for(&self, opening: &Opening, watcher: Option<&Teller>) -> Result<Handle, Error> {
         if opening.may_find() {
             match self.open_as(&opening.plain(), watcher) {
                 Err(Error::Refused(Refusal::NotFound)) => {}
@@ -352,7 +353,7 @@ impl Client {
         self.open_as(opening, watcher)
     }
 
-    fn open_as(&self, opening: &Opening, watcher: Option<&Sender<Event>>) -> Result<Handle, Error> {
+    fn open_as(&self, opening: &Opening, watcher: Option<&Teller>) -> Result<Handle, Error> {
         match self.call(&Call::Open(opening), watcher)?.answer {
             Answer::Opened(number) => Ok(Handle { client: self.number, number }),
             other => Err(unfit(&other)),
@@ -464,8 +465,15 @@ impl Client {
     /// As the master refuses it.
     pub fn watch_with(&self, opening: &Opening) -> Result<Watch, Error> {
         let (watcher, told) = channel();
-        let handle = self.open_for(opening, Some(&watcher))?;
+        let handle = self.open_for(opening, Some(&Teller::Thread(watcher)))?;
         Ok(Watch { handle, events: told })
+    }
+
+    // The same, for a task that waits for the events.
+    pub(crate) fn watch_from_task(&self, opening: &Opening) -> Result<(Handle, UnboundedReceiver<Event>), Error> {
+        let (watcher, told) = unbounded_channel();
+        let handle = self.open_for(opening, Some(&Teller::Task(watcher)))?;
+        Ok((handle, told))
     }
 
     /// Closes a handle. A lock that it holds is free from then on.
@@ -587,6 +595,12 @@ impl Client {
             *room = reply.content();
         }
         Ok(mark)
+    }
+
+    // The mark of what the cache would answer to a read now, and the moment at which it would; None where it wouldn't.
+    pub(crate) fn holds(&self, handle: Handle) -> Option<(Mark, u64)> {
+        let number = self.own(handle).ok()?;
+        self.core.lock().holds(number)
     }
 
     // Whether it has begun no step since, and its lease still ran at this moment before.

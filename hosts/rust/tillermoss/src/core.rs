@@ -13,6 +13,7 @@ use std::sync::atomic::{AtomicU64, Ordering};
 use std::sync::mpsc::{Receiver, Sender, channel};
 use std::sync::{Arc, Condvar, Mutex, MutexGuard, PoisonError};
 use std::time::Duration;
+use tokio::sync::mpsc::UnboundedSender;
 
 /// So long at most who waits for a change doesn't look again.
 const LOOK: Duration = Duration::from_millis(50);
@@ -82,6 +83,30 @@ pub struct Mark {
 impl Mark {
     /// That of an answer which holds for no moment.
     pub const NEVER: Mark = Mark { turn: 0, leased_until: 0 };
+
+    /// So long at most it holds from this moment on.
+    pub fn left(self, now: u64) -> Duration {
+        Duration::from_millis(self.leased_until.saturating_sub(now))
+    }
+}
+
+/// Where the events of a handle are told.
+#[derive(Clone, Debug)]
+pub enum Teller {
+    /// To a thread that waits for them.
+    Thread(Sender<Event>),
+    /// To a task that does.
+    Task(UnboundedSender<Event>),
+}
+
+impl Teller {
+    // Whether anybody is still there to be told.
+    fn tell(&self, event: Event) -> bool {
+        match self {
+            Teller::Thread(events) => events.send(event).is_ok(),
+            Teller::Task(events) => events.send(event).is_ok(),
+        }
+    }
 }
 
 /// Who is told of the events of a handle.
@@ -89,7 +114,7 @@ impl Mark {
 struct Watcher {
     opened: u64,
     handle: u64,
-    events: Sender<Event>,
+    events: Teller,
 }
 
 /// The client library, and who waits for what.
@@ -100,7 +125,7 @@ pub struct State {
     outgoing: Option<Arc<Outgoing>>,
     notice: Option<Notice>,
     waiter: Option<Sender<Result<Reply, Error>>>,
-    new_watcher: Option<Sender<Event>>,
+    new_watcher: Option<Teller>,
     watchers: Vec<Watcher>,
     standing: Standing,
     end: Option<End>,
@@ -168,9 +193,9 @@ impl State {
         self.standing
     }
 
-    /// The moment from which on the client trusts its lease no more; 0 where the session is lost.
+    /// The moment from which on the client trusts its lease no more; 0 where the session can't be kept.
     pub fn leased_until(&mut self) -> u64 {
-        if self.standing == Standing::Lost { 0 } else { self.library.leased_until() }
+        if self.goes_on() { self.library.leased_until() } else { 0 }
     }
 
     /// Whether the session can still be kept.
@@ -254,6 +279,13 @@ impl State {
         }
     }
 
+    /// The mark of what the cache would answer to a read of this handle, and the moment at which it would; None where it wouldn't.
+    pub fn holds(&mut self, handle: u64) -> Option<(Mark, u64)> {
+        let now = clock::now();
+        let is_held = self.end.is_none() && self.library.holds(now, handle);
+        is_held.then(|| (self.mark(), now))
+    }
+
     /// Tries to read a content, out of the cache into the room, or by a call.
     pub fn read_into(&mut self, handle: u64, room: &mut Vec<u8>) -> Result<Tried, Error> {
         if let Some(fault) = self.fault() {
@@ -272,7 +304,7 @@ impl State {
     }
 
     /// Tries to make a call. The events of the handle that it opens go to the watcher.
-    pub fn call(&mut self, call: &Call, watcher: Option<&Sender<Event>>) -> Result<Tried, Error> {
+    pub fn call(&mut self, call: &Call, watcher: Option<&Teller>) -> Result<Tried, Error> {
         if let Some(fault) = self.fault() {
             return Err(fault);
         }
@@ -285,7 +317,7 @@ impl State {
         self.tried(status, own, watcher)
     }
 
-    fn tried(&mut self, status: Status, own: Option<Reply>, watcher: Option<&Sender<Event>>) -> Result<Tried, Error> {
+    fn tried(&mut self, status: Status, own: Option<Reply>, watcher: Option<&Teller>) -> Result<Tried, Error> {
         match status {
             Status::Send => {
                 let (waiter, reply) = channel();
@@ -367,7 +399,7 @@ impl State {
 
     // Tells an event to the watchers of its handle; one of no handle to all. A watcher who is gone is forgotten.
     fn publish(&mut self, opened: Option<u64>, event: &Event) {
-        self.watchers.retain(|watcher| opened.is_some_and(|opened| opened != watcher.opened) || watcher.events.send(event.clone()).is_ok());
+        self.watchers.retain(|watcher| opened.is_some_and(|opened| opened != watcher.opened) || watcher.events.tell(event.clone()));
     }
 
     fn stand(&mut self, standing: Standing, event: &Event) {

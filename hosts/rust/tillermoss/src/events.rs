@@ -1,6 +1,7 @@
 //! What a client is told of a node that it watches.
 
 use crate::library::Numbers;
+use crate::numbers;
 
 /// Of which events the client of a handle is told.
 ///
@@ -37,7 +38,7 @@ impl Events {
     /// assert!(matches!(watch.events.recv(), Ok(Event::Contents { generation: 2, .. })));
     /// # Ok(()) });
     /// ```
-    pub const CONTENTS: Events = Events(1);
+    pub const CONTENTS: Events = Events(numbers::CONTENTS as u8);
     /// A child came, went, or was set.
     ///
     /// ```
@@ -49,7 +50,7 @@ impl Events {
     /// assert_eq!(watch.events.recv(), Ok(Event::ChildModified("/ls/c/f".to_owned())));
     /// # Ok(()) });
     /// ```
-    pub const CHILDREN: Events = Events(2);
+    pub const CHILDREN: Events = Events(numbers::CHILDREN as u8);
     /// The lock went from free to held.
     ///
     /// ```
@@ -61,7 +62,7 @@ impl Events {
     /// assert_eq!(watch.events.recv(), Ok(Event::Locked));
     /// # Ok(()) });
     /// ```
-    pub const LOCK: Events = Events(4);
+    pub const LOCK: Events = Events(numbers::LOCK as u8);
     /// Another wants the lock that the handle holds.
     ///
     /// ```
@@ -75,7 +76,7 @@ impl Events {
     /// assert_eq!(watch.events.recv(), Ok(Event::Conflict));
     /// # Ok(()) });
     /// ```
-    pub const CONFLICT: Events = Events(8);
+    pub const CONFLICT: Events = Events(numbers::CONFLICT as u8);
 
     /// Of those of either.
     ///
@@ -133,17 +134,17 @@ pub enum Event {
 
 impl Event {
     // That of the number in `include/cell_client.h`, with what belongs to it.
-    pub(crate) fn of(numbers: &Numbers, name: String) -> Option<Event> {
-        Some(match numbers.event {
-            1 => Event::Failover,
-            2 => Event::Contents { instance: numbers.instance, generation: numbers.content_generation },
-            3 => Event::ChildAdded(name),
-            4 => Event::ChildRemoved(name),
-            5 => Event::ChildModified(name),
-            6 => Event::Invalid,
-            7 => Event::Locked,
-            8 => Event::Conflict,
-            9 => Event::Lost,
+    pub(crate) fn of(told: &Numbers, name: String) -> Option<Event> {
+        Some(match u32::try_from(told.event).ok()? {
+            numbers::FAIL_OVER => Event::Failover,
+            numbers::CONTENTS_SET => Event::Contents { instance: told.instance, generation: told.content_generation },
+            numbers::CHILD_ADDED => Event::ChildAdded(name),
+            numbers::CHILD_REMOVED => Event::ChildRemoved(name),
+            numbers::CHILD_MODIFIED => Event::ChildModified(name),
+            numbers::INVALID => Event::Invalid,
+            numbers::LOCK_TAKEN => Event::Locked,
+            numbers::LOCK_WANTED => Event::Conflict,
+            numbers::EVENTS_LOST => Event::Lost,
             _ => return None,
         })
     }

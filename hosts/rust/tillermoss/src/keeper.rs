@@ -5,6 +5,7 @@ use crate::core::{Core, End};
 use crate::errors::Error;
 use crate::outgoing::Outgoing;
 use crate::reaching::{Reach, Stream};
+use host_wire::trust::worded;
 use host_wire::{ANSWER_LIMIT, Answer, Blocks, Hello, Notice, Said, TurnedAway, Welcome, framed};
 use std::io::{self, ErrorKind};
 use std::sync::Arc;
@@ -78,10 +79,19 @@ pub async fn greet_any(reach: &Reach, hello: &Hello, patience: Duration) -> Resu
     }
 }
 
+// What came was no greeting, as of a server that listens by TLS there, or nothing came.
+fn no_greeting() -> io::Error {
+    io::Error::new(ErrorKind::UnexpectedEof, "it gave no greeting: is that its port, and tcp: or tls: as it listens there?")
+}
+
 async fn welcomed(mut stream: Box<dyn Stream>, hello: &Hello, master: &mut Option<String>) -> Result<Connection, Error> {
-    stream.write_all(&framed(&hello.write())?).await?;
+    stream.write_all(&framed(&hello.write())?).await.map_err(worded)?;
     let mut blocks = Blocks::new(ANSWER_LIMIT);
-    let block = blocks.next_of(&mut stream).await?.ok_or_else(|| io::Error::from(ErrorKind::UnexpectedEof))?;
+    let block = blocks.next_of(&mut stream).await.map_err(|error| match error.kind() {
+        ErrorKind::InvalidData | ErrorKind::UnexpectedEof => no_greeting(),
+        _ => worded(error),
+    });
+    let block = block?.ok_or_else(no_greeting)?;
     *master = Welcome::master(&block);
     match Welcome::read(&block) {
         Ok(Ok(welcome)) => Ok(Connection { stream, blocks, welcome }),

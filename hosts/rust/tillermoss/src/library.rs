@@ -1,9 +1,10 @@
 //! The client library: each call here is a call of it, on the caller's thread.
 //!
 //! Nothing compares the declarations here with the library's source (`include/cell_client.h` has the same in C, and what each call
-//! owes), and nothing checks a call from here against a contract.
+//! owes) but for its [numbers](crate::numbers), and nothing checks a call from here against a contract.
 
 use crate::calls::{Call, Opening};
+use crate::numbers;
 use crate::refusals::Refusal;
 use std::ptr::{self, NonNull};
 
@@ -147,9 +148,9 @@ pub enum Status {
 impl Status {
     fn of(code: u32) -> Status {
         match code {
-            0 => Status::Done,
-            64 => Status::Send,
-            65 => Status::Served,
+            numbers::DONE => Status::Done,
+            numbers::SEND => Status::Send,
+            numbers::SERVED => Status::Served,
             _ => Refusal::of_code(code).map_or(Status::Bad(code), Status::Refused),
         }
     }
@@ -309,6 +310,15 @@ impl Library {
             }
             room.reserve(length);
         }
+    }
+
+    /// Whether the cache would serve a read of this handle now. No step, and nothing is copied.
+    pub fn holds(&mut self, now: u64, number: u64) -> bool {
+        let mut handle = self.handle();
+        let mut length = 0;
+        // SAFETY: as above; into no room nothing is written.
+        let code = unsafe { cell_client_hit(&raw mut handle, now, number, NonNull::dangling().as_ptr(), 0, &raw mut length) };
+        Status::of(code) == Status::Served
     }
 
     /// Poisons a handle.

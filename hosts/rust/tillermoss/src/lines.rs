@@ -3,26 +3,8 @@
 use crate::events::Event;
 use crate::library::{Numbers, Told};
 use crate::nodes::{Kind, Stat};
+use crate::numbers;
 use crate::refusals::Refusal;
-
-/// The kinds of lines, as `include/cell_client.h` has them.
-mod kinds {
-    pub const OPENED: u32 = 1;
-    pub const CLOSED: u32 = 2;
-    pub const HANDLE_POISONED: u32 = 3;
-    pub const VIEWED: u32 = 4;
-    pub const STATED: u32 = 5;
-    pub const NAMES: u32 = 6;
-    pub const SEQUENCER: u32 = 7;
-    pub const OKAY: u32 = 8;
-    pub const REFUSED: u32 = 9;
-    pub const SEEN: u32 = 10;
-    pub const ABSENT: u32 = 11;
-    pub const EVENT: u32 = 12;
-    pub const JEOPARDY: u32 = 13;
-    pub const SAFE: u32 = 14;
-    pub const LOST: u32 = 15;
-}
 
 /// What a view shows.
 #[derive(Clone, Debug, PartialEq, Eq)]
@@ -67,12 +49,12 @@ impl Line {
     /// The line that is told so; None for one that a client doesn't print of its own.
     pub fn of(told: Told) -> Option<Line> {
         match told.numbers.what {
-            kinds::SEEN => Some(Line::Served(Some(shown(told)?))),
-            kinds::ABSENT => Some(Line::Served(None)),
-            kinds::EVENT => Event::of(&told.numbers, told.name).map(|event| Line::Event(opened(&told.numbers), event)),
-            kinds::JEOPARDY => Some(Line::Jeopardy),
-            kinds::SAFE => Some(Line::Safe),
-            kinds::LOST => Some(Line::Lost),
+            numbers::SEEN => Some(Line::Served(Some(shown(told)?))),
+            numbers::ABSENT => Some(Line::Served(None)),
+            numbers::EVENT => Event::of(&told.numbers, told.name).map(|event| Line::Event(opened(&told.numbers), event)),
+            numbers::JEOPARDY => Some(Line::Jeopardy),
+            numbers::SAFE => Some(Line::Safe),
+            numbers::LOST => Some(Line::Lost),
             _ => Some(Line::Done(told.numbers.call, answer(told)?)),
         }
     }
@@ -85,15 +67,15 @@ fn opened(numbers: &Numbers) -> Option<u64> {
 
 fn answer(told: Told) -> Option<Answer> {
     Some(match told.numbers.what {
-        kinds::OPENED => Answer::Opened(told.numbers.handle),
-        kinds::CLOSED => Answer::Closed,
-        kinds::HANDLE_POISONED => Answer::Poisoned,
-        kinds::VIEWED => Answer::Viewed(shown(told)?),
-        kinds::STATED => Answer::Stated(stat(&told.numbers, told.acl, Some(told.numbers.lock_generation))?),
-        kinds::NAMES => Answer::Names(told.children),
-        kinds::SEQUENCER => Answer::Sequencer(told.bytes),
-        kinds::OKAY => Answer::Done,
-        kinds::REFUSED => Answer::Refused(Refusal::of(told.numbers.fault, told.numbers.argument)?),
+        numbers::OPENED => Answer::Opened(told.numbers.handle),
+        numbers::CLOSED => Answer::Closed,
+        numbers::HANDLE_POISONED => Answer::Poisoned,
+        numbers::VIEWED => Answer::Viewed(shown(told)?),
+        numbers::STATED => Answer::Stated(stat(&told.numbers, told.acl, Some(told.numbers.lock_generation))?),
+        numbers::NAMES => Answer::Names(told.children),
+        numbers::SEQUENCER => Answer::Sequencer(told.bytes),
+        numbers::OKAY => Answer::Done,
+        numbers::REFUSED => Answer::Refused(Refusal::of(told.numbers.fault, told.numbers.argument)?),
         _ => return None,
     })
 }
@@ -104,7 +86,7 @@ fn shown(told: Told) -> Option<Shown> {
 
 fn stat(numbers: &Numbers, acl: [String; 3], lock_generation: Option<u64>) -> Option<Stat> {
     let &Numbers { instance, content_generation, acl_generation, length, .. } = numbers;
-    let is_ephemeral = numbers.life == 1;
+    let is_ephemeral = numbers.life == numbers::EPHEMERAL;
     Some(Stat {
         kind: Kind::of(numbers.kind.into())?,
         instance,
@@ -153,23 +135,23 @@ mod tests {
     #[test]
     fn the_ends_of_calls_are_told() {
         let ended = |what| Numbers { what, call: 2, ..Numbers::default() };
-        let sequencer = Told { bytes: vec![1, 255], ..numbered(ended(kinds::SEQUENCER)) };
-        let listing = Told { children: names(["a", "b"]).to_vec(), ..numbered(ended(kinds::NAMES)) };
+        let sequencer = Told { bytes: vec![1, 255], ..numbered(ended(numbers::SEQUENCER)) };
+        let listing = Told { children: names(["a", "b"]).to_vec(), ..numbered(ended(numbers::NAMES)) };
         let rows = [
-            (numbered(Numbers { handle: 3, ..ended(kinds::OPENED) }), Some(Answer::Opened(3))),
-            (numbered(ended(kinds::CLOSED)), Some(Answer::Closed)),
-            (numbered(ended(kinds::HANDLE_POISONED)), Some(Answer::Poisoned)),
-            (told(kinds::VIEWED, 0, b"abc", &[]), Some(Answer::Viewed(view(Kind::File, b"abc", &[])))),
-            (told(kinds::VIEWED, 1, b"", &["a", "b"]), Some(Answer::Viewed(view(Kind::Directory, b"", &["a", "b"])))),
-            (told(kinds::VIEWED, 2, b"", &[]), None),
-            (told(kinds::STATED, 0, b"", &[]), Some(Answer::Stated(of_node(Kind::File, Some(7))))),
-            (numbered(ended(kinds::NAMES)), Some(Answer::Names(vec![]))),
+            (numbered(Numbers { handle: 3, ..ended(numbers::OPENED) }), Some(Answer::Opened(3))),
+            (numbered(ended(numbers::CLOSED)), Some(Answer::Closed)),
+            (numbered(ended(numbers::HANDLE_POISONED)), Some(Answer::Poisoned)),
+            (told(numbers::VIEWED, 0, b"abc", &[]), Some(Answer::Viewed(view(Kind::File, b"abc", &[])))),
+            (told(numbers::VIEWED, 1, b"", &["a", "b"]), Some(Answer::Viewed(view(Kind::Directory, b"", &["a", "b"])))),
+            (told(numbers::VIEWED, 2, b"", &[]), None),
+            (told(numbers::STATED, 0, b"", &[]), Some(Answer::Stated(of_node(Kind::File, Some(7))))),
+            (numbered(ended(numbers::NAMES)), Some(Answer::Names(vec![]))),
             (listing, Some(Answer::Names(names(["a", "b"]).to_vec()))),
             (sequencer, Some(Answer::Sequencer(vec![1, 255]))),
-            (numbered(ended(kinds::OKAY)), Some(Answer::Done)),
-            (numbered(Numbers { fault: 6, ..ended(kinds::REFUSED) }), Some(Answer::Refused(Refusal::NotFound))),
-            (numbered(Numbers { fault: 11, argument: 9, ..ended(kinds::REFUSED) }), Some(Answer::Refused(Refusal::WrongGeneration(9)))),
-            (numbered(ended(kinds::REFUSED)), None),
+            (numbered(ended(numbers::OKAY)), Some(Answer::Done)),
+            (numbered(Numbers { fault: 6, ..ended(numbers::REFUSED) }), Some(Answer::Refused(Refusal::NotFound))),
+            (numbered(Numbers { fault: 11, argument: 9, ..ended(numbers::REFUSED) }), Some(Answer::Refused(Refusal::WrongGeneration(9)))),
+            (numbered(ended(numbers::REFUSED)), None),
             (numbered(ended(0)), None),
             (numbered(ended(16)), None),
         ];
@@ -183,15 +165,15 @@ mod tests {
     fn other_lines_are_told() {
         let bare = |what| Numbers { what, ..Numbers::default() };
         let rows = [
-            (told(kinds::SEEN, 0, b"abc", &[]), Some(Line::Served(Some(view(Kind::File, b"abc", &[]))))),
-            (told(kinds::SEEN, 1, b"", &["acl"]), Some(Line::Served(Some(view(Kind::Directory, b"", &["acl"]))))),
-            (numbered(bare(kinds::ABSENT)), Some(Line::Served(None))),
-            (numbered(Numbers { event: 1, ..bare(kinds::EVENT) }), Some(Line::Event(None, Event::Failover))),
-            (numbered(Numbers { event: 6, opened: 2, ..bare(kinds::EVENT) }), Some(Line::Event(Some(2), Event::Invalid))),
-            (numbered(bare(kinds::EVENT)), None),
-            (numbered(bare(kinds::JEOPARDY)), Some(Line::Jeopardy)),
-            (numbered(bare(kinds::SAFE)), Some(Line::Safe)),
-            (numbered(bare(kinds::LOST)), Some(Line::Lost)),
+            (told(numbers::SEEN, 0, b"abc", &[]), Some(Line::Served(Some(view(Kind::File, b"abc", &[]))))),
+            (told(numbers::SEEN, 1, b"", &["acl"]), Some(Line::Served(Some(view(Kind::Directory, b"", &["acl"]))))),
+            (numbered(bare(numbers::ABSENT)), Some(Line::Served(None))),
+            (numbered(Numbers { event: 1, ..bare(numbers::EVENT) }), Some(Line::Event(None, Event::Failover))),
+            (numbered(Numbers { event: 6, opened: 2, ..bare(numbers::EVENT) }), Some(Line::Event(Some(2), Event::Invalid))),
+            (numbered(bare(numbers::EVENT)), None),
+            (numbered(bare(numbers::JEOPARDY)), Some(Line::Jeopardy)),
+            (numbered(bare(numbers::SAFE)), Some(Line::Safe)),
+            (numbered(bare(numbers::LOST)), Some(Line::Lost)),
         ];
         for (told, wanted) in rows {
             let what = told.numbers.what;

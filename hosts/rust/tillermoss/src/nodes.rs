@@ -1,5 +1,6 @@
 //! Nodes, and what may be done with them.
 
+use crate::numbers;
 use std::fmt;
 
 /// A file or a directory.
@@ -79,7 +80,7 @@ impl Mode {
     /// assert_eq!(client.list(client.open("/ls/c", Mode::READ)?)?, ["acl"]);
     /// # Ok(()) });
     /// ```
-    pub const READ: Mode = Mode(1);
+    pub const READ: Mode = Mode(numbers::READ as u8);
     /// To set, to delete, and to take the lock.
     ///
     /// ```
@@ -91,7 +92,7 @@ impl Mode {
     /// assert_eq!(client.read(file).unwrap_err().refusal(), Some(Refusal::Denied(Right::Read)));
     /// # Ok(()) });
     /// ```
-    pub const WRITE: Mode = Mode(2);
+    pub const WRITE: Mode = Mode(numbers::WRITE as u8);
     /// To change the names of the ACLs.
     ///
     /// ```
@@ -101,7 +102,7 @@ impl Mode {
     /// client.set_acl(client.open("/ls/c/f", Mode::CHANGE)?, &["base", "base", "base"].map(str::to_owned), None)?;
     /// # Ok(()) });
     /// ```
-    pub const CHANGE: Mode = Mode(4);
+    pub const CHANGE: Mode = Mode(numbers::CHANGE_ACL as u8);
 
     /// For what either is for.
     ///
@@ -169,9 +170,9 @@ pub struct View {
 // (by the numbers of `include/cell_client.h`)
 impl Kind {
     pub(crate) fn of(number: u64) -> Option<Kind> {
-        match number {
-            0 => Some(Kind::File),
-            1 => Some(Kind::Directory),
+        match u32::try_from(number).ok()? {
+            numbers::A_FILE => Some(Kind::File),
+            numbers::A_DIRECTORY => Some(Kind::Directory),
             _ => None,
         }
     }
@@ -179,27 +180,27 @@ impl Kind {
 
 impl LockMode {
     pub(crate) fn of(number: u64) -> Option<LockMode> {
-        match number {
-            0 => Some(LockMode::Exclusive),
-            1 => Some(LockMode::Shared),
+        match u32::try_from(number).ok()? {
+            numbers::EXCLUSIVE => Some(LockMode::Exclusive),
+            numbers::SHARED => Some(LockMode::Shared),
             _ => None,
         }
     }
 
     pub(crate) fn number(self) -> u32 {
         match self {
-            LockMode::Exclusive => 0,
-            LockMode::Shared => 1,
+            LockMode::Exclusive => numbers::EXCLUSIVE,
+            LockMode::Shared => numbers::SHARED,
         }
     }
 }
 
 impl Right {
     pub(crate) fn of(number: u64) -> Option<Right> {
-        match number {
-            1 => Some(Right::Read),
-            2 => Some(Right::Write),
-            4 => Some(Right::Change),
+        match u32::try_from(number).ok()? {
+            numbers::READ => Some(Right::Read),
+            numbers::WRITE => Some(Right::Write),
+            numbers::CHANGE_ACL => Some(Right::Change),
             _ => None,
         }
     }

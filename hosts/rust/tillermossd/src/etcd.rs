@@ -4,6 +4,7 @@ pub mod copying;
 pub mod decisions;
 pub mod found;
 pub mod gateway;
+pub mod guard;
 pub mod keeper;
 pub mod mastership;
 pub mod pipes;
@@ -23,6 +24,8 @@ use crate::net::tls::client_config;
 use anyhow::{Context, Error, bail};
 use clap::Args;
 use host_wire::is_component;
+use std::ffi::OsString;
+use std::fmt::{self, Display, Formatter};
 use std::fs;
 use std::path::PathBuf;
 use std::str::FromStr;
@@ -68,6 +71,20 @@ impl Trust {
         let password = password.with_context(|| format!("there is no password in the first line of {}", path.display()))?;
         Ok(Some((name.clone(), password.to_owned())))
     }
+
+    /// As a command line says it.
+    #[must_use]
+    pub fn words(&self) -> Vec<OsString> {
+        let path = |path: &Option<PathBuf>| path.clone().map(PathBuf::into_os_string);
+        let named = [
+            ("--etcd-ca", path(&self.etcd_ca)),
+            ("--etcd-cert", path(&self.etcd_cert)),
+            ("--etcd-key", path(&self.etcd_key)),
+            ("--etcd-user", self.etcd_user.clone().map(OsString::from)),
+            ("--etcd-password", path(&self.etcd_password)),
+        ];
+        named.into_iter().filter_map(|(name, value)| Some([OsString::from(name), value?])).flatten().collect()
+    }
 }
 
 /// The rows of a cell in etcd, by the mastership of this server.
@@ -80,7 +97,7 @@ pub struct Rows {
     /// The mastership.
     pub mastership: Arc<Mastership>,
     /// What was found there before the first master, which needn't be read again where nothing was written since.
-    pub found: Arc<Mutex<Option<Found>>>,
+    pub found: Arc<Mutex<Option<Arc<Found>>>>,
 }
 
 impl Rows {
@@ -88,6 +105,12 @@ impl Rows {
     pub fn keep(&self) -> Result<Kept, Error> {
         let found = self.found.lock().unwrap_or_else(PoisonError::into_inner).take();
         pipes::keep(Keeper::open(&self.gateway, &self.prefix, self.mastership.clone(), found)?)
+    }
+}
+
+impl Display for Place {
+    fn fmt(&self, out: &mut Formatter<'_>) -> fmt::Result {
+        write!(out, "etcd://{}/{}", self.members.join(","), self.cell)
     }
 }
 

@@ -29,6 +29,7 @@ fn main() -> ExitCode {
         Some(Command::Copy { from, to, master, trust }) => {
             etcd::copying::copy(from, to, trust, &master.clone().unwrap_or_else(serving::cellctl))
         }
+        Some(Command::Guard { rows, revision, trust }) => etcd::guard::guard(rows, trust, *revision),
         None => serving::serve(options),
     };
     match done {

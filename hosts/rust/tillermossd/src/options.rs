@@ -114,6 +114,19 @@ pub enum Command {
         #[command(flatten)]
         trust: Trust,
     },
+    /// Waits until the server that has started it is gone, which holds the other end of its input, and gives back its mastership
+    #[command(hide = true)]
+    Guard {
+        /// Where the rows of its cell stand
+        #[arg(long)]
+        rows: Place,
+        /// By which revision the mastership began
+        #[arg(long)]
+        revision: i64,
+        /// How etcd is reached by TLS
+        #[command(flatten)]
+        trust: Trust,
+    },
 }
 
 /// Where the rows of a cell stand that are moved.
@@ -187,7 +200,12 @@ mod tests {
         assert_eq!(as_user, Trust { etcd_user: Some("ann".to_owned()), etcd_password: Some("p".into()), ..Trust::default() });
         let copy = read(&format!("copy --from s --to etcd://a:1/c {by_tls}")).unwrap().command;
         let to = End::Etcd(Place { members: vec!["a:1".to_owned()], cell: "c".to_owned() });
-        assert_eq!(copy, Some(Command::Copy { from: End::File("s".into()), to, master: None, trust }));
+        assert_eq!(copy, Some(Command::Copy { from: End::File("s".into()), to, master: None, trust: trust.clone() }));
+        let place = Place { members: vec!["a:1".to_owned(), "b:2".to_owned()], cell: "c".to_owned() };
+        let trust = Trust { etcd_user: Some("ann".to_owned()), etcd_password: Some("p".into()), ..trust };
+        let words = trust.words().into_iter().map(|word| word.into_string().unwrap()).collect::<Vec<_>>().join(" ");
+        let guard = read(&format!("guard --rows {place} --revision 7 {words}")).unwrap().command;
+        assert_eq!(guard, Some(Command::Guard { rows: place, revision: 7, trust }));
         let restore = Command::Restore { copy: "c".into(), store: "s".into() };
         assert_eq!(read("restore c --store s").unwrap().command, Some(restore));
     }

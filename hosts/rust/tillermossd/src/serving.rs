@@ -2,10 +2,11 @@
 
 use crate::admin::pages::{Admin, Asked, Counter, Desk, Token};
 use crate::admin::showing::Showing;
-use crate::etcd::mastership::{Mastership, Seat};
+
+use crate::etcd::mastership::{Bell, Mastership, Seat};
 use crate::etcd::standby::{self, Known};
 use crate::etcd::warm::Warm;
-use crate::etcd::{self, gateway::Gateway, upkeep};
+use crate::etcd::{self, gateway::Gateway, guard, upkeep};
 use crate::etcd::{Place, Rows};
 use crate::master::child::{Ending, Making, Master, Order, StoreRefused};
 use crate::master::locks::take_lock;
@@ -16,7 +17,7 @@ use crate::master::store::{self, Head, beside};
 use crate::net::connections::{Hall, take_all};
 use crate::net::doors::{Certificates, Door};
 use crate::options::Options;
-use crate::settings::Settings;
+use crate::settings::{Own, Settings};
 use anyhow::{Context, Result, bail};
 use host_wire::{Address, Notice};
 use nix::sys::resource::{Resource, getrlimit, setrlimit};
@@ -107,14 +108,19 @@ fn serve_rows(place: Place, options: Options) -> Result<()> {
     let server = seat.server.clone();
     let warm = Warm::begin(&gateway, &place.prefix());
     look_ahead(&options, &gateway, &place.prefix());
-    let waited = runtime.block_on(wait_for_mastership(&options, &gateway, &place.prefix(), seat))?;
+    let waited = runtime.block_on(wait_for_mastership(&options, &gateway, &place.prefix(), seat, warm.bell()))?;
     let Some(Standing { mastership, mut signals, counters }) = waited else {
         // (who waits for the mastership may wait on: it ends with the process)
         runtime.shutdown_background();
         return Ok(());
     };
+    // (without it others wait until the mastership has run out)
+    let guarded = guard::begin(&place, &options.trust, &mastership);
+    if let Err(fault) = &guarded {
+        warn!(reason = %format_args!("{fault:#}"), "the mastership has no guard");
+    }
     let rows = Rows { gateway, prefix: place.prefix(), mastership: mastership.clone(), found: Arc::default() };
-    let served = look_beside(&options, &rows, warm)
+    let served = look_beside(&options, &rows, &warm)
         .and_then(|found| runtime.block_on(run(options, PathBuf::new(), Some(rows), found, &mut signals, Some(counters))));
     runtime.shutdown_background();
     if served.is_ok() || signals.going.is_told || mastership.holds() {
@@ -136,7 +142,13 @@ struct Standing {
 }
 
 // None where it is told to go first.
-async fn wait_for_mastership(options: &Options, gateway: &Arc<Gateway>, prefix: &str, seat: Seat) -> Result<Option<Standing>> {
+async fn wait_for_mastership(
+    options: &Options,
+    gateway: &Arc<Gateway>,
+    prefix: &str,
+    seat: Seat,
+    bell: Arc<Bell>,
+) -> Result<Option<Standing>> {
     let mut signals = Signals::take()?;
     let is_tls = options.listen.iter().any(|address| matches!(address, Address::Tls(_)));
     let certificates = if is_tls { Some(Arc::new(Certificates::new(options)?)) } else { None };
@@ -152,7 +164,7 @@ async fn wait_for_mastership(options: &Options, gateway: &Arc<Gateway>, prefix: 
     let (gateway, prefix, span) = (gateway.clone(), prefix.to_owned(), options.mastership);
     let mut waiting = tokio::task::spawn_blocking(move || {
         let last = std::env::var(LAST_SERVER).ok();
-        Mastership::wait(&gateway, &prefix, &seat, span, last.as_deref(), |other| {
+        Mastership::wait(&gateway, &prefix, &seat, span, last.as_deref(), &bell, |other| {
             *known.lock().unwrap_or_else(PoisonError::into_inner) = other
         })
     });
@@ -215,30 +227,30 @@ pub fn takes_many() -> bool {
     TAKES.get().copied().unwrap_or(false)
 }
 
-// What the rows in etcd are, and what stands beside them.
-fn look_beside(options: &Options, rows: &Rows, warm: Warm) -> Result<Found> {
+// What the rows in etcd are, and what stands beside them. It waits for etcd while the mastership lasts.
+fn look_beside(options: &Options, rows: &Rows, warm: &Warm) -> Result<Found> {
+    let Rows { gateway, prefix, mastership, .. } = rows;
     let settings = Settings::read(options.settings.as_deref())?;
-    let own = rows.gateway.get(&format!("{}meta", rows.prefix))?;
-    let found = match own.and_then(|own| warm.take(own.changed)) {
-        Some(found) => found,
-        None => etcd::found::Found::read(&rows.gateway, &rows.prefix, || rows.mastership.check())?,
-    };
-    let mut numbers = Numbers::beside(rows, found.first_client())?;
+    let found = mastership.insist(|| match gateway.get(&format!("{prefix}meta"))?.and_then(|own| warm.take(own.changed)) {
+        Some(found) => Ok(found),
+        None => etcd::found::Found::read(gateway, prefix, || mastership.check()),
+    })?;
+    let mut numbers = mastership.insist(|| Numbers::beside(rows, found.first_client()))?;
     let head = Head { epoch: found.epoch(), coming: found.epoch() + 1, has_known_secret: found.has_known_secret() };
     let epochs = head.check(numbers.epochs())?;
     let mut warnings = warnings(options, head.has_known_secret);
-    if !takes(&rows.gateway, &rows.prefix)? {
+    if !mastership.insist(|| takes(gateway, prefix))? {
         warnings.push(format!(
             "etcd takes no transaction of {OPERATIONS} operations, and refuses a commit of more than it takes: set --max-txn-ops {OPERATIONS}"
         ));
     }
-    let tables = found.tables()?;
-    if found.epoch() > 0 {
-        warnings.extend(check(options, &settings, &tables)?.iter().map(stranger));
+    if let Some(own) = found.own()? {
+        warnings.extend(check(options, &settings, &own)?.iter().map(stranger));
     }
-    numbers.note(epochs)?;
-    *rows.found.lock().unwrap_or_else(PoisonError::into_inner) = Some(found);
-    let picture = Box::new(move || Picture::of(&tables));
+    mastership.insist(|| numbers.note(epochs))?;
+    let found = Arc::new(found);
+    *rows.found.lock().unwrap_or_else(PoisonError::into_inner) = Some(found.clone());
+    let picture = Box::new(move || Ok(Picture::of_found(&found)));
     Ok(Found { picture, numbers, settings, warnings })
 }
 
@@ -277,7 +289,7 @@ fn look(options: &Options, path: &Path) -> Result<Found> {
         let head = Head::read(&connection)?;
         has_known_secret = head.has_known_secret;
         epochs = head.check(numbers.epochs())?;
-        strangers = check(options, &settings, &connection)?;
+        strangers = check(options, &settings, &Own::read(&connection)?)?;
         picture = Box::new(move || {
             let _kept = folder;
             Picture::of(&connection)
@@ -314,7 +326,7 @@ fn wanted_principals(options: &Options, settings: &Settings) -> Result<()> {
 }
 
 // Whether the settings are those of the store; whom they name, and its ACL doesn't.
-fn check(options: &Options, settings: &Settings, store: &rusqlite::Connection) -> Result<Vec<String>> {
+fn check(options: &Options, settings: &Settings, store: &Own) -> Result<Vec<String>> {
     let file = options.settings.as_deref().unwrap_or(Path::new(""));
     settings.check(store).with_context(|| format!("the settings of {}", file.display()))
 }
@@ -422,8 +434,14 @@ async fn first(making: &Making, hall: &Arc<Hall>, reading: Reading, going: &mut 
 async fn up(making: &Making, hall: &Arc<Hall>, is_alone: bool, reading: Option<Reading>) -> Result<Master> {
     let master = making.start(hall, is_alone, reading).await?;
     let epoch = hall.picture().epoch;
-    let noting = hall.clone();
-    let note = move || noting.numbers.lock().unwrap_or_else(PoisonError::into_inner).note_up(epoch);
+    let (noting, mastership) = (hall.clone(), making.rows.as_ref().map(|rows| rows.mastership.clone()));
+    let note = move || {
+        let mut numbers = noting.numbers.lock().unwrap_or_else(PoisonError::into_inner);
+        match mastership {
+            Some(mastership) => mastership.insist(|| numbers.note_up(epoch)),
+            None => numbers.note_up(epoch),
+        }
+    };
     tokio::task::spawn_blocking(note).await??;
     info!(process = master.process(), epoch, "serving");
     Ok(master)
@@ -456,6 +474,7 @@ async fn keep(mut master: Master, making: Making, hall: Arc<Hall>, mut orders: m
             return Ok(());
         };
         master = next;
+        hall.go_on(hall.changes.begin_anew());
         // (what was on its way to the last one is lost, also Beats that it kept)
         hall.routes.send_to_all(&Notice::of_new_master().write());
     }

@@ -93,6 +93,26 @@ impl Cell {
     }
 }
 
+/// What a store was made with.
+#[derive(Clone, Debug, PartialEq, Eq)]
+pub struct Own {
+    /// Its secret, in hexadecimal digits.
+    pub secret: String,
+    /// How often its ACL `base` was written, and what it holds. None where it isn't there any more.
+    pub base: Option<(u64, Vec<u8>)>,
+}
+
+impl Own {
+    /// That of a store in a file.
+    pub fn read(store: &Connection) -> Result<Own> {
+        let (cell, secret): (String, Vec<u8>) =
+            store.query_row("SELECT cell, secret FROM meta WHERE id = 1", [], |row| Ok((row.get(0)?, row.get(1)?)))?;
+        let base = "SELECT content_gen, content FROM nodes WHERE name = ?";
+        let base = store.query_row(base, [format!("/ls/{cell}/acl/base")], |row| Ok((row.get(0)?, row.get(1)?)));
+        Ok(Own { secret: hex::encode(secret), base: base.optional()? })
+    }
+}
+
 /// What a file of settings says.
 #[derive(Clone, Debug, Default, PartialEq)]
 pub struct Settings {
@@ -126,25 +146,18 @@ impl Settings {
     /// Why these aren't the settings of a store that is there: the secret and the principals are those of a new one, and to pass over
     /// them would leave who changed them in the belief that they hold. What they name that the store's ACL `base`, which was written
     /// since, doesn't have.
-    pub fn check(&self, store: &Connection) -> Result<Vec<String>> {
+    pub fn check(&self, store: &Own) -> Result<Vec<String>> {
         let said: Cell = toml::Value::Table(self.cell.clone()).try_into()?;
-        let (cell, secret): (String, Vec<u8>) =
-            store.query_row("SELECT cell, secret FROM meta WHERE id = 1", [], |row| Ok((row.get(0)?, row.get(1)?)))?;
-        if said.secret.is_some_and(|said| said != hex::encode(secret)) {
+        if said.secret.is_some_and(|said| said != store.secret) {
             bail!("secret isn't that of the store, which keeps the one that it was made with: take the line out, or put the old one back");
         }
-        let Some(principals) = said.principals else {
-            return Ok(Vec::new());
-        };
-        let base = "SELECT content_gen, content FROM nodes WHERE name = ?";
-        let base = store.query_row(base, [format!("/ls/{cell}/acl/base")], |row| Ok((row.get::<_, u64>(0)?, row.get::<_, Vec<u8>>(1)?)));
         // (whoever may delete the ACL has done so)
-        let Some((generation, content)) = base.optional()? else {
+        let (Some(principals), Some((generation, content))) = (said.principals, &store.base) else {
             return Ok(Vec::new());
         };
-        let text = String::from_utf8_lossy(&content);
+        let text = String::from_utf8_lossy(content);
         let present: Vec<&str> = text.lines().collect();
-        if generation == 1 && principals != present {
+        if *generation == 1 && principals != present {
             bail!(
                 "principals are those of a new store, and this one was made with {present:?}: `tillermoss put acl/base` changes whom it \
                  lets in; then take the line out"
@@ -236,7 +249,7 @@ mod tests {
 
     #[test]
     fn what_a_store_does_not_take_is_refused() {
-        let check = |text: &str, generation| Settings::of_text(text).unwrap().check(&store("ann\nbob\n", generation));
+        let check = |text: &str, generation| Settings::of_text(text).unwrap().check(&Own::read(&store("ann\nbob\n", generation)).unwrap());
         let secret = |byte: &str| format!("secret = \"{}\"", byte.repeat(32));
         assert_eq!(check("", 1).unwrap(), [""; 0]);
         assert_eq!(check(&secret("ab"), 1).unwrap(), [""; 0]);

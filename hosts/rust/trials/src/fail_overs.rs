@@ -1,8 +1,9 @@
 //! What clients notice of a fail-over, and how long a client that doesn't let go is waited for.
 
+use crate::etcd::Etcd;
 use crate::far::far_from;
 use crate::plain::{Plain, Talker, again, new};
-use crate::servers::{Kill, Start, folder};
+use crate::servers::{Kill, Server, Start, folder};
 use std::io;
 use std::net::Shutdown;
 use std::sync::atomic::{AtomicBool, Ordering};
@@ -30,6 +31,16 @@ pub struct Noticed {
     pub jeopardies: usize,
     /// So many sessions were lost.
     pub lost: usize,
+}
+
+impl Noticed {
+    pub(crate) fn look_at(&mut self, guests: &[Guest]) {
+        for guest in guests {
+            let (jeopardies, is_lost) = guest.noticed();
+            self.jeopardies += jeopardies;
+            self.lost += usize::from(is_lost);
+        }
+    }
 }
 
 /// A client, its file that it caches, and whose lock it holds.
@@ -108,13 +119,59 @@ pub fn fail_over(clients: usize, one_way: Duration, looked_at: Duration) -> Resu
     let (_again, last) = (again?, last?.unwrap_or(begun));
     let mut noticed = Noticed { answered: last - begun, answered_since_the_end: last - ended, ..Noticed::default() };
     thread::sleep(looked_at);
-    for guest in &guests {
-        let (jeopardies, is_lost) = guest.noticed();
-        noticed.jeopardies += jeopardies;
-        noticed.lost += usize::from(is_lost);
-    }
+    noticed.look_at(&guests);
     drop(guests);
     std::fs::remove_dir_all(folder)?;
+    Ok(noticed)
+}
+
+/// How a server over etcd goes.
+#[derive(Clone, Copy, Debug, PartialEq, Eq)]
+pub enum Going {
+    /// By SIGTERM.
+    InOrder,
+    /// It and its master are killed.
+    Killed,
+    /// All its processes are, as where its machine dies.
+    WithAll,
+}
+
+fn go(server: &mut Server, going: Going) -> io::Result<()> {
+    if going == Going::WithAll {
+        server.kill_guard()?;
+    }
+    if going != Going::InOrder {
+        server.kill_master()?;
+    }
+    server.kill(if going == Going::InOrder { Kill::InOrder } else { Kill::Server }).map(drop)
+}
+
+/// So many clients of a cell over etcd that has so many files more; the server goes, and one that stands by takes its place. They are
+/// looked at for so long after that. In what they noticed the first answer counts from the going, and so does the last.
+///
+/// # Errors
+///
+/// Where etcd or a server can't be started, or a client is refused.
+pub fn fail_over_to_one_that_stands_by(files: u64, clients: usize, going: Going, looked_at: Duration) -> Result<Noticed, Error> {
+    let etcd = Etcd::with_cell(&[])?;
+    etcd.put_files(files)?;
+    let mut first = etcd.server("first", etcd.address).start()?;
+    let second = etcd.server("second", etcd.address).stand_by()?;
+    let guests = come(&format!("{},{}", first.address, second.address), clients)?;
+    // (it reads the rows meanwhile)
+    thread::sleep(QUIET + Duration::from_millis(files / 10));
+    let gone = Instant::now();
+    go(&mut first, going)?;
+    let answers = thread::scope(|scope| {
+        let writers = guests.iter().map(|guest| (&guest.client, guest.watch.handle));
+        let writing: Vec<_> = writers.map(|(client, file)| scope.spawn(move || write(client, file).map(|()| gone.elapsed()))).collect();
+        let answers = writing.into_iter().map(|writing| writing.join().unwrap_or(Err(Error::Closed)));
+        answers.collect::<Result<Vec<Duration>, Error>>()
+    })?;
+    let answered = answers.iter().min().copied().unwrap_or_default();
+    let mut noticed = Noticed { answered, answered_since_the_end: answers.into_iter().max().unwrap_or_default(), ..Noticed::default() };
+    thread::sleep(looked_at);
+    noticed.look_at(&guests);
     Ok(noticed)
 }
 

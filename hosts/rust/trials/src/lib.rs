@@ -1,12 +1,16 @@
 //! What server, clients and command line are tested with.
 
+mod asking;
 mod disks;
 mod etcd;
 mod fail_overs;
 mod far;
+mod gateway_history;
+mod gateways;
 mod history;
 mod holder;
 mod holds;
+mod languages;
 mod masters;
 mod members;
 mod plain;
@@ -20,19 +24,24 @@ mod workers;
 pub use disks::{Filled, fill};
 pub use etcd::{Etcd, rows};
 pub use fail_overs::{
-    Noticed, fail_over, start_behind_clients_that_left, write_beside_one_that_keeps, write_beside_one_that_starts,
-    write_beside_one_that_stays_behind,
+    Going, Noticed, fail_over, fail_over_to_one_that_stands_by, start_behind_clients_that_left, write_beside_one_that_keeps,
+    write_beside_one_that_starts, write_beside_one_that_stays_behind,
 };
 pub use far::far_from;
+pub use gateway_history::{Tally, Trouble, run_gateway_history};
+pub use gateways::{Answered, Gateway, curl};
 pub use history::{Read, Write, check_history};
 pub use holder::Holder;
 pub use holds::{Hold, check_holds};
+pub use languages::run_languages;
 pub use masters::{Master, forged, messages, opening};
 pub use members::Member;
 pub use plain::{Plain, Talker, again, answer, new, start};
 pub use proxy::{Counts, Proxy};
 pub use relay::{Passing, Relay};
-pub use servers::{Kill, Server, Start, certificates, folder, free, master_program, program, revoke, server_of_its_own, with_client};
+pub use servers::{
+    Kill, Server, Start, certificates, folder, free, guards, master_program, masters, program, revoke, server_of_its_own, with_client,
+};
 pub use stops::{Kind, Stopped, stop_for};
-pub use strangers::Stranger;
+pub use strangers::{Stranger, expired};
 pub use workers::{Deeds, FILES, Rules, Worker, check_deeds};

@@ -434,19 +434,52 @@ impl Server {
         send(self.child.id(), signal)
     }
 
-    /// The number of the process of its master, its only child.
+    /// The number of the process of its master, the only child that serves.
     ///
     /// # Errors
     ///
     /// Where it has none.
     pub fn master(&self) -> io::Result<u32> {
-        let id = self.child.id();
-        let mut found = String::new();
-        for task in fs::read_dir(format!("/proc/{id}/task"))? {
-            found += &fs::read_to_string(task?.path().join("children"))?;
+        match masters(self.child.id())[..] {
+            [master] => Ok(master),
+            ref others => Err(io::Error::other(format!("the server's masters: {others:?}"))),
         }
-        found.trim().parse().map_err(|_| io::Error::other(format!("the server's children: {found}")))
     }
+
+    /// Kills the process that gives its mastership back where it is gone, as where the whole machine dies.
+    ///
+    /// # Errors
+    ///
+    /// Where it has none.
+    pub fn kill_guard(&self) -> io::Result<()> {
+        match guards(self.child.id())[..] {
+            [guard] => send(guard, Signal::SIGKILL),
+            ref others => Err(io::Error::other(format!("the server's guards: {others:?}"))),
+        }
+    }
+}
+
+// The processes that a process has started with this word.
+fn children(process: u32, word: &str) -> Vec<u32> {
+    let tasks = fs::read_dir(format!("/proc/{process}/task")).into_iter().flatten().flatten();
+    let told = tasks.filter_map(|task| fs::read_to_string(task.path().join("children")).ok()).collect::<String>();
+    let is_so = |child: &u32| {
+        let words = fs::read_to_string(format!("/proc/{child}/cmdline")).unwrap_or_default();
+        words.split('\0').nth(1) == Some(word)
+    };
+    told.split_whitespace().filter_map(|child| child.parse().ok()).filter(is_so).collect()
+}
+
+/// The masters that the server with this process has started.
+#[must_use]
+pub fn masters(server: u32) -> Vec<u32> {
+    children(server, "serve")
+}
+
+/// The processes that guard its mastership.
+#[must_use]
+pub fn guards(server: u32) -> Vec<u32> {
+    children(server, "guard")
 }
 
 fn send(process: u32, signal: Signal) -> io::Result<()> {

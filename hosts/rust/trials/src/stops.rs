@@ -108,11 +108,7 @@ pub fn stop_for(kind: Kind, member: Option<&Member>, what: Stopped, lasting: Dur
     // (a master that doesn't answer is replaced meanwhile, and one that was may be gone)
     let _ = cell.tell(what, Signal::SIGCONT);
     let mut noticed = Noticed { answered: write_each(&guests, woken), answered_since_the_end: stopped.elapsed(), ..Noticed::default() };
-    for guest in &guests {
-        let (jeopardies, is_lost) = guest.noticed();
-        noticed.jeopardies += jeopardies;
-        noticed.lost += usize::from(is_lost);
-    }
+    noticed.look_at(&guests);
     drop(guests);
     drop(cell.servers);
     std::fs::remove_dir_all(cell.folder)?;

@@ -18,6 +18,19 @@ use std::net::TcpStream;
 use std::path::Path;
 use std::time::Duration;
 
+/// Writes a certificate of this name that ran out, which the authority of these certificates has signed, and its key, among them.
+///
+/// # Errors
+///
+/// Where the authority can't be read, OpenSSL makes no such certificate, or it can't be written.
+pub fn expired(certificates: &Path, subject: &str) -> io::Result<()> {
+    let above = X509::from_pem(&fs::read(certificates.join("ca.pem"))?)?;
+    let (by, own) = (PKey::private_key_from_pem(&fs::read(certificates.join("ca.key"))?)?, key()?);
+    let certificate = signed_until(&Asn1Time::from_unix(1)?, name(subject)?.as_ref(), &own, &Signer(above.subject_name(), &by), false)?;
+    fs::write(certificates.join("expired.pem"), certificate.to_pem()?)?;
+    fs::write(certificates.join("expired.key"), own.private_key_to_pem_pkcs8()?)
+}
+
 /// A stranger's certificate, its key, and what it shows with it.
 #[derive(Debug)]
 pub struct Stranger {
@@ -40,18 +53,22 @@ fn name(text: &str) -> Result<X509Name, ErrorStack> {
 /// Who signs: its name and its key.
 struct Signer<'a>(&'a X509NameRef, &'a PKey<Private>);
 
-// A certificate for this key.
+// A certificate for this key, for seven days.
 fn signed(subject: &X509NameRef, own: &PKey<Private>, by: &Signer, is_authority: bool) -> Result<X509, ErrorStack> {
+    signed_until(&Asn1Time::days_from_now(7)?, subject, own, by, is_authority)
+}
+
+fn signed_until(until: &Asn1Time, subject: &X509NameRef, own: &PKey<Private>, by: &Signer, is_authority: bool) -> Result<X509, ErrorStack> {
     let mut number = BigNum::new()?;
     number.rand(128, MsbOption::ONE, false)?;
-    let (from, until) = (Asn1Time::from_unix(0)?, Asn1Time::days_from_now(7)?);
+    let from = Asn1Time::from_unix(0)?;
     let mut certificate = X509::builder()?;
     certificate.set_version(2)?;
     certificate.set_serial_number(number.to_asn1_integer()?.as_ref())?;
     certificate.set_subject_name(subject)?;
     certificate.set_issuer_name(by.0)?;
     certificate.set_not_before(from.as_ref())?;
-    certificate.set_not_after(until.as_ref())?;
+    certificate.set_not_after(until)?;
     certificate.set_pubkey(own)?;
     let mut constraints = BasicConstraints::new();
     constraints.critical();

@@ -816,7 +816,9 @@ fn who_is_let_out_stays_out() {
 // (at tcp: too, where it isn't his certificate that keeps him out)
 #[test]
 fn who_was_ended_is_not_let_in_by_his_number() {
-    let server = trials::server_of_its_own();
+    let folder = folder("ended");
+    let start = Start::new(&folder.join("store.db")).with(&["tcp:0", "--admin", &format!("unix:{}", folder.join("admin").display())]);
+    let mut server = start.start().unwrap();
     let admin = Admin::new(server.admin.as_deref().unwrap()).unwrap();
     let (_connection, welcome) = Plain::greet(server.place(), &new("ann")).unwrap();
     let hello = again("ann", welcome.unwrap());
@@ -828,6 +830,13 @@ fn who_was_ended_is_not_let_in_by_his_number() {
     assert!(client.create("/ls/c/f", b"").is_err());
     assert!(Plain::greet(server.place(), &new("ann")).unwrap().1.is_ok());
     assert!(admin.end_all("nobody").unwrap_err().to_string().contains("there is no such client"));
+    // (nor by the next server)
+    server.kill(Kill::Server).unwrap();
+    let server = start.start().unwrap();
+    assert_eq!(Plain::greet(server.place(), &hello).unwrap().1, Err(TurnedAway::WrongToken));
+    assert!(Plain::greet(server.place(), &new("ann")).unwrap().1.is_ok());
+    drop((client, server));
+    std::fs::remove_dir_all(folder).unwrap();
 }
 
 // A server over an etcd that hangs, and eight that greet: the next number has to be written there. Who is connected reads meanwhile.
@@ -925,6 +934,69 @@ fn an_address_that_is_not_safe_wants_a_word() {
             None => assert!(started.unwrap().has_logged("acts for anybody, and nothing is encrypted"), "{words:?}"),
         }
     }
+    fs::remove_dir_all(folder).unwrap();
+}
+
+// So many clients of bob, each with this file open to write.
+fn writers(place: &str, name: &str, count: usize) -> Vec<(Talker, u64)> {
+    const AT_ONCE: usize = 32;
+    let coming = |of: usize| {
+        (of..count).step_by(AT_ONCE).map(|_| {
+            let mut talker = Plain::begin(place, "bob").unwrap();
+            let opened = talker.open(name, b"").unwrap();
+            (talker, opened)
+        })
+    };
+    thread::scope(|scope| {
+        let coming: Vec<_> = (0..AT_ONCE).map(|of| scope.spawn(move || coming(of).collect::<Vec<_>>())).collect();
+        coming.into_iter().flat_map(|coming| coming.join().unwrap()).collect()
+    })
+}
+
+// More clients of bob than a master has places for changes set one file, which a client of carol's caches that is silent until the others
+// were looked at.
+#[test]
+fn changes_of_one_principal_hold_up_no_other() {
+    const WRITERS: usize = 4200;
+    const SOON: Duration = Duration::from_secs(3);
+    let (_, most) = getrlimit(Resource::RLIMIT_NOFILE).unwrap();
+    assert!(most > 4400, "this wants 4,400 descriptors: ulimit -Hn says {most}");
+    setrlimit(Resource::RLIMIT_NOFILE, most, most).unwrap();
+    let folder = folder("share");
+    let settings = "lease = 60000\nprincipals = [\"ann\", \"bob\", \"carol\"]\n[limits]\nbytes_of_a_principal = 2000000000\n";
+    let server = Start::new(&folder.join("store.db")).settings(settings).with(&["--admin", "tcp:0"]).start().unwrap();
+    let witness = Client::connect(&Options::new(&server.address, "ann")).unwrap();
+    let file = witness.create("/ls/c/f", b"before").unwrap();
+    witness.create("/ls/c/cached", b"before").unwrap();
+    let mut writers = writers(server.place(), "/ls/c/cached", WRITERS);
+    let mut silent = Plain::begin(server.place(), "carol").unwrap();
+    let seen = silent.open("/ls/c/cached", b"").unwrap();
+    silent.read(seen).unwrap();
+    for (writer, opened) in &mut writers {
+        let set = writer.client.set(0, *opened, b"written").unwrap();
+        writer.connection.send(&set).unwrap();
+    }
+    thread::sleep(Duration::from_secs(2));
+    let timed = |act: &dyn Fn()| {
+        let begun = Instant::now();
+        act();
+        begun.elapsed()
+    };
+    let write = timed(&|| witness.set(file, b"after", None).unwrap());
+    let session = timed(&|| drop(Client::connect(&Options::new(&server.address, "dave")).unwrap().open("/ls/c", Mode::READ)));
+    let metrics = ureq::get(&format!("http://{}/metrics", server.admin.as_deref().unwrap().trim_start_matches("tcp:"))).call().unwrap();
+    let kept = metrics.into_string().unwrap().lines().find_map(|line| line.strip_prefix("tillermoss_changes_kept_total ")?.parse().ok());
+    println!("attack: {WRITERS} changes of bob wait ({kept:?} kept): a write of ann took {write:?}, a new session of dave {session:?}");
+    assert!(write < SOON && session < SOON, "{}", server.logged());
+    assert_eq!(kept, Some((WRITERS - 1024) as u64));
+    // (it hears of the change by an answer to a Beat, and lets go by the next one)
+    let beat = silent.beat();
+    silent.ask(beat);
+    silent.connection.send(&silent.client.beat(0).unwrap()).unwrap();
+    let answers = writers.iter_mut().map(|(writer, _)| said(answer(&mut writer.connection)));
+    let others: Vec<_> = answers.filter(|answer| *answer != "done").collect();
+    assert!(others.is_empty(), "{} of {WRITERS} weren't done: {:?}", others.len(), others.first());
+    drop(writers);
     fs::remove_dir_all(folder).unwrap();
 }
 

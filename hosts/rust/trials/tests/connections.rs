@@ -1,8 +1,10 @@
 //! To whom the server binds a connection, and what ends it: by bytes, without the client library.
 
 use host_wire::{Answer, Hello, TurnedAway, Welcome};
+use std::fs;
 use std::path::Path;
-use trials::{Kill, Master, Plain, Server, again, answer, folder, messages, new, start};
+use tillermoss::{Client, Options};
+use trials::{Kill, Master, Plain, Server, Start, again, answer, certificates, expired, folder, messages, new, start};
 
 fn greeted(server: &Server, hello: &Hello) -> (Plain, Result<Welcome, TurnedAway>) {
     Plain::greet(server.place(), hello).unwrap()
@@ -150,4 +152,44 @@ fn numbers_of_the_start_before_are_refused() {
     server.kill(Kill::Server).unwrap();
     assert!(Server::start(&store).is_ok());
     std::fs::remove_dir_all(folder).unwrap();
+}
+
+// Whom a client shows at this address, and by which authority it knows the server.
+fn shows(address: &str, own: &Path, name: &str, authority: &Path) -> Options {
+    let file = |folder: &Path, name: String| Some(folder.join(name));
+    let (certificate, key) = (file(own, format!("{name}.pem")), file(own, format!("{name}.key")));
+    Options { certificate, key, authority: file(authority, "ca.pem".to_owned()), ..Options::new(address, "ann") }
+}
+
+#[test]
+fn each_fault_of_tls_is_named_at_both_ends() {
+    let folder = folder("tls-faults");
+    let (own, other) = (certificates(&folder, &["ann"]), certificates(&folder.join("other"), &["ann"]));
+    expired(&own, "ann").unwrap();
+    let server = Start::new(&folder.join("store.db")).with(&["tcp:0"]).tls(&own).settings("principals = [\"ann\"]\n").start().unwrap();
+    let port = |at: usize| server.addresses[at].rsplit_once(':').unwrap().1.to_owned();
+    let (plain, tls) = (port(0), port(1));
+    let by_tls = |port: &str| format!("tls:localhost:{port}");
+    let rows = [
+        (shows(&by_tls(&tls), &own, "ann", &own), "", ""),
+        (shows(&by_tls(&tls), &own, "expired", &own), "what this one shows: certificate expired", "isn't taken: certificate has expired"),
+        (shows(&by_tls(&tls), &other, "ann", &own), "what this one shows: unknown ca", "isn't taken: no authority that is trusted here"),
+        (shows(&by_tls(&tls), &own, "ann", &other), "isn't taken: no authority that is trusted here", "what this one shows: unknown ca"),
+        (Options::new(&format!("tcp:127.0.0.1:{tls}"), "ann"), "it gave no greeting", "the other end speaks no TLS"),
+        (shows(&by_tls(&plain), &own, "ann", &own), "does it speak TLS?", "a block that is too long"),
+    ];
+    for (options, wanted, logged) in rows {
+        let begun = server.logged().len();
+        let told = Client::connect(&options).err().map_or(String::new(), |error| error.to_string());
+        assert!(told.contains(wanted) && told.is_empty() == wanted.is_empty(), "{wanted}: {told}");
+        assert!(server.has_logged(logged), "{logged}");
+        let lines: Vec<String> = server.logged()[begun..].lines().map(str::to_owned).collect();
+        let is_named = |line: &String| line.contains(logged) && line.contains("peer=\"127.0.0.1:");
+        assert!(wanted.is_empty() || (lines.len() == 1 && is_named(&lines[0])), "{logged}: {lines:?}");
+    }
+    fs::copy(other.join("server.key"), own.join("server.key")).unwrap();
+    let told = Start::new(&folder.join("next.db")).tls(&own).start().unwrap_err().to_string();
+    assert!(told.contains("server.key isn't that of the certificate of"), "{told}");
+    drop(server);
+    fs::remove_dir_all(folder).unwrap();
 }

@@ -8,7 +8,7 @@ use std::sync::atomic::{AtomicBool, Ordering};
 use std::thread;
 use std::time::{Duration, Instant};
 use tillermoss::{Client, Mode, Options};
-use trials::{Etcd, Holder, Kill, Plain, Server, free, new, program, rows};
+use trials::{Etcd, Going, Holder, Kill, Plain, Server, fail_over_to_one_that_stands_by, free, new, program, rows};
 
 /// A mastership that outlasts whatever is held back here.
 const LONG: [&str; 2] = ["--mastership", "60"];
@@ -287,22 +287,22 @@ fn a_user_of_etcd_is_let_in_by_its_password() {
     assert!(told.contains("authentication failed"), "{told}");
 }
 
-// Two servers, one of which stands by; the other one is killed with its master.
+// A server that stands by has the rows, and takes the place of one that is gone: at once where the other one went in order, and where its
+// guard gave the mastership back; else when that has run out, by which leases may end.
 #[test]
-fn a_server_that_stands_by_has_the_rows() {
+fn a_server_that_stands_by_comes_up_soon() {
     const FILES: u64 = 17_000;
-    let etcd = Etcd::with_cell(&[]).unwrap();
-    etcd.put_files(FILES).unwrap();
-    let mut first = etcd.server("first", etcd.address).start().unwrap();
-    let second = etcd.server("second", etcd.address).stand_by().unwrap();
-    let places = format!("{},{}", first.address, second.address);
-    let client = Client::connect(&Options { patience: PATIENCE, ..Options::new(&places, "ann") }).unwrap();
-    let file = client.create("/ls/c/f", b"").unwrap();
-    thread::sleep(Duration::from_secs(8));
-    first.kill_master().unwrap();
-    first.kill(Kill::Server).unwrap();
-    let killed = Instant::now();
-    while client.set(file, b"again", None).is_err() {}
-    println!("etcd: {FILES} files: a write was done {:?} after its server was killed", killed.elapsed());
-    assert!(!client.is_lost());
+    const LOOKED_AT: Duration = Duration::from_secs(26);
+    for (going, seconds, jeopardies) in [(Going::InOrder, 3, 0), (Going::Killed, 3, 0), (Going::WithAll, 10, 8)] {
+        let noticed = fail_over_to_one_that_stands_by(FILES, 8, going, LOOKED_AT).unwrap();
+        println!(
+            "etcd: {FILES} files, {going:?}: of 8 clients the first was answered {} ms after it, the last {} ms; in jeopardy {}, lost {}",
+            noticed.answered.as_millis(),
+            noticed.answered_since_the_end.as_millis(),
+            noticed.jeopardies,
+            noticed.lost
+        );
+        assert!(noticed.lost == 0 && noticed.jeopardies <= jeopardies, "{noticed:?}");
+        assert!(noticed.answered_since_the_end < Duration::from_secs(seconds), "{noticed:?}");
+    }
 }

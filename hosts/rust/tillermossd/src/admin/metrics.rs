@@ -32,6 +32,7 @@ pub struct Metrics {
     limited: IntCounter,
     slowed: IntCounter,
     starts_let_go: IntCounter,
+    changes_kept: IntCounter,
     connections: IntGaugeVec,
     nodes: IntGauge,
     content_bytes: IntGauge,
@@ -120,6 +121,7 @@ impl Metrics {
             limited: register_int_counter_with_registry!(by("calls_limited_total", "Calls that a limit refused."), r)?,
             slowed: register_int_counter_with_registry!(by("messages_slowed_total", "Messages that came too fast."), r)?,
             starts_let_go: register_int_counter_with_registry!(by("starts_let_go_total", "Starts of sessions that had begun often."), r)?,
+            changes_kept: register_int_counter_with_registry!(by("changes_kept_total", "Changes beyond their principal's share."), r)?,
             connections: register_int_gauge_vec_with_registry!(by("connections", "Connections."), &["state"], r)?,
             nodes: level("nodes", "Nodes of the cell.")?,
             content_bytes: level("content_bytes", "Bytes of all contents.")?,
@@ -213,6 +215,11 @@ impl Metrics {
     /// A Start was let go.
     pub fn let_go(&self) {
         self.starts_let_go.inc();
+    }
+
+    /// A change was kept, since its principal has its whole share at the master.
+    pub fn kept(&self) {
+        self.changes_kept.inc();
     }
 
     /// A master was replaced.

@@ -4,10 +4,10 @@ use crate::admin::showing::Showing;
 use crate::etcd::standby::Known;
 use crate::master::child::Order;
 use crate::master::store;
-use crate::net::doors::listen_unix;
-use crate::net::lobby::Lobby;
 use anyhow::{Context, Result, anyhow, bail};
 use host_wire::Address;
+use host_wire::lobby::Lobby;
+use host_wire::sockets::listen_unix;
 use hyper::header::{AUTHORIZATION, CONTENT_SECURITY_POLICY, CONTENT_TYPE, HOST, HeaderValue};
 use hyper::server::conn::Http;
 use hyper::service::service_fn;
@@ -244,7 +244,7 @@ async fn shown(admin: &Admin, copies: &Copies, request: &Request<Body>) -> Respo
         (&Method::GET, "/sessions") => json(serde_json::to_string(&showing.sessions(usize::MAX))),
         (&Method::GET, "/locks") => json(serde_json::to_string(&showing.locks())),
         (&Method::POST, "/backup") => backup(admin, copies).await,
-        (&Method::POST, path) if path.starts_with("/end/") => end(admin, path),
+        (&Method::POST, path) if path.starts_with("/end/") => end(admin, path).await,
         (_, "/backup") => said(StatusCode::METHOD_NOT_ALLOWED, "text/plain", "only by POST\n"),
         _ => said(StatusCode::NOT_FOUND, "text/plain", "there is no such page\n"),
     }
@@ -266,7 +266,7 @@ fn ready(showing: &Showing) -> Response<Body> {
 }
 
 // `/end/client/NUMBER` ends one, `/end/principal/NAME` all of a principal.
-fn end(admin: &Admin, path: &str) -> Response<Body> {
+async fn end(admin: &Admin, path: &str) -> Response<Body> {
     if !admin.is_private {
         return said(StatusCode::FORBIDDEN, "text/plain", "only at --admin unix:PATH: who may open that ends clients\n");
     }
@@ -279,9 +279,17 @@ fn end(admin: &Admin, path: &str) -> Response<Body> {
     if clients.is_empty() {
         return said(StatusCode::NOT_FOUND, "text/plain", "there is no such client\n");
     }
-    hall.end(&clients);
     clients.iter().for_each(|client| info!(client, "an operator has ended a client"));
-    match serde_json::to_string(&clients) {
+    let told = serde_json::to_string(&clients);
+    if let Err(fault) = hall.end(clients).await {
+        warn!(reason = %format_args!("{fault:#}"), "who was ended isn't noted");
+        return said(
+            StatusCode::INTERNAL_SERVER_ERROR,
+            "text/plain",
+            format!("cut off, but after a new start they may come back: {fault:#}\n"),
+        );
+    }
+    match told {
         Ok(text) => said(StatusCode::OK, "application/json", text),
         Err(error) => said(StatusCode::INTERNAL_SERVER_ERROR, "text/plain", error.to_string()),
     }

@@ -37,12 +37,13 @@ impl Used {
         }
     }
 
-    /// That of the server's master, its only child.
+    /// That of the server's master, its only child of another program.
     #[must_use]
     pub fn of_master() -> Used {
         let tasks = fs::read_dir("/proc/self/task").into_iter().flatten().flatten();
         let children = tasks.filter_map(|task| fs::read_to_string(task.path().join("children")).ok()).collect::<String>();
-        children.split_whitespace().next().map(Used::of).unwrap_or_default()
+        let program = |process: &str| fs::read_link(Path::new("/proc").join(process).join("exe")).ok();
+        children.split_whitespace().find(|child| program(child) != program("self")).map(Used::of).unwrap_or_default()
     }
 }
 

@@ -2,6 +2,7 @@
 
 use crate::etcd::gateway::{Gateway, Lost, Pair};
 use crate::etcd::rows::{Content, KINDS, LIVES, Lock, LockKey, Meta, Node, STATES, Session, chosen, place};
+use crate::settings::Own;
 use anyhow::{Context, Result};
 use rusqlite::{Connection, params};
 use std::collections::{BTreeMap, HashMap};
@@ -20,6 +21,7 @@ const PAUSE: Duration = Duration::from_millis(100);
 const CLIENTS: u64 = 1 << 20;
 
 /// The tables of a store, as far as they are read here.
+#[cfg(test)]
 const TABLES: &str = "
     CREATE TABLE nodes (name, instance, kind, life, content_gen, acl_gen, lock_gen, acl_read, acl_write, acl_change, content);
     CREATE TABLE sessions (client, principal, live);
@@ -157,6 +159,16 @@ impl Found {
         self.sessions.keys().last().map_or(1, |last| last + CLIENTS)
     }
 
+    /// What the settings of a cell may say of it. None where no cell stands there.
+    pub fn own(&self) -> Result<Option<Own>> {
+        let Some((meta, _)) = self.meta.as_ref().filter(|(meta, _)| meta.epoch > 0) else {
+            return Ok(None);
+        };
+        let base = self.nodes.get(&format!("/ls/{}/acl/base", meta.cell));
+        let base = base.map(|base| Ok::<_, anyhow::Error>((base.content_generation, base.content.bytes()?))).transpose()?;
+        Ok(Some(Own { secret: meta.secret.clone(), base }))
+    }
+
     /// Whether everybody knows the cell's secret.
     #[must_use]
     pub fn has_known_secret(&self) -> bool {
@@ -203,6 +215,7 @@ impl Found {
     }
 
     /// As tables in memory.
+    #[cfg(test)]
     pub fn tables(&self) -> Result<Connection> {
         let connection = Connection::open_in_memory()?;
         connection.execute_batch(TABLES)?;
@@ -314,8 +327,13 @@ impl Found {
 }
 
 #[cfg(test)]
-mod tests {
+pub mod tests {
     use super::*;
+    use crate::etcd::gateway::Deed;
+    use crate::etcd::pretended::{PIECES, Pretended, SLOW, Way};
+    use anyhow::bail;
+    use std::cell::Cell;
+    use std::time::Instant;
 
     #[test]
     fn pages_have_about_as_many_bytes() {
@@ -326,7 +344,8 @@ mod tests {
         }
     }
 
-    fn found() -> Found {
+    // Two nodes, of which one is locked, and a session.
+    pub fn found() -> Found {
         let meta = Meta { cell: "c".to_owned(), secret: "00".repeat(32), epoch: 3, next_instance: 5, number: 0, by: 0, keeper: 0, turn: 0 };
         let node = |kind: &str, instance, content: &[u8]| Node {
             kind: kind.to_owned(),
@@ -346,6 +365,46 @@ mod tests {
         found.sessions.insert(1, Session { principal: "ann".to_owned(), live: true });
         found.locks.insert((4, 1, 2), Lock { state: "exclusive".to_owned(), delay: 10 });
         found
+    }
+
+    // An etcd that has the rows of `found`.
+    fn etcd() -> Pretended {
+        let etcd = Pretended::start();
+        let found = found();
+        let meta = ("meta".to_owned(), serde_json::to_vec(&found.meta.as_ref().unwrap().0).unwrap());
+        let pairs = found.pairs().unwrap().into_iter().chain([meta]);
+        let deeds: Vec<Deed> = pairs.map(|(key, value)| Deed::Put(format!("c/{key}"), value)).collect();
+        etcd.gateway().change(&[], &deeds).unwrap();
+        etcd
+    }
+
+    // Of a page only silence counts; another question has its time in all.
+    #[test]
+    fn a_page_is_waited_for_while_something_of_it_comes() {
+        let etcd = etcd();
+        let begun = Instant::now();
+        etcd.go_ranges(&[Way::Slow]);
+        let read = Found::read(&etcd.gateway(), "c/", || bail!("it was asked again")).unwrap();
+        assert_eq!((read.nodes.len(), read.sessions.len(), read.locks.len()), (2, 1, 1));
+        assert!(begun.elapsed() > SLOW * (PIECES as u32 - 1), "{:?}", begun.elapsed());
+        let begun = Instant::now();
+        etcd.go_ranges(&[Way::Slow]);
+        assert!(matches!(etcd.gateway().get("c/meta"), Err(Lost::Unknown(_))));
+        assert!(begun.elapsed() < SLOW * (PIECES as u32 - 1), "{:?}", begun.elapsed());
+    }
+
+    #[test]
+    fn a_page_that_gets_lost_is_asked_for_again_while_one_is_master() {
+        let etcd = etcd();
+        for (lost, checks, is_read) in [(0, 0, true), (3, 3, true), (5, 3, false)] {
+            etcd.go_ranges(&vec![Way::Lost; lost]);
+            let asked = Cell::new(0);
+            let read = Found::read(&etcd.gateway(), "c/", || {
+                asked.set(asked.get() + 1);
+                if asked.get() == 3 && lost == 5 { bail!("the mastership has ended") } else { Ok(()) }
+            });
+            assert_eq!((asked.get(), read.is_ok_and(|read| read.nodes.len() == 2)), (checks, is_read), "{lost}");
+        }
     }
 
     #[test]

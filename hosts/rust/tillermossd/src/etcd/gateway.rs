@@ -205,11 +205,21 @@ impl Display for Lost {
     }
 }
 
+/// No member of etcd answered; it may do so a little later.
+#[derive(Clone, Copy, Debug, PartialEq, Eq)]
+pub struct Unanswered;
+
+impl Display for Unanswered {
+    fn fmt(&self, out: &mut Formatter<'_>) -> fmt::Result {
+        out.write_str("etcd doesn't answer")
+    }
+}
+
 impl From<Lost> for Error {
     fn from(lost: Lost) -> Error {
         match lost {
             Lost::Refused(error) => error.context("etcd refuses"),
-            Lost::Unknown(error) => error.context("etcd doesn't answer"),
+            Lost::Unknown(error) => error.context(Unanswered),
         }
     }
 }

@@ -40,7 +40,7 @@ pub struct Keeper {
     own: Turn,
     known: Known,
     /// What the rows are, where they were found before it wrote.
-    found: Option<Found>,
+    found: Option<Arc<Found>>,
     is_loaded: bool,
     is_ended: Arc<AtomicBool>,
 }
@@ -130,7 +130,7 @@ impl Keeper {
     /// One of a cell, for a mastership. It has written the cell's own row anew, under a number of its own: so nothing that an earlier
     /// keeper sent is done any more, however late it comes. It waits for etcd while the mastership lasts.
     /// What was found there before needn't be read again, where it is of the same revision of that row.
-    pub fn open(gateway: &Gateway, prefix: &str, mastership: Arc<Mastership>, found: Option<Found>) -> Result<Keeper> {
+    pub fn open(gateway: &Gateway, prefix: &str, mastership: Arc<Mastership>, found: Option<Arc<Found>>) -> Result<Keeper> {
         let own = Turn { keeper: rand::thread_rng().gen_range(1..u64::MAX), turn: 1 };
         let (key, is_ended) = (format!("{prefix}meta"), Arc::default());
         let gateway = gateway.until(&is_ended);
@@ -234,7 +234,7 @@ impl Keeper {
                 if changed != self.known.changed {
                     bail!("another keeper has written the rows");
                 }
-                (found, meta)
+                (Arc::new(found), meta)
             }
         };
         let (count, rows) = found.rows()?;
@@ -315,7 +315,7 @@ impl Keeper {
 #[cfg(test)]
 mod tests {
     use super::*;
-    use crate::etcd::mastership::Seat;
+    use crate::etcd::mastership::{Bell, Seat};
     use crate::etcd::pretended::{Pretended, Way};
 
     const META: &str = r#"{"cell":"c","secret":"0000000000000000000000000000000000000000000000000000000000000000","epoch":1,"next_instance":4,"number":0,"by":0}"#;
@@ -325,7 +325,7 @@ mod tests {
         let gateway = etcd.gateway();
         gateway.change(&[], &[Deed::Put("c/meta".to_owned(), META.as_bytes().to_vec())]).unwrap();
         let seat = Seat { address: String::new(), server: "first".to_owned() };
-        let mastership = Mastership::wait(&gateway, "c/", &seat, 60, None, |_| {});
+        let mastership = Mastership::wait(&gateway, "c/", &seat, 60, None, &Bell::default(), |_| {});
         loaded(&gateway, mastership)
     }
 

@@ -2,13 +2,13 @@
 //! before etcd lets the key go: the arithmetic of that is the proved one of crates/mastership.
 
 use crate::etcd::decisions::end_of;
-use crate::etcd::gateway::{Compare, Deed, Gateway, Lost, Pair};
+use crate::etcd::gateway::{Compare, Deed, Gateway, Lost, Pair, Unanswered};
 use anyhow::{Result, bail};
 use nix::time::{ClockId, clock_gettime};
 use serde::{Deserialize, Serialize};
 use std::mem;
 use std::sync::atomic::{AtomicU64, Ordering};
-use std::sync::{Arc, Mutex, PoisonError};
+use std::sync::{Arc, Condvar, Mutex, PoisonError};
 use std::thread;
 use std::time::Duration;
 use tracing::{info, warn};
@@ -16,7 +16,7 @@ use tracing::{info, warn};
 /// So many seconds a mastership lasts that isn't renewed, unless an operator says otherwise; etcd may make it longer.
 pub const SPAN: u64 = 5;
 
-/// So long between two looks at who is master.
+/// So long at most between two looks at who is master.
 const PAUSE: Duration = Duration::from_millis(250);
 
 /// So many renewals in a span.
@@ -30,6 +30,28 @@ pub fn now() -> u64 {
         return u64::MAX;
     };
     time.tv_sec().cast_unsigned().saturating_mul(1000).saturating_add(time.tv_nsec().cast_unsigned() / 1_000_000)
+}
+
+/// By which one who waits for the mastership is told that its key is gone, so that it looks at once.
+#[derive(Debug, Default)]
+pub struct Bell {
+    is_rung: Mutex<bool>,
+    rung: Condvar,
+}
+
+impl Bell {
+    /// The key is gone.
+    pub fn ring(&self) {
+        *self.is_rung.lock().unwrap_or_else(PoisonError::into_inner) = true;
+        self.rung.notify_all();
+    }
+
+    // Waits until it was rung, for so long at most.
+    fn wait(&self, limit: Duration) {
+        let is_rung = self.is_rung.lock().unwrap_or_else(PoisonError::into_inner);
+        let waited = self.rung.wait_timeout_while(is_rung, limit, |is_rung| !*is_rung);
+        *waited.unwrap_or_else(PoisonError::into_inner).0 = false;
+    }
 }
 
 /// What stands at the key of the master.
@@ -76,6 +98,7 @@ impl Mastership {
         seat: &Seat,
         span: u64,
         last: Option<&str>,
+        bell: &Bell,
         mut tell: impl FnMut(Option<Seat>),
     ) -> Arc<Mastership> {
         let key = format!("{prefix}master");
@@ -102,7 +125,7 @@ impl Mastership {
                 },
                 Err(_) => tell(None),
             }
-            thread::sleep(PAUSE);
+            bell.wait(PAUSE);
         }
     }
 
@@ -257,6 +280,16 @@ impl Mastership {
         self.gateway.give_back(lease)
     }
 
+    /// What is asked of etcd; where no member answers it is asked again while the mastership lasts.
+    pub fn insist<T>(&self, mut ask: impl FnMut() -> Result<T>) -> Result<T> {
+        loop {
+            match ask() {
+                Err(fault) if fault.is::<Unanswered>() && self.holds() => thread::sleep(PAUSE),
+                asked => return asked,
+            }
+        }
+    }
+
     /// One that was let go, or has ended.
     pub fn check(&self) -> Result<()> {
         if !self.holds() {
@@ -294,6 +327,20 @@ mod tests {
             etcd.go(&[way]);
             assert_eq!(take(&etcd, "first").is_some(), is_taken, "{way:?}");
         }
+    }
+
+    #[test]
+    fn what_nobody_answers_is_asked_again_while_it_lasts() {
+        let etcd = Pretended::start();
+        let taken = take(&etcd, "first").unwrap();
+        let unanswered = || anyhow::Error::from(Lost::Unknown(anyhow::anyhow!("no answer"))).context("reading");
+        let mut answers = vec![Ok(7), Err(unanswered()), Err(unanswered())];
+        assert_eq!(taken.insist(|| answers.pop().unwrap()).unwrap(), 7);
+        let mut refused = vec![Ok(7), Err(Lost::Refused(anyhow::anyhow!("refused")).into())];
+        assert!(taken.insist(|| refused.pop().unwrap()).is_err());
+        taken.end().unwrap();
+        let mut ended = vec![Ok(7), Err(unanswered())];
+        assert!(taken.insist(|| ended.pop().unwrap()).is_err());
     }
 
     #[test]

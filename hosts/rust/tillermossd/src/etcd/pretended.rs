@@ -24,7 +24,13 @@ pub enum Way {
     Refused,
     /// It is on its way until it is let through: then it is done, and the answer gets lost.
     Held,
+    /// It is done, and the answer comes piece by piece, `SLOW` after each other.
+    Slow,
 }
+
+/// So long before each of so many pieces of an answer that comes slowly.
+pub const SLOW: Duration = Duration::from_millis(700);
+pub const PIECES: usize = 6;
 
 #[derive(Clone, Debug)]
 struct Stands {
@@ -40,6 +46,7 @@ struct State {
     pairs: BTreeMap<Vec<u8>, Stands>,
     leases: i64,
     ways: VecDeque<Way>,
+    ways_of_ranges: VecDeque<Way>,
     held: Vec<(Value, TcpStream)>,
 }
 
@@ -155,17 +162,33 @@ impl Pretended {
         reader.read_exact(&mut body).unwrap();
         let asked: Value = serde_json::from_slice(&body).unwrap();
         let mut state = self.state();
-        let way = if path == "kv/txn" { state.ways.pop_front().unwrap_or(Way::Done) } else { Way::Done };
+        let ways = match path.as_str() {
+            "kv/txn" => Some(&mut state.ways),
+            "kv/range" => Some(&mut state.ways_of_ranges),
+            _ => None,
+        };
+        let way = ways.and_then(VecDeque::pop_front).unwrap_or(Way::Done);
         let answer = match way {
             Way::Lost => return,
             Way::Held => return state.held.push((asked, stream)),
             Way::Refused => ("400 Bad Request", json!({ "error": "too many operations" })),
-            Way::Done | Way::Unanswered => ("200 OK", state.answer(&path, &asked)),
+            Way::Done | Way::Unanswered | Way::Slow => ("200 OK", state.answer(&path, &asked)),
         };
+        drop(state);
         if way != Way::Unanswered {
             let (status, text) = (answer.0, answer.1.to_string());
-            write!(stream, "HTTP/1.1 {status}\r\nContent-Length: {}\r\nConnection: close\r\n\r\n{text}", text.len()).unwrap();
+            write!(stream, "HTTP/1.1 {status}\r\nContent-Length: {}\r\nConnection: close\r\n\r\n", text.len()).unwrap();
+            for piece in text.as_bytes().chunks(text.len() / PIECES + 1) {
+                thread::sleep(if way == Way::Slow { SLOW } else { Duration::ZERO });
+                // (who has asked may have lost patience)
+                let _ = stream.write_all(piece);
+            }
         }
+    }
+
+    /// What becomes of the next ranges.
+    pub fn go_ranges(&self, ways: &[Way]) {
+        self.state().ways_of_ranges = ways.iter().copied().collect();
     }
 
     /// By which it is asked.

@@ -109,6 +109,15 @@ impl Meta {
 }
 
 impl Content {
+    /// How many bytes it has.
+    #[must_use]
+    pub fn length(&self) -> u64 {
+        match self {
+            Content::Text(text) => text.len() as u64,
+            Content::Hex(digits) => digits.len() as u64 / 2,
+        }
+    }
+
     /// That of these bytes. (A text of control characters would have six letters for each.)
     #[must_use]
     pub fn of(bytes: &[u8]) -> Content {

@@ -39,9 +39,10 @@ async fn turn_away(door: &Door, known: &Known) {
             continue;
         };
         let address = known.lock().unwrap_or_else(PoisonError::into_inner).as_ref().map(|seat| seat.address.clone());
+        let peer = guest.peer();
         tokio::spawn(async move {
             if let Ok(Err(error)) | Err(error) = timeout(GREETING, tell(guest, &address.unwrap_or_default())).await.map_err(Into::into) {
-                debug!(reason = %format_args!("{error:#}"), "a connection was cut off before its greeting");
+                debug!(peer, reason = %format_args!("{error:#}"), "a connection was cut off before its greeting");
             }
         });
     }

@@ -3,6 +3,7 @@
 
 use crate::etcd::found::Found;
 use crate::etcd::gateway::{Followed, Gateway};
+use crate::etcd::mastership::Bell;
 use anyhow::{Result, bail};
 use std::sync::atomic::{AtomicBool, Ordering};
 use std::sync::{Arc, Mutex, PoisonError};
@@ -27,6 +28,7 @@ pub struct Warm(Arc<Shared>);
 struct Shared {
     found: Mutex<Option<Found>>,
     is_over: Arc<AtomicBool>,
+    bell: Arc<Bell>,
 }
 
 impl Warm {
@@ -47,15 +49,24 @@ impl Warm {
         Warm(shared)
     }
 
+    /// What is rung when nobody is master any more.
+    #[must_use]
+    pub fn bell(&self) -> Arc<Bell> {
+        self.0.bell.clone()
+    }
+
     /// The rows, where they are those of the cell's own row that this revision changed last: each commit changes that row, and what is
     /// done at one revision is told together. None where they aren't there yet.
     #[must_use]
-    pub fn take(self, changed: i64) -> Option<Found> {
+    pub fn take(&self, changed: i64) -> Option<Found> {
         let begun = Instant::now();
         loop {
             let mut found = self.0.found();
             match found.as_ref().and_then(Found::changed) {
-                Some(known) if known == changed => return found.take(),
+                Some(known) if known == changed => {
+                    self.0.is_over.store(true, Ordering::SeqCst);
+                    return found.take();
+                }
                 Some(known) if known < changed && begun.elapsed() < LAST => {}
                 _ => return None,
             }
@@ -88,13 +99,19 @@ impl Shared {
                 at
             }
         };
+        let master = format!("{prefix}master");
         gateway.follow(prefix, at + 1, |told| {
             if self.is_over.load(Ordering::SeqCst) {
                 return false;
             }
             let mut found = self.found();
             let is_followed = match told {
-                Followed::Changes(revision, changes) => found.as_mut().is_some_and(|rows| rows.follow(prefix, revision, &changes)),
+                Followed::Changes(revision, changes) => {
+                    if changes.iter().any(|change| change.as_ref().is_err_and(|gone| *gone == master)) {
+                        self.bell.ring();
+                    }
+                    found.as_mut().is_some_and(|rows| rows.follow(prefix, revision, &changes))
+                }
                 Followed::Forgotten => false,
             };
             if !is_followed {

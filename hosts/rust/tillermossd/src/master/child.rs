@@ -533,6 +533,7 @@ impl Master {
         follow(&self.hall, line, printed, from);
         if let Printed::Ended(client) = printed {
             self.starts.forget(client);
+            self.hall.go_on(self.hall.changes.end(client));
         }
         if is_commit || is_refused {
             self.hall.note_store(is_refused, line);
@@ -567,8 +568,9 @@ impl Master {
             Answer::Started(span) | Answer::Alive(span, _) => self.hall.picture().lease(client, span),
             Answer::Reply(_) | Answer::Refused(_) => self.hall.picture().answer(client, Some(number)),
         }
-        if let Answer::Reply(Some(refusal)) = answer {
-            self.hall.metrics.refused(refusal);
+        if let Answer::Reply(refusal) = answer {
+            refusal.into_iter().for_each(|refusal| self.hall.metrics.refused(refusal));
+            self.hall.go_on(self.hall.changes.answer(client, number));
         }
         self.woken.extend(self.hall.routes.put(client, message));
     }

@@ -7,9 +7,10 @@
 
 use crate::etcd::Rows;
 use crate::etcd::decisions::number;
-use crate::etcd::gateway::{Compare, Deed, Lost};
+use crate::etcd::gateway::{Compare, Deed};
 use anyhow::{Context, Result, bail};
 use siphasher::sip::SipHasher24;
+use std::collections::BTreeSet;
 use std::fs::{self, File};
 use std::hash::Hasher;
 use std::io::{ErrorKind, Write};
@@ -56,6 +57,7 @@ pub struct Numbers {
     written: u64,
     key: [u8; 16],
     epochs: Option<Epochs>,
+    ended: BTreeSet<u64>,
 }
 
 /// Numbers that one write has taken: the first of them, the one behind the last, and how many are given.
@@ -119,7 +121,7 @@ impl Numbers {
     #[must_use]
     pub fn from(path: &Path, first: u64) -> Numbers {
         let taken = Taken::none(first);
-        Numbers { path: path.to_owned(), beside: None, taken, written: first, key: rand::random(), epochs: None }
+        Numbers { path: path.to_owned(), beside: None, taken, written: first, key: rand::random(), epochs: None, ended: BTreeSet::new() }
     }
 
     /// Those that stand beside rows in etcd; new ones from a number on where none do.
@@ -143,8 +145,11 @@ impl Numbers {
             OLD_TITLE => None,
             _ => return None,
         };
+        let ended = lines.next().map_or(Some(BTreeSet::new()), |line| {
+            line.strip_prefix("ended ")?.split(' ').map(|number| number.parse().ok()).collect::<Option<BTreeSet<u64>>>()
+        })?;
         let taken = Taken::none(next);
-        lines.next().is_none().then(|| Numbers { path: path.to_owned(), beside: None, taken, written: next, key, epochs })
+        lines.next().is_none().then(|| Numbers { path: path.to_owned(), beside: None, taken, written: next, key, epochs, ended })
     }
 
     // No master came up, and no number was given: where the first start ended early.
@@ -175,6 +180,18 @@ impl Numbers {
         self.note(Epochs { last: epoch, coming: epoch })
     }
 
+    /// The clients that operators have ended, as far as that was noted.
+    #[must_use]
+    pub fn ended(&self) -> &BTreeSet<u64> {
+        &self.ended
+    }
+
+    /// Notes which clients operators have ended.
+    pub fn note_ended(&mut self, ended: BTreeSet<u64>) -> Result<()> {
+        self.ended = ended;
+        self.note(self.epochs.unwrap_or(Epochs { last: 0, coming: 0 }))
+    }
+
     // Takes so many numbers more, or as many as there are, and notes the epochs.
     fn write(&mut self, more: u64, epochs: Epochs) -> Result<Taken> {
         let taken = match self.beside.take() {
@@ -198,7 +215,13 @@ impl Numbers {
     }
 
     fn text(&self, next: u64, epochs: Epochs) -> String {
-        format!("{TITLE}\nnext {next}\nkey {}\nepoch {}\ncoming {}\n", hex::encode(self.key), epochs.last, epochs.coming)
+        let front = format!("{TITLE}\nnext {next}\nkey {}\nepoch {}\ncoming {}\n", hex::encode(self.key), epochs.last, epochs.coming);
+        // (a file that an earlier server understands, where nobody was ended)
+        if self.ended.is_empty() {
+            return front;
+        }
+        let ended: Vec<String> = self.ended.iter().map(u64::to_string).collect();
+        format!("{front}ended {}\n", ended.join(" "))
     }
 
     /// The next number. Where none is left, or it can't be written down, none is given.
@@ -281,8 +304,7 @@ impl Beside {
             match written {
                 Ok(Some(_)) => return Ok(taken),
                 Ok(None) => self.rows.mastership.check_key()?,
-                Err(Lost::Unknown(fault)) => return Err(fault.context("etcd doesn't answer")),
-                Err(refused) => return Err(refused.into()),
+                Err(lost) => return Err(lost.into()),
             }
         }
         bail!("others take numbers meanwhile")
@@ -298,7 +320,7 @@ fn digest(key: &[u8; 16], message: &[u8]) -> u64 {
 #[cfg(test)]
 mod tests {
     use super::*;
-    use crate::etcd::mastership::{Mastership, Seat};
+    use crate::etcd::mastership::{Bell, Mastership, Seat};
     use crate::etcd::pretended::{Pretended, Way};
     use std::sync::Arc;
     use std::thread;
@@ -358,6 +380,21 @@ mod tests {
     }
 
     #[test]
+    fn who_was_ended_is_kept() {
+        let (_folder, path) = folder();
+        let mut numbers = Numbers::open(&path, false, None).unwrap();
+        numbers.note(Epochs { last: 0, coming: 1 }).unwrap();
+        assert_eq!(numbers.allot().unwrap(), 1);
+        let ended = BTreeSet::from([1, 7]);
+        numbers.note_ended(ended.clone()).unwrap();
+        let again = Numbers::open(&path, true, None).unwrap();
+        assert_eq!((again.ended(), again.epochs()), (&ended, Some(Epochs { last: 0, coming: 1 })));
+        assert_eq!(numbers.allot().unwrap(), 2);
+        numbers.note_ended(BTreeSet::new()).unwrap();
+        assert!(Numbers::open(&path, true, None).unwrap().ended().is_empty());
+    }
+
+    #[test]
     fn each_start_is_noted() {
         let (_folder, path) = folder();
         let mut numbers = Numbers::open(&path, false, None).unwrap();
@@ -377,6 +414,9 @@ mod tests {
     fn a_file_is_taken_exactly_in_its_form() {
         let rows = [
             (format!("{TITLE}\nnext 1\nkey {KEY}\nepoch 3\ncoming 4\n"), true),
+            (format!("{TITLE}\nnext 1\nkey {KEY}\nepoch 3\ncoming 4\nended 7 9\n"), true),
+            (format!("{TITLE}\nnext 1\nkey {KEY}\nepoch 3\ncoming 4\nended \n"), false),
+            (format!("{TITLE}\nnext 1\nkey {KEY}\nepoch 3\ncoming 4\nended 7\nmore\n"), false),
             (format!("{OLD_TITLE}\nnext 1\nkey {KEY}\n"), true),
             (format!("{OLD_TITLE}\nnext 9007199254740992\nkey {KEY}\n"), true),
             (format!("{OLD_TITLE}\nnext 9007199254740993\nkey {KEY}\n"), false),
@@ -400,8 +440,15 @@ mod tests {
     #[test]
     fn a_number_is_given_once_beside_rows() {
         let etcd = Pretended::start();
-        let mastership =
-            Mastership::wait(&etcd.gateway(), "c/", &Seat { address: String::new(), server: "first".to_owned() }, 60, None, |_| {});
+        let mastership = Mastership::wait(
+            &etcd.gateway(),
+            "c/",
+            &Seat { address: String::new(), server: "first".to_owned() },
+            60,
+            None,
+            &Bell::default(),
+            |_| {},
+        );
         let rows = Rows { gateway: etcd.gateway(), prefix: "c/".to_owned(), mastership, found: Arc::default() };
         let numbers = || Numbers::beside(&rows, 1).unwrap();
         let mut given = vec![numbers().allot().unwrap()];

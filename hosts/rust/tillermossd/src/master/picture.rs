@@ -1,6 +1,8 @@
 //! What the cell looks like from outside: its nodes, sessions, locks and rights, and who waits for what. It is made of the store's
 //! rows before a master is started, and then follows what the master tells and what goes past the server.
 
+use crate::etcd::found::Found;
+use crate::etcd::rows::{KINDS, LIVES, STATES};
 use crate::settings::Limits;
 use anyhow::Result;
 use host_wire::{Act, Deed, Locked, Printed, Put};
@@ -137,6 +139,29 @@ impl Picture {
             self.sessions.insert(row.get(0)?, Session { principal: principal.into(), lease: None });
         }
         self.read_locks(connection)
+    }
+
+    /// That of rows in etcd.
+    pub fn of_found(found: &Found) -> Picture {
+        let mut picture = Picture::default();
+        for (name, node) in &found.nodes {
+            let (is_file, is_ephemeral) = (node.kind == KINDS[0], node.life == LIVES[1]);
+            let (instance, generation, length) = (node.instance, node.content_generation, node.content.length());
+            picture.put(name.clone(), Node { instance, is_file, is_ephemeral, generation, length, writer: None });
+        }
+        for (client, session) in found.sessions.iter().filter(|(_, session)| session.live) {
+            picture.sessions.insert(*client, Session { principal: session.principal.as_str().into(), lease: None });
+        }
+        for ((instance, client, _), row) in &found.locks {
+            let Some(name) = picture.names.get(instance) else { continue };
+            let lock = picture.locks.entry(*instance).or_default();
+            lock.is_shared = row.state == STATES[2];
+            lock.generation = found.generations.get(name).copied().unwrap_or(0);
+            if row.state != STATES[0] {
+                lock.holders.push(*client);
+            }
+        }
+        picture
     }
 
     fn read_locks(&mut self, connection: &Connection) -> Result<()> {
@@ -397,6 +422,17 @@ mod tests {
         Printed::Granted(1, 2, "/ls/c/f"),
         Printed::Locked(Locked { client: 1, instance: 4, is_shared: false, generation: 1 }),
     ];
+
+    // (it is the same by their tables)
+    #[test]
+    fn rows_in_etcd_are_shown_as_those_of_a_store() {
+        let found = crate::etcd::found::tests::found();
+        let (picture, by_tables) = (Picture::of_found(&found), Picture::of(&found.tables().unwrap()).unwrap());
+        assert_eq!((picture.nodes.len(), picture.bytes()), (2, 2));
+        assert_eq!(picture.locks[&4], Lock { is_shared: false, holders: vec![1], generation: 7 });
+        assert_eq!((&picture.nodes, &picture.locks), (&by_tables.nodes, &by_tables.locks));
+        assert_eq!(picture.sessions_of("ann"), by_tables.sessions_of("ann"));
+    }
 
     #[test]
     fn lines_are_followed() {

@@ -5,14 +5,16 @@ use crate::etcd::mastership::Mastership;
 use crate::master::lines::{Lines, Message};
 use crate::master::numbers::{Given, Numbers};
 use crate::master::picture::Picture;
+use crate::net::changes::Changes;
 use crate::net::crowd::{Crowd, Rates, SMALL, Seat, UNIT};
 use crate::net::doors::{Door, Guest, Shown, Stream};
-use crate::net::lobby::Lobby;
 use crate::net::outgoing::Outgoing;
 use crate::net::routes::Routes;
 use crate::settings::Limits;
 use anyhow::{Context, Result};
-use host_wire::{Asked, Blocks, GREETING_LIMIT, Hello, Notice, REQUEST_LIMIT, Text, TurnedAway, Welcome, framed, write_store_refused};
+use host_wire::lobby::Lobby;
+use host_wire::trust::worded;
+use host_wire::{Act, Asked, Blocks, GREETING_LIMIT, Hello, Notice, REQUEST_LIMIT, Text, TurnedAway, Welcome, framed, write_store_refused};
 use std::collections::{BTreeSet, HashSet};
 use std::io;
 use std::sync::{Arc, Mutex, MutexGuard, PoisonError, RwLock};
@@ -54,6 +56,8 @@ pub struct Hall {
     pub routes: Routes,
     /// Where the messages of clients go.
     pub lines: Lines,
+    /// The changes that the master has, and those that are kept until it has fewer of them.
+    pub changes: Changes,
     /// How much room there is for them, in units.
     pub room: Arc<Semaphore>,
     /// What the cell looks like.
@@ -101,10 +105,12 @@ impl Hall {
     pub fn new(numbers: Numbers, limits: &Limits, mastership: Option<Arc<Mastership>>) -> Result<Hall> {
         Ok(Hall {
             given: RwLock::new(numbers.given()),
+            ended: Mutex::new(numbers.ended().iter().copied().collect()),
             numbers: Mutex::new(numbers),
             allotting: Arc::new(Semaphore::new(1)),
             routes: Routes::default(),
             lines: Lines::default(),
+            changes: Changes::default(),
             room: Arc::new(Semaphore::new(ROOM / UNIT)),
             picture: Mutex::default(),
             limits: RwLock::new(limits.clone()),
@@ -112,7 +118,6 @@ impl Hall {
             lobby: Lobby::default(),
             crowd: Arc::default(),
             mastership,
-            ended: Mutex::default(),
         })
     }
 
@@ -156,36 +161,54 @@ impl Hall {
         self.picture().sessions.contains_key(&client) || self.routes.principal(client).is_some()
     }
 
-    /// Ends clients: each is cut off, and comes back no more. Their sessions end once their leases have run out.
-    pub fn end(&self, clients: &BTreeSet<u64>) {
-        self.ended().extend(clients);
+    /// Ends clients: each is cut off, and comes back no more. Their sessions end once their leases have run out. That is noted, so that
+    /// the next server knows it, too; where it can't be it holds until this one goes.
+    pub async fn end(self: &Arc<Self>, clients: BTreeSet<u64>) -> Result<()> {
+        let before = {
+            let mut ended = self.ended();
+            let before = ended.clone();
+            ended.extend(&clients);
+            before
+        };
         clients.iter().for_each(|client| _ = self.routes.cut(*client, ENDED));
+        // (whose session is over by now comes back by no number)
+        let still: BTreeSet<u64> = {
+            let picture = self.picture();
+            before.into_iter().filter(|client| picture.sessions.contains_key(client)).chain(clients).collect()
+        };
+        let hall = self.clone();
+        spawn_blocking(move || hall.numbers.lock().unwrap_or_else(PoisonError::into_inner).note_ended(still)).await?
     }
 
     // A connection, from its greeting to its end.
     async fn take(self: Arc<Self>, guest: Guest) {
+        let peer = guest.peer();
         let greeted = {
             let place = self.lobby.enter(self.limits().greetings);
             tokio::select! {
-                greeted = timeout(GREETING, self.greet(guest)) => greeted.unwrap_or_else(|_| Err(anyhow::anyhow!("the greeting took too long"))),
+                greeted = timeout(GREETING, self.greet(guest, &peer)) => greeted.unwrap_or_else(|_| Err(anyhow::anyhow!("the greeting took too long"))),
                 () = place.is_cut() => Err(anyhow::anyhow!("too many that hadn't greeted")),
             }
         };
         match greeted {
-            Ok(Some((stream, blocks, bound))) => self.carry(stream, blocks, &bound).await,
+            Ok(Some((stream, blocks, bound))) => self.carry(stream, blocks, &bound, &peer).await,
             Ok(None) => {}
             Err(error) => {
                 self.metrics.turned_away("greeting");
-                info!(reason = %format_args!("{error:#}"), "a connection was cut off before its greeting");
+                info!(peer, reason = %format_args!("{error:#}"), "a connection was cut off before its greeting");
             }
         }
     }
 
     // Reads the hello, and answers one that is turned away.
-    async fn greet(self: &Arc<Self>, guest: Guest) -> Result<Option<(Box<dyn Stream>, Blocks, Bound)>> {
+    async fn greet(self: &Arc<Self>, guest: Guest, peer: &str) -> Result<Option<(Box<dyn Stream>, Blocks, Bound)>> {
         let (mut stream, shown) = guest.come_in().await?;
         let mut blocks = Blocks::new(GREETING_LIMIT);
-        let Some(first) = blocks.next_of(&mut stream).await? else {
+        let first = blocks.next_of(&mut stream).await.map_err(|error| match error.kind() {
+            io::ErrorKind::InvalidData => io::Error::new(error.kind(), reason(&error)),
+            _ => worded(error),
+        });
+        let Some(first) = first? else {
             return Ok(None);
         };
         let bound = if self.is_replaced() { Err(TurnedAway::NotMaster) } else { self.bind(&first, &shown).await };
@@ -196,7 +219,7 @@ impl Hall {
             Err(reason) => reason,
         };
         self.metrics.turned_away(&format!("{reason:?}"));
-        info!(reason = %reason, ?shown, "a client was turned away");
+        info!(peer, reason = %reason, ?shown, "a client was turned away");
         let answer = if reason == TurnedAway::NotMaster { Welcome::not_master("") } else { Welcome::write(&Err(reason)) };
         stream.write_all(&framed(&answer)?).await?;
         stream.shutdown().await?;
@@ -245,7 +268,7 @@ impl Hall {
     }
 
     // A connection that is bound, to its end.
-    async fn carry(&self, stream: Box<dyn Stream>, mut blocks: Blocks, bound: &Bound) {
+    async fn carry(&self, stream: Box<dyn Stream>, mut blocks: Blocks, bound: &Bound, peer: &str) {
         blocks.set_limit(REQUEST_LIMIT);
         let (client, principal) = (bound.client, &*bound.seat.principal);
         let welcome = Welcome { client, token: bound.token };
@@ -262,13 +285,14 @@ impl Hall {
             why = outgoing.is_cut() => Some(why),
         };
         self.routes.unbind(client, binding);
+        self.changes.forget(client, &bound.seat.principal, binding);
         outgoing.cut("its client ended it");
         match end {
             Some(reason) => {
                 self.metrics.cut(reason);
-                info!(client, principal, reason, "a connection was cut off");
+                info!(client, principal, peer, reason, "a connection was cut off");
             }
-            None => debug!(client, principal, "a connection ended"),
+            None => debug!(client, principal, peer, "a connection ended"),
         }
     }
 
@@ -303,9 +327,8 @@ impl Hall {
             if !self.routes.is_bound(bound.client, binding) {
                 return Some("its client has a later one");
             }
-            if self.is_let_in(&asked, bound, outgoing) {
-                self.lines.push(Message { client: bound.client, principal: principal.clone(), bytes: block, place });
-            }
+            let message = Message { client: bound.client, principal: principal.clone(), bytes: block, place };
+            self.go_on(self.let_in(&asked, message, binding, outgoing));
         }
     }
 
@@ -335,22 +358,37 @@ impl Hall {
         Ok(block.map(|block| (block, room)))
     }
 
-    // A call that goes beyond a limit is answered at once.
-    fn is_let_in(&self, asked: &Asked, bound: &Bound, outgoing: &Outgoing) -> bool {
+    // What may go to the master now. A call that goes beyond a limit is answered at once; a change beyond its principal's share is kept.
+    // (One that waits for a lock doesn't count, nor one of another epoch or without a session: the master refuses these.)
+    fn let_in(&self, asked: &Asked, message: Message, binding: u64, outgoing: &Outgoing) -> Option<Message> {
         let Some(deed) = asked.deed() else {
-            return true;
+            return Some(message);
         };
-        let admitted = self.picture().admit(&deed, &bound.seat.principal, &self.limits());
-        let Err(reason) = admitted else {
-            return true;
+        let (admitted, is_counted) = {
+            let mut picture = self.picture();
+            let is_present = picture.epoch == deed.epoch && picture.sessions.contains_key(&message.client);
+            (picture.admit(&deed, &message.principal, &self.limits()), is_present && !matches!(deed.act, Act::Acquire(_)))
         };
-        self.metrics.limited();
-        info!(client = bound.client, principal = &*bound.seat.principal, %reason, name = deed.name, "a call was refused by a limit");
-        outgoing.send(&Notice { number: deed.number, reason }.write());
-        if let Some(reply) = write_store_refused(deed.client, deed.epoch, deed.number) {
-            outgoing.send(&reply);
+        if let Err(reason) = admitted {
+            self.metrics.limited();
+            info!(client = message.client, principal = &*message.principal, %reason, name = deed.name, "a call was refused by a limit");
+            outgoing.send(&Notice { number: deed.number, reason }.write());
+            write_store_refused(deed.client, deed.epoch, deed.number).into_iter().for_each(|reply| outgoing.send(&reply));
+            return None;
         }
-        false
+        if !is_counted {
+            return Some(message);
+        }
+        let taken = self.changes.take(message, deed.number, binding);
+        if taken.is_none() {
+            self.metrics.kept();
+        }
+        taken
+    }
+
+    /// These go to the master, each in its turn.
+    pub fn go_on(&self, messages: impl IntoIterator<Item = Message>) {
+        messages.into_iter().for_each(|message| self.lines.push(message));
     }
 }
 

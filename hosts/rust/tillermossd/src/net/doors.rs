@@ -1,26 +1,17 @@
 //! Where clients come in: the sockets that the server listens at, and whom each connection shows.
 
-use crate::net::tls::{Handshakes, server_config};
 use crate::options::Options;
 use anyhow::{Context, Result, bail};
+use host_wire::handshakes::{Handshakes, Trusted, server_config};
+use host_wire::sockets::{listen_unix, user_name};
 use host_wire::trust::common_name;
 use host_wire::{Address, is_component};
-use nix::unistd::{Uid, User};
 use openssl::ssl::SslContext;
-use std::fs::{self, Permissions};
 use std::io;
-use std::os::unix::fs::{FileTypeExt, PermissionsExt};
-use std::os::unix::net::UnixStream as StdUnixStream;
-use std::path::Path;
-use std::sync::{Arc, LazyLock, PoisonError, RwLock};
+use std::sync::{Arc, PoisonError, RwLock};
 use tokio::io::{AsyncRead, AsyncWrite};
 use tokio::net::{TcpListener, TcpStream, UnixListener, UnixStream};
-use tokio::sync::Semaphore;
-use tokio::task::spawn_blocking;
 use tokio_openssl::SslStream;
-
-/// So many users are looked up at once, each by a thread that does nothing else.
-static LOOKUPS: LazyLock<Semaphore> = LazyLock::new(|| Semaphore::new(4));
 
 /// A stream of bytes to a client.
 pub trait Stream: AsyncRead + AsyncWrite + Send + Unpin {}
@@ -60,7 +51,8 @@ impl Certificates {
         let (Some(cert), Some(key), Some(client_ca)) = (&options.cert, &options.key, &options.client_ca) else {
             bail!("tls: wants --cert, --key and --client-ca");
         };
-        server_config(cert, key, client_ca, options.client_crl.as_deref())
+        let clients = Trusted { authority: client_ca, revoked: options.client_crl.as_deref(), takes_none: false };
+        Ok(server_config(cert, key, Some(clients))?)
     }
 
     /// Those of the options.
@@ -78,20 +70,8 @@ impl Certificates {
     // The handshake with who has connected.
     async fn greet(&self, stream: TcpStream) -> Result<SslStream<TcpStream>> {
         let context = self.context.read().unwrap_or_else(PoisonError::into_inner).clone();
-        self.handshakes.make(&context, stream).await
+        Ok(self.handshakes.make(&context, stream).await?)
     }
-}
-
-/// A socket in a file of this mode; one that nobody listens at any more gives way.
-pub fn listen_unix(path: &Path, mode: u32) -> Result<UnixListener> {
-    let at = || format!("listening at {}", path.display());
-    let is_socket = fs::symlink_metadata(path).is_ok_and(|file| file.file_type().is_socket());
-    if is_socket && StdUnixStream::connect(path).is_err_and(|error| error.kind() == io::ErrorKind::ConnectionRefused) {
-        fs::remove_file(path).with_context(at)?;
-    }
-    let listener = UnixListener::bind(path).with_context(at)?;
-    fs::set_permissions(path, Permissions::from_mode(mode)).with_context(at)?;
-    Ok(listener)
 }
 
 impl Door {
@@ -140,22 +120,23 @@ impl Shown {
     }
 }
 
-// The name of a user of this machine, else its number. Where users stand in a directory elsewhere that takes its time.
-async fn name_of(user: u32) -> Result<String> {
-    let turn = LOOKUPS.acquire().await?;
-    let found = spawn_blocking(move || {
-        let _turn = turn;
-        User::from_uid(Uid::from_raw(user))
-    });
-    Ok(found.await??.map_or_else(|| user.to_string(), |user| user.name))
-}
-
 impl Guest {
+    /// From where it came, for an operator: an address, or the process at a socket.
+    #[must_use]
+    pub fn peer(&self) -> String {
+        let process = |stream: &UnixStream| stream.peer_cred().ok().and_then(|shown| shown.pid());
+        match self {
+            Guest::Unix(stream) => process(stream).map_or_else(|| "a socket".to_owned(), |process| format!("process {process}")),
+            // (of one that has gone meanwhile the system tells nothing)
+            Guest::Tls(stream, _) | Guest::Tcp(stream) => stream.peer_addr().map_or_else(|_| "gone".to_owned(), |peer| peer.to_string()),
+        }
+    }
+
     /// Lets it in, as far as its greeting: the stream to it, and whom it shows.
     pub async fn come_in(self) -> Result<(Box<dyn Stream>, Shown)> {
         match self {
             Guest::Unix(stream) => {
-                let name = name_of(stream.peer_cred()?.uid()).await?;
+                let name = user_name(stream.peer_cred()?.uid()).await?;
                 Ok((Box::new(stream), Shown::of(name)))
             }
             Guest::Tls(stream, certificates) => {

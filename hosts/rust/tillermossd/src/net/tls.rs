@@ -1,21 +1,13 @@
-//! What the server shows by TLS, and whom it trusts; and handshakes, on threads of their own.
+//! How an etcd is reached by TLS.
 
-use anyhow::{Context, Result};
-use host_wire::trust::{show_by, trust, why};
-use openssl::ssl::{Ssl, SslAcceptor, SslConnector, SslContext, SslMethod, SslOptions, SslSessionCacheMode, SslStream};
-use openssl::x509::X509Name;
+use anyhow::Result;
+use host_wire::trust::{show_by, trust};
+use openssl::ssl::{SslConnector, SslMethod, SslStream};
 use std::io::{self, Read, Write};
 use std::net::{IpAddr, TcpStream as StdTcpStream};
 use std::path::Path;
-use std::pin::Pin;
 use std::sync::Arc;
-use tokio::net::TcpStream;
-use tokio::runtime::{Builder, Runtime};
-use tokio::task::JoinSet;
 use ureq::{ReadWrite, TlsConnector};
-
-/// Handshakes are made by so many threads, which do nothing else: what strangers cost there they take from each other.
-const THREADS: usize = 2;
 
 /// By what an etcd is known, and by what this server is known there, where it shows itself.
 pub fn client_config(authority: &Path, own: Option<(&Path, &Path)>) -> Result<Arc<Connector>> {
@@ -23,19 +15,6 @@ pub fn client_config(authority: &Path, own: Option<(&Path, &Path)>) -> Result<Ar
     trust(&mut connector, authority, None)?;
     own.into_iter().try_for_each(|(certificate, key)| show_by(&mut connector, certificate, key))?;
     Ok(Arc::new(Connector(connector.build())))
-}
-
-/// How the server shows itself, and whose certificates it takes: only a client with one of these authorities gets in. No session is
-/// taken up again: each connection shows its certificate anew.
-pub fn server_config(certificate: &Path, own_key: &Path, client_ca: &Path, revoked: Option<&Path>) -> Result<SslContext> {
-    let mut acceptor = SslAcceptor::mozilla_intermediate_v5(SslMethod::tls_server())?;
-    show_by(&mut acceptor, certificate, own_key)?;
-    trust(&mut acceptor, client_ca, revoked)?;
-    let names = X509Name::load_client_ca_file(client_ca).with_context(|| format!("reading {}", client_ca.display()))?;
-    acceptor.set_client_ca_list(names);
-    acceptor.set_session_cache_mode(SslSessionCacheMode::OFF);
-    acceptor.set_options(SslOptions::NO_TICKET | SslOptions::NO_RENEGOTIATION);
-    Ok(acceptor.build().into_context())
 }
 
 /// How an etcd is reached by TLS.
@@ -78,37 +57,5 @@ impl TlsConnector for Connector {
         let is_named = host.parse::<IpAddr>().is_err();
         let connected = configured.use_server_name_indication(is_named).connect(host, stream);
         Ok(Box::new(Encrypted(connected.map_err(|error| io::Error::other(error.to_string()))?)))
-    }
-}
-
-/// The threads that make handshakes.
-#[derive(Debug)]
-pub struct Handshakes(Option<Runtime>);
-
-impl Handshakes {
-    /// They have nothing to do yet.
-    pub fn new() -> io::Result<Handshakes> {
-        let threads = Builder::new_multi_thread().worker_threads(THREADS).thread_name("handshakes").build()?;
-        Ok(Handshakes(Some(threads)))
-    }
-
-    /// Makes one with who has connected. Where that isn't waited for any longer it is given up.
-    pub async fn make(&self, context: &SslContext, stream: TcpStream) -> Result<tokio_openssl::SslStream<TcpStream>> {
-        let threads = self.0.as_ref().context("no handshakes are made any more")?;
-        let mut stream = tokio_openssl::SslStream::new(Ssl::new(context)?, stream)?;
-        let mut making = JoinSet::new();
-        let made = async move {
-            let accepted = Pin::new(&mut stream).accept().await;
-            accepted.map_err(|error| why(stream.ssl(), &error)).map(|()| stream)
-        };
-        making.spawn_on(made, threads.handle());
-        Ok(making.join_next().await.context("a handshake that wasn't begun")???)
-    }
-}
-
-impl Drop for Handshakes {
-    fn drop(&mut self) {
-        // (what is in the making goes with it)
-        self.0.take().into_iter().for_each(Runtime::shutdown_background);
     }
 }

@@ -14,7 +14,7 @@ use std::sync::atomic::Ordering;
 use std::thread;
 use std::time::{Duration, Instant};
 use tempfile::TempDir;
-use trials::{Holder, Passing, Proxy, Relay, master_program, program};
+use trials::{Holder, Passing, Proxy, Relay, guards, master_program, masters, program};
 
 /// So many members, and so many servers.
 const MACHINES: usize = 3;
@@ -147,13 +147,6 @@ fn stop_for(processes: &[u32], lasting: Duration) {
     processes.iter().for_each(|it| tell(*it, Signal::SIGCONT));
 }
 
-// The processes that this one has started.
-fn children(process: u32) -> Vec<u32> {
-    let tasks = fs::read_dir(format!("/proc/{process}/task")).into_iter().flatten().flatten();
-    let told = tasks.filter_map(|task| fs::read_to_string(task.path().join("children")).ok());
-    told.flat_map(|told| told.split_whitespace().filter_map(|word| word.parse().ok()).collect::<Vec<_>>()).collect()
-}
-
 impl Cell {
     /// Starts them, over the rows of a new cell that are copied into etcd.
     pub fn start(seed: u64) -> Tried<Cell> {
@@ -258,8 +251,9 @@ impl Cell {
         let process = self.servers[at].child.id();
         match trouble {
             Trouble::Kill => {
-                let masters = children(process);
-                for it in [process].into_iter().chain(masters) {
+                // (each second time as where its machine dies: nobody is left who gives its mastership back)
+                let guards = if round.is_multiple_of(2) { guards(process) } else { Vec::new() };
+                for it in guards.into_iter().chain([process]).chain(masters(process)) {
                     tell(it, Signal::SIGKILL);
                 }
                 let server = &mut self.servers[at];
@@ -269,8 +263,8 @@ impl Cell {
             }
             Trouble::Stop => {
                 // (each second time the server alone: what its master answers meanwhile it finds when it goes on)
-                let masters = if round.is_multiple_of(2) { Vec::new() } else { children(process) };
-                stop_for(&[process].into_iter().chain(masters).collect::<Vec<u32>>(), STOPPED);
+                let others = if round.is_multiple_of(2) { Vec::new() } else { masters(process) };
+                stop_for(&[process].into_iter().chain(others).collect::<Vec<u32>>(), STOPPED);
             }
             Trouble::Cut => {
                 self.cut(at, if round.is_multiple_of(2) { Passing::Nothing } else { Passing::Questions });
@@ -283,7 +277,7 @@ impl Cell {
                 stop_for(&stopped.collect::<Vec<u32>>(), MEMBERS_STOPPED);
             }
             Trouble::Stuck => self.go_beside_a_stuck_master(at)?,
-            Trouble::Child => children(process).into_iter().for_each(|it| tell(it, Signal::SIGKILL)),
+            Trouble::Child => masters(process).into_iter().for_each(|it| tell(it, Signal::SIGKILL)),
             Trouble::Shot => self.hold_back()?,
             Trouble::Quiet => return Err("that is made elsewhere".into()),
             Trouble::Member => {
@@ -300,8 +294,8 @@ impl Cell {
     // (each second time with its master)
     fn stop_until_replaced(&self, at: usize, round: usize) -> Tried<()> {
         let process = self.servers[at].child.id();
-        let masters = if round.is_multiple_of(2) { Vec::new() } else { children(process) };
-        let all: Vec<u32> = [process].into_iter().chain(masters).collect();
+        let others = if round.is_multiple_of(2) { Vec::new() } else { masters(process) };
+        let all: Vec<u32> = [process].into_iter().chain(others).collect();
         all.iter().for_each(|it| tell(*it, Signal::SIGSTOP));
         let begun = Instant::now();
         let replaced = loop {
@@ -318,7 +312,7 @@ impl Cell {
     fn go_beside_a_stuck_master(&mut self, at: usize) -> Tried<()> {
         let server = &mut self.servers[at];
         let process = server.child.id();
-        children(process).into_iter().for_each(|master| tell(master, Signal::SIGSTOP));
+        masters(process).into_iter().for_each(|master| tell(master, Signal::SIGSTOP));
         tell(process, Signal::SIGTERM);
         let begun = Instant::now();
         while server.child.try_wait()?.is_none() {
@@ -415,7 +409,7 @@ fn rows(places: &[SocketAddr], cell: &str) -> String {
 impl Drop for Cell {
     fn drop(&mut self) {
         for server in &mut self.servers {
-            for it in children(server.child.id()).into_iter().chain([server.child.id()]) {
+            for it in guards(server.child.id()).into_iter().chain(masters(server.child.id())).chain([server.child.id()]) {
                 tell(it, Signal::SIGCONT);
                 tell(it, Signal::SIGKILL);
             }
