@@ -70,7 +70,15 @@ fn serve_asked<I: Read + Drop, W: Write>(
 {
     let path = format!(in rt.alloc(); "{folder}/answered").context("naming the pipe")?;
     match File::open(rt, path.as_str()) {
-        Ok(answered) => serve_pipes(rt, settings, folder, limits, (asked, answered), reader, writer),
+        Ok(answered) => serve_pipes(
+            rt,
+            settings,
+            folder,
+            limits,
+            (asked, answered),
+            reader,
+            writer,
+        ),
         Err(error) => Ok(tell(rt, Subject::Pipe, path.as_str(), trouble_of(error.kind()))),
     }
 }

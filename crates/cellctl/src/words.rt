@@ -147,7 +147,9 @@ fn group_edits_word<'a>(alloc: Global) -> Arg<'a> {
     Arg::new(alloc, "group-edits")
         .long("group-edits")
         .value_name("NUMBER")
-        .help("The most edits that are committed as one change, where one sweep alone has not more; without it any number")
+        .help(
+            "The most edits that are committed as one change, where one sweep alone has not more; without it any number",
+        )
         .action(ArgAction::Set)
         .value_parser(ValueParser::unsigned(1, u64::MAX))
 }
@@ -156,7 +158,9 @@ fn group_bytes_word<'a>(alloc: Global) -> Arg<'a> {
     Arg::new(alloc, "group-bytes")
         .long("group-bytes")
         .value_name("NUMBER")
-        .help("The most bytes that are committed as one change, 2,048 for each edit beside its content; without it any number")
+        .help(
+            "The most bytes that are committed as one change, 2,048 for each edit beside its content; without it any number",
+        )
         .action(ArgAction::Set)
         .value_parser(ValueParser::unsigned(1, u64::MAX))
 }

@@ -23,10 +23,10 @@ use Rattle.hosting.specs.declared.stops.GroupStop.{GroupStop}
 use Rattle.hosting.specs.declared.stops.GroupStop.TheVariants.{Stopped, Refused}
 use Rattle.hosting.specs.Serving.{SweepsOnce, BeatsOnce, StepsTo, StopsAt, BeatStops, EndsBy, BeatsBehind, Settles, Answers, is_shut}
 use Rattle.hosting.specs.Seats.{Hosted, with_master, without_master, cell_of, ComesIn, Arrives, Listens, Ticks, Leaves, Stands, Does}
-use Rattle.hosting.specs.Streams.{Answer, Done, Turn, Turns, MaybeOne}
+use Rattle.hosting.specs.Streams.{Answer, Turn, Turns, MaybeOne}
 use Rattle.hosting.specs.declared.pieces.GroupTerms.{GroupTerms}
 use Rattle.hosting.proofs.PieceLaws.{cut_doubts, each_committed}
-use Rattle.hosting.specs.Groups.{TakesGroup, Groups, ServedGroups, MaybeLost, EndsGroups}
+use Rattle.hosting.specs.Groups.{TakesGroup, Groups, MaybeLost, EndsGroups}
 
 abbrev Known : Type 0
 Known = Option (List ℕ)

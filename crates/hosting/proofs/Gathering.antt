@@ -1,8 +1,8 @@
 -- Frames that are done in a group, one behind the other.
-use Rattle.std.proofs.Common.{◌≡◌, inl, inr, ℕ, List, [], ◌∷◌, ◌++◌, Option, None, Some, Result, Ok, Err, refl, sym, ap, subst, ◌∙◌, append-nil, append_assoc}
+use Rattle.std.proofs.Common.{◌≡◌, ℕ, List, [], ◌∷◌, ◌++◌, Option, None, Some, Result, refl, sym, ap, subst, ◌∙◌, append-nil, append_assoc}
 use Rattle.codec.specs.declared.faults.WireFault.{WireFault}
 use Rattle.master_state.specs.State.{MasterState}
-use Rattle.hosting.specs.Held.{GroupState, ground, seen}
+use Rattle.hosting.specs.Held.{GroupState, ground}
 use Rattle.hosting.specs.Pieces.{no_pieces}
 use Rattle.hosting.specs.declared.pieces.GroupTerms.{GroupTerms}
 use Rattle.hosting.specs.declared.frames.Frame.{Frame}
@@ -14,7 +14,7 @@ use Rattle.hosting.specs.declared.gathers.Onward.{Onward}
 use Rattle.hosting.specs.declared.gathers.Onward.TheVariants as onwards
 use Rattle.hosting.specs.declared.gathers.Tried.{Tried}
 use Rattle.hosting.specs.declared.gathers.Tried.TheVariants as tries
-use Rattle.hosting.specs.Streams.{FrameIs, Answer, Turn, Turns, AreAnswers}
+use Rattle.hosting.specs.Streams.{FrameIs}
 use Rattle.hosting.specs.Groups.{together, HeldTurn, DoesHeld, PutsTold, PutsReply, Tries, StandsBehind, NextThere, Gathered, Gathers, GathersOn, GathersBy, GathersOnBy, Goes, GoesBy, Keeps, ServesBehind}
 use Rattle.rows_cell.specs.Stores.{Store}
 use Rattle.hosting.specs.declared.stops.GroupStop.TheVariants.{Stopped}

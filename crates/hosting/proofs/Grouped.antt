@@ -1,20 +1,17 @@
 -- Groups of frames, one behind the other.
 use Rattle.std.proofs.Common.{◌≡◌, inl, inr, ℕ, List, [], ◌∷◌, ◌++◌, Option, None, Some, Result, Ok, Err, refl, sym, ap, subst, ◌∙◌, append-nil, append_assoc}
-use Rattle.std.specs.Prelude.{◌⊎◌}
 use Rattle.std.specs.Io.KnownBytes.{Appends}
 use Rattle.std.proofs.KnownBytes.{Appends-nil, Appends-trans}
 use Rattle.node_core.specs.declared.refusals.Fault.{Fault}
-use Rattle.rows_cell.specs.declared.tables.Edit.{Edit}
 use Rattle.rows_cell.specs.Stores.{Store}
 use Rattle.codec.specs.declared.faults.WireFault.{WireFault}
 use Rattle.output.specs.Fronts.{AppendsFront}
-use Rattle.hosting.specs.Held.{GroupState, ground, store_behind, seen}
+use Rattle.hosting.specs.Held.{GroupState, ground, store_behind}
 use Rattle.hosting.specs.Pieces.{HeldPieces, AreTaken, CommitsEach, IsCutShort, all_held, all_pieces, joined, no_pieces}
 use Rattle.hosting.specs.declared.pieces.GroupLimits.{GroupLimits}
 use Rattle.hosting.specs.declared.pieces.GroupTerms.{GroupTerms}
 use Rattle.hosting.proofs.HeldBack.{behind_none}
 use Rattle.hosting.specs.declared.frames.Frame.{Frame}
-use Rattle.hosting.specs.declared.seats.Reply.{Reply}
 use Rattle.hosting.specs.declared.stops.Stop.{Stop}
 use Rattle.hosting.specs.declared.stops.Stop.TheVariants.{Unread, Unwritten, NoMemory}
 use Rattle.hosting.specs.declared.stops.GroupStop.{GroupStop}
@@ -25,7 +22,7 @@ use Rattle.hosting.specs.declared.groups.Course.{Course}
 use Rattle.hosting.specs.declared.groups.Course.TheVariants as courses
 use Rattle.over_core.specs.Kept.{CellState}
 use Rattle.hosting.specs.Seats.{Hosted, with_master, without_master}
-use Rattle.hosting.specs.Streams.{FoundFrame, FrameIs, Answer, Turn, Turns, AreAnswers, TakesTurn, DoesFound}
+use Rattle.hosting.specs.Streams.{FoundFrame, Answer, Turns, AreAnswers, TakesTurn, DoesFound}
 use Rattle.hosting.specs.Groups.{KeptGroup, LostGroup, TakesGroup, Groups, all_answers, ServedGroups, EndsGroups, Goes, GoesBy, course_of, ServesBehind, together, IsLosing, Gathered, IsKeptAs, IsLostAs, Keeps}
 use Rattle.hosting.proofs.Served.{found_turn}
 

@@ -1,7 +1,6 @@
 -- What a group changes, in pieces that the store takes.
-use Rattle.std.proofs.Common.{◌≡◌, ◌≢◌, inl, inr, ℕ, ◌≤◌, ◌+◌, ◌-◌, Bool, true, false, cond, ◌&&◌, nat_le, List, [], ◌∷◌, ◌++◌, length, Option, None, Some, refl, sym, ap, subst, ◌∙◌, arith, append-nil, append_assoc, length-append, if◌then◌else◌, suc, take, drop, get_or, take-suc, ◌<◌, nat_lt}
+use Rattle.std.proofs.Common.{◌≡◌, ◌≢◌, inl, inr, ℕ, ◌≤◌, ◌+◌, ◌-◌, Bool, true, false, ◌&&◌, nat_le, List, [], ◌∷◌, ◌++◌, length, None, Some, refl, sym, ap, subst, ◌∙◌, arith, append-nil, append_assoc, length-append, if◌then◌else◌, suc, take, drop, get_or, take-suc, ◌<◌}
 use Rattle.std.specs.Prelude.{◌⊎◌, Result, Ok, Err, OnOk, IfErr}
-use Rattle.std.specs.List.{AllByRecursion}
 use Rattle.node_core.specs.declared.refusals.Fault.{Fault}
 use Rattle.rows_cell.specs.declared.tables.Edit.{Edit}
 use Rattle.rows_cell.specs.declared.tables.Rows.{Rows}
@@ -9,7 +8,7 @@ use Rattle.rows_cell.specs.Rows.{changed_rows}
 use Rattle.rows_cell.specs.Sound.{sound}
 use Rattle.rows_cell.specs.Stores.{Store, left_by, IsCommitted, IsRefused}
 use Rattle.hosting.specs.declared.pieces.GroupLimits.{GroupLimits}
-use Rattle.hosting.specs.Pieces.{HeldPieces, AreSound, AreTaken, CommitsEach, IsCutShort, IsOneSweep, all_held, all_pieces, begun, bytes_left, full_with, held_with, is_within, joined, no_pieces, room_beside, total_weight, weight}
+use Rattle.hosting.specs.Pieces.{HeldPieces, AreSound, AreTaken, CommitsEach, IsCutShort, IsOneSweep, all_held, all_pieces, begun, bytes_left, full_with, held_with, is_within, joined, no_pieces, room_beside, total_weight}
 use Rattle.std.proofs.lemmas.Bool.Decides.{nat_tests}
 use Rattle.std.proofs.lemmas.List.{take-append-drop}
 use Rattle.hosting.proofs.HeldBack.{changed_behind, left_behind}
@@ -97,7 +96,7 @@ sound_with : (cell : List ℕ) (rows : Rows) (front : List (List Edit)) (piece :
 sound_with cell rows [] piece s is = (is, tt)
 sound_with cell rows (first ∷ front) piece s is =
     let same : changed_rows rows ((first ++ joined front) ++ piece) ≡ changed_rows (changed_rows rows first) (joined front ++ piece) =
-        ap (changed_rows rows) (append_assoc first (joined front) piece) ∙ changed_behind rows first (joined front ++ piece) in
+    ap (changed_rows rows) (append_assoc first (joined front) piece) ∙ changed_behind rows first (joined front ++ piece) in
     let P : Rows → Type 0 = λ r. sound cell r ≡ true in
     (s.0, sound_with cell (changed_rows rows first) front piece s.1 (subst P same is))
 
@@ -113,9 +112,9 @@ held_sound cell rows held (edit ∷ edits) s is =
     let Q : List Edit → Type 0 = λ u. sound cell (changed_rows rows u) ≡ true in
     let before : all_held held ≡ joined held.full ++ held.last = joined_behind held.full held.last in
     let beside : Q (joined held.full ++ (held.last ++ edit ∷ edits)) =
-        subst Q (ap (λ (u : List Edit). u ++ edit ∷ edits) before ∙ append_assoc (joined held.full) held.last (edit ∷ edits)) is in
+    subst Q (ap (λ (u : List Edit). u ++ edit ∷ edits) before ∙ append_assoc (joined held.full) held.last (edit ∷ edits)) is in
     let begins : Q (joined (full_with held.full held.last) ++ edit ∷ edits) =
-        subst Q (ap (λ (u : List Edit). u ++ edit ∷ edits) (before ∙ sym (full_joined held.full held.last))) is in
+    subst Q (ap (λ (u : List Edit). u ++ edit ∷ edits) (before ∙ sym (full_joined held.full held.last))) is in
     by_room P held (edit ∷ edits) (is_within held.limits (held.last ++ edit ∷ edits))
     (λ w. sound_with cell rows held.full (held.last ++ edit ∷ edits) (sound_front cell rows held.full held.last s) beside)
     (sound_with cell rows (full_with held.full held.last) (edit ∷ edits) (sound_full cell rows held.full held.last s) begins)

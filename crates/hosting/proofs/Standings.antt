@@ -1,12 +1,12 @@
 -- Whom changes wait for.
-use Rattle.std.proofs.Common.{◌≡◌, ℕ, ◌+◌, ◌≤◌, Bool, true, false, List, [], ◌∷◌, ◌++◌, length, take, map, refl, sym, ap, ◌∙◌, append-nil, arith}
+use Rattle.std.proofs.Common.{◌≡◌, ℕ, ◌≤◌, Bool, true, false, List, [], ◌∷◌, ◌++◌, length, take, map, refl, sym, ap, ◌∙◌, append-nil, arith}
 use Rattle.std.specs.Prelude.{◌==◌, ◌&&◌, filter}
-use Rattle.std.specs.List.{list_any, list_all}
+use Rattle.std.specs.List.{list_all}
 use Rattle.std.specs.Map.{values_of}
 use Rattle.std.proofs.lemmas.Bool.{eqb-true}
 use Rattle.std.proofs.lemmas.List.{take_at, take_all}
 use Rattle.rights_core.specs.declared.cache_rights.CacheRight.{CacheRight}
-use Rattle.rights_core.specs.Rights.{held_on, holds}
+use Rattle.rights_core.specs.Rights.{held_on}
 use Rattle.rights_core.proofs.OneName.{free_name_is_held_by_none}
 use Rattle.hosting.specs.Standing.{holds_any, awaited_by}
 

@@ -2,7 +2,7 @@
 use Rattle.std.specs.Prelude.{◌≡◌, ◌≢◌, ◌≤◌, ◌<◌, ℕ, List, ◌∷◌, ◌++◌, length, Some, Ok, Err}
 use Rattle.codec.specs.declared.faults.WireFault.TheVariants.{BadVersion}
 use Rattle.codec.specs.Forms.{counted, length_end, written, read_whole}
-use Rattle.codec.specs.Laws.{AreBytes, Format, format}
+use Rattle.codec.specs.Laws.{AreBytes, Format}
 use Rattle.hosting.specs.declared.frames.Frame.{Frame}
 use Rattle.hosting.specs.declared.tellings.Told.{Told}
 use Rattle.hosting.specs.declared.blocks.TheConstants.{ANSWER_LIMIT}

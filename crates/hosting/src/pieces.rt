@@ -5,8 +5,8 @@ ghost use Rattle.rows_cell.specs.Sound.{sound};
 ghost use Rattle.rows_cell.specs.Stores.{IsCommitted, IsRefused};
 ghost use Rattle.hosting.specs.Pieces.{AreSound, CommitsEach, IsCutShort, all_pieces, begun, bytes_left, content_bytes, held_with, no_pieces, room_beside};
 
-use node_core::Fault;
 use collections::Items;
+use node_core::Fault;
 use rows_cell::{Edit, Records};
 use std::alloc::{AllocError, Global};
 use std::marker::Model;
@@ -175,7 +175,9 @@ fn bytes_left(room: u64, edits: &[Edit]) -> Option<u64>
 {
     let mut left = room;
     for edit in edits {
-        left = left.checked_sub(EDIT_BYTES)?.checked_sub(content_bytes(edit))?;
+        left = left
+            .checked_sub(EDIT_BYTES)?
+            .checked_sub(content_bytes(edit))?;
     }
     Some(left)
 }

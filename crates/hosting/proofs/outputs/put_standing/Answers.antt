@@ -1,4 +1,4 @@
-use Rattle.std.proofs.Common.{[], ◌∷◌, ◌++◌}
+use Rattle.std.proofs.Common.{[], ◌∷◌}
 use Rattle.hosting.specs.declared.tellings.Told.TheVariants.{Counts}
 use Rattle.hosting.specs.Replies.{recovery_told, delays_told}
 use Rattle.hosting.proofs.Streaming.{puts_behind, then_puts, delays_if_at}

@@ -14,7 +14,7 @@ invariant_of-self g c =
     let held = held_as was c.sweep_held.new.held edits c.sweep_held.result c.sweep_held.ensures.held in
     let left = left_as was c.sweep_held.new.held c.self.inside.master c.sweep_held.new.cell c.sweep_held.result c.sweep_held.ensures.err in
     let kept =
-        held_kept store (all_held was) (all_held c.sweep_held.new.held) c.self.inside.master c.sweep_held.new.cell c.args.now c.sweep_held.result c.self.invariant.kept c.self.invariant.settled c.sweep_held.ensures.ok held left in
+    held_kept store (all_held was) (all_held c.sweep_held.new.held) c.self.inside.master c.sweep_held.new.cell c.args.now c.sweep_held.result c.self.invariant.kept c.self.invariant.settled c.sweep_held.ensures.ok held left in
     record {
       kept = kept;
       settled = held_settled store (all_held was) (all_held c.sweep_held.new.held) c.self.inside.master c.sweep_held.new.cell c.args.now c.sweep_held.result c.self.invariant.settled held left;

@@ -16,7 +16,7 @@ commit_one-requires g c =
     let store = g.R.Records.store c.args.records.now in
     let P : List (List Edit) → Type 0 = λ u. AreSound store.cell store.rows u in
     let parted : all_pieces c.args.self ≡ c.as_slice.result.now ++ c.self.inside.last ∷ [] =
-        ap all_pieces (sym c.self.view_is) ∙ ap (λ (u : List (List Edit)). u ++ c.self.inside.last ∷ []) (sym c.as_slice.ensures.value) in
+    ap all_pieces (sym c.self.view_is) ∙ ap (λ (u : List (List Edit)). u ++ c.self.inside.last ∷ []) (sym c.as_slice.ensures.value) in
     (sound_after c.as_slice.result.now (c.self.inside.last ∷ []) store (g.R.Records.store c.commit_each.new.records) c.in-Ok.ensures.ok (subst P parted c.requires)).0
 
 pub returns-in-Ok-clause-ok : goal.returns-in-Ok-clause-ok
@@ -25,7 +25,7 @@ returns-in-Ok-clause-ok g c =
     let new = g.R.Records.store c.commit_one.new.records in
     let P : List (List Edit) → Type 0 = λ u. OnOk c.commit_one.result (CommitsEach u store new) in
     let parted : c.as_slice.result.now ++ c.self.inside.last ∷ [] ≡ all_pieces c.args.self =
-        ap (λ (u : List (List Edit)). u ++ c.self.inside.last ∷ []) c.as_slice.ensures.value ∙ ap all_pieces c.self.view_is in
+    ap (λ (u : List (List Edit)). u ++ c.self.inside.last ∷ []) c.as_slice.ensures.value ∙ ap all_pieces c.self.view_is in
     subst P parted (ends_each c.commit_one.result c.as_slice.result.now c.self.inside.last store (g.R.Records.store c.commit_each.new.records) new c.in-Ok.ensures.ok c.commit_one.ensures.ok)
 
 pub returns-in-Ok-clause-err : goal.returns-in-Ok-clause-err
@@ -34,7 +34,7 @@ returns-in-Ok-clause-err g c =
     let new = g.R.Records.store c.commit_one.new.records in
     let P : List (List Edit) → Type 0 = λ u. IfErr c.commit_one.result (λ e. IsCutShort e u store new) in
     let parted : c.as_slice.result.now ++ c.self.inside.last ∷ [] ≡ all_pieces c.args.self =
-        ap (λ (u : List (List Edit)). u ++ c.self.inside.last ∷ []) c.as_slice.ensures.value ∙ ap all_pieces c.self.view_is in
+    ap (λ (u : List (List Edit)). u ++ c.self.inside.last ∷ []) c.as_slice.ensures.value ∙ ap all_pieces c.self.view_is in
     subst P parted (cut_ends c.commit_one.result c.as_slice.result.now c.self.inside.last store (g.R.Records.store c.commit_each.new.records) new c.in-Ok.ensures.ok c.commit_one.ensures.err)
 
 pub returns-clause-err : goal.returns-clause-err
@@ -43,5 +43,5 @@ returns-clause-err g c =
     let new = g.R.Records.store c.commit_each.new.records in
     let P : List (List Edit) → Type 0 = λ u. IsCutShort c.in-Err.fault u store new in
     let parted : c.as_slice.result.now ++ c.self.inside.last ∷ [] ≡ all_pieces c.args.self =
-        ap (λ (u : List (List Edit)). u ++ c.self.inside.last ∷ []) c.as_slice.ensures.value ∙ ap all_pieces c.self.view_is in
+    ap (λ (u : List (List Edit)). u ++ c.self.inside.last ∷ []) c.as_slice.ensures.value ∙ ap all_pieces c.self.view_is in
     subst P parted (cut_front c.in-Err.fault c.as_slice.result.now c.self.inside.last store new c.in-Err.ensures.err)
