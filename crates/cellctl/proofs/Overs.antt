@@ -19,6 +19,7 @@ use Rattle.hosting.specs.declared.stops.Stop.TheVariants.{NoMemory}
 use Rattle.hosting.specs.declared.stops.GroupStop.{GroupStop}
 use Rattle.hosting.specs.declared.stops.GroupStop.TheVariants.{Stopped}
 use Rattle.hosting.specs.Groups.{EndsGroups}
+use Rattle.hosting.specs.declared.pieces.GroupLimits.{GroupLimits}
 use Rattle.hosting.specs.declared.pieces.GroupTerms.{GroupTerms}
 use Rattle.hosting.proofs.Doubts.{ends_groups_grow}
 use Rattle.hosting.proofs.Grouped.{ends_roomless as roomless}
@@ -96,6 +97,12 @@ module _ (lease : ℕ) (text before after : Known) (status : ℕ) (first last : 
       (sym (ap (λ (w : WorldView). w.doubt) opens) ∙ end.0, (new, subst (λ w. EndsWith status (EndsSurely text w new) before after) opens end.1, closes))
 
 -- ---- frames
+
+abbrev pub terms_of : GroupLimits → ℕ → GroupTerms
+terms_of limits lease = record { lease = lease; limits = limits }
+
+pub same_terms : (limits : GroupLimits) (given lease : ℕ) → given ≡ lease → terms_of limits given ≡ terms_of limits lease
+same_terms limits given lease same = ap (terms_of limits) same
 
 pub ends_serving : (terms given : GroupTerms) (text there before after : Known) (status : ℕ) (ended : Result (Unit {0}) GroupStop) (old new : Hosted) → given ≡ terms → there ≡ text → status ≡ served_status ended
     → EndsGroups given there old ended new before after → EndsServing terms text before after status old new

@@ -1,3 +1,4 @@
+use Rattle.hosting.specs.declared.pieces.GroupTerms.{GroupTerms}
 use Rattle.std.proofs.Common.{refl}
 use Rattle.sqlite.specs.Files.{file_state}
 use Rattle.hosting.specs.Seats.{hosted, without_master}
@@ -8,7 +9,7 @@ use Rattle.cellctl.proofs.serves.serve_store.Goals as goal
 
 pub returns-in-Ok-close-clause-closed : goal.returns-in-Ok-close-clause-closed
 returns-in-Ok-close-clause-closed g c clean =
-    let terms = record { lease = c.args.settings.now.lease; limits = c.args.frames.limits } in
+    let terms : GroupTerms = record { lease = c.args.settings.now.lease; limits = c.args.frames.limits } in
     let text = g.I.Read.remaining c.args.frames.reader in
     let before = g.W.Write.contents c.args.writer.now in
     let after = g.W.Write.contents c.serve_seat-seat.new.writer in
@@ -28,7 +29,7 @@ returns-in-Ok-close-clause-served g c = (
 
 pub returns-in-Err-close-clause-left : goal.returns-in-Err-close-clause-left
 returns-in-Err-close-clause-left g c =
-    let terms = record { lease = c.args.settings.now.lease; limits = c.args.frames.limits } in
+    let terms : GroupTerms = record { lease = c.args.settings.now.lease; limits = c.args.frames.limits } in
     let text = g.I.Read.remaining c.args.frames.reader in
     let before = g.W.Write.contents c.args.writer.now in
     let after = g.W.Write.contents c.serve_seat-seat.new.writer in
