@@ -3,10 +3,11 @@
 use crate::admin::pages::{Admin, Asked, Counter, Desk, Token};
 use crate::admin::showing::Showing;
 
+use crate::etcd::gateway::{Gateway, Unanswered};
 use crate::etcd::mastership::{Bell, Mastership, Seat};
 use crate::etcd::standby::{self, Known};
 use crate::etcd::warm::Warm;
-use crate::etcd::{self, gateway::Gateway, guard, upkeep};
+use crate::etcd::{self, guard, upkeep};
 use crate::etcd::{Place, Rows};
 use crate::master::child::{Ending, Making, Master, Order, StoreRefused};
 use crate::master::locks::take_lock;
@@ -57,6 +58,9 @@ const LAST_SERVER: &str = "TILLERMOSSD_LAST_SERVER";
 /// And whether etcd takes as many operations as a commit may have, which this one knows once it was asked.
 const LAST_TAKES: &str = "TILLERMOSSD_LAST_TAKES";
 static TAKES: OnceLock<bool> = OnceLock::new();
+
+/// So long before etcd is asked that again.
+const LOOKING_AHEAD: Duration = Duration::from_secs(15);
 
 /// How often the service manager hears that the server lives.
 const WATCHDOG: Duration = Duration::from_secs(5);
@@ -203,8 +207,10 @@ fn look_ahead(options: &Arc<Options>, gateway: &Arc<Gateway>, prefix: &str) {
     let (options, gateway, prefix) = (options.clone(), gateway.clone(), prefix.to_owned());
     thread::spawn(move || {
         is_unproved(&options.master.clone().unwrap_or_else(cellctl));
-        // (where no member answers it is asked later)
-        let _ = takes(&gateway, &prefix);
+        // (so who becomes master doesn't ask that first, for which a busy etcd takes seconds)
+        while takes(&gateway, &prefix).is_err_and(|fault| fault.is::<Unanswered>()) {
+            thread::sleep(LOOKING_AHEAD);
+        }
     });
 }
 
@@ -239,10 +245,14 @@ fn look_beside(options: &Options, rows: &Rows, warm: &Warm) -> Result<Found> {
     let head = Head { epoch: found.epoch(), coming: found.epoch() + 1, has_known_secret: found.has_known_secret() };
     let epochs = head.check(numbers.epochs())?;
     let mut warnings = warnings(options, head.has_known_secret);
-    if !mastership.insist(|| takes(gateway, prefix))? {
-        warnings.push(format!(
+    match takes(gateway, prefix) {
+        Ok(true) => {}
+        Ok(false) => warnings.push(format!(
             "etcd takes no transaction of {OPERATIONS} operations, and refuses a commit of more than it takes: set --max-txn-ops {OPERATIONS}"
-        ));
+        )),
+        // (the question is a long one: who comes up doesn't wait for an etcd that is slow to answer it)
+        Err(fault) if fault.is::<Unanswered>() => {}
+        Err(fault) => return Err(fault),
     }
     if let Some(own) = found.own()? {
         warnings.extend(check(options, &settings, &own)?.iter().map(stranger));

@@ -19,6 +19,7 @@ mod relay;
 mod servers;
 mod stops;
 mod strangers;
+mod watchers;
 mod workers;
 
 pub use disks::{Filled, fill};
@@ -44,4 +45,5 @@ pub use servers::{
 };
 pub use stops::{Kind, Stopped, stop_for};
 pub use strangers::{Stranger, expired};
+pub use watchers::{TellingTime, tell_watchers};
 pub use workers::{Deeds, FILES, Rules, Worker, check_deeds};

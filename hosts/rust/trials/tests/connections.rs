@@ -193,3 +193,37 @@ fn each_fault_of_tls_is_named_at_both_ends() {
     drop(server);
     fs::remove_dir_all(folder).unwrap();
 }
+
+// What a client of version 0.2.0 says to a new cell, and how the answers begin that it understands, in hexadecimal. A server that is one
+// version newer or older goes by the same bytes: who changes them gives the next version both forms.
+const OF_A_NEIGHBOUR: [(&str, &str); 3] = [
+    ("01 00 00000003 616e6e", "01 00 0000000000000001"),
+    ("02 00 0000000000000001 0000000000000001 00000003 616e6e", "02 00 0000000000000001 0000000000000001 0000000000000001"),
+    (
+        "02 02 0000000000000001 0000000000000001 0000000000000001 00 00000007 2f6c732f632f66 03 01 00 00 00000002 6869 00 00 \
+         0000000000000000 00 00",
+        "02 02 0000000000000001 0000000000000001 0000000000000001",
+    ),
+];
+
+fn bytes(text: &str) -> Vec<u8> {
+    let digits: Vec<u8> = text.bytes().filter(u8::is_ascii_hexdigit).collect();
+    digits.chunks(2).map(|pair| u8::from_str_radix(std::str::from_utf8(pair).unwrap(), 16).unwrap()).collect()
+}
+
+#[test]
+fn a_client_of_the_version_before_is_served() {
+    let (server, folder) = server("versions");
+    let mut connection = Plain::connect(server.place()).unwrap();
+    for (said, wanted) in OF_A_NEIGHBOUR {
+        connection.send(&bytes(said)).unwrap();
+        let told = connection.next_block().unwrap();
+        assert!(told.starts_with(&bytes(wanted)), "{said}: {told:?}");
+    }
+    // (one that greets by another version is told so)
+    let mut other = Plain::new(server.place(), &bytes("02 00 00000003 616e6e")).unwrap();
+    let told = Welcome::read(&other.next_block().unwrap());
+    assert!(matches!(told, Ok(Err(TurnedAway::NotUnderstood))), "{told:?}");
+    drop((connection, other, server));
+    fs::remove_dir_all(folder).unwrap();
+}

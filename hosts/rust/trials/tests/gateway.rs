@@ -9,7 +9,7 @@ use std::sync::Mutex;
 use std::thread;
 use std::time::{Duration, Instant};
 use tillermoss::Admin;
-use trials::{Answered, Gateway, Server, Start, certificates, curl, folder};
+use trials::{Answered, Gateway, Server, Start, certificates, curl, folder, tell_watchers};
 
 /// The page that says what is answered.
 const PAGE: &str = include_str!("../../../../docs/openapi.yaml");
@@ -546,6 +546,24 @@ fn strangers_keep_nobody_out() {
     assert!(answered.status == 431 || answered.status == 0, "{answered:?}");
     stage.ask("ann", "GET", "/v1/file/f", &[], 200);
     stage.end();
+}
+
+/// A thousand watch one file through two gateways, and each is told of each set.
+#[test]
+fn a_thousand_watchers_are_told() {
+    let folder = folder("gateway-watchers");
+    let server = Start::new(&folder.join("store.db")).start().unwrap();
+    let words = ["0", "--server", &server.address, "--as", "ann"];
+    let gateways = [Gateway::start(&folder, &words).unwrap(), Gateway::start(&folder, &words).unwrap()];
+    let client = tillermoss::Client::connect(&tillermoss::Options::new(&server.address, "ann")).unwrap();
+    let file = client.create("/ls/c/watched", b"").unwrap();
+    let times = tell_watchers(&[&gateways[0], &gateways[1]], "watched", 1000, (&client, file), 5).unwrap();
+    let worst = times.iter().map(|time| time.all.as_millis()).max().unwrap();
+    println!("gateway: 1,000 watchers were told within {worst} ms after a set was asked for");
+    // (a machine with much else to do takes longer than the 100 ms of a quiet one)
+    assert!(times.len() == 5 && worst < 20_000, "{times:?}");
+    drop((client, gateways, server));
+    fs::remove_dir_all(folder).unwrap();
 }
 
 /// Once it is told to go its sessions are over, and nobody waits for them.
