@@ -15,13 +15,14 @@ import (
 	"crypto/tls"
 	"errors"
 	"fmt"
+	"math/rand"
 	"strings"
 	"sync"
 	"time"
 )
 
 const (
-	// Between two tries to connect, at first and at most.
+	// Between two tries to connect, at first and at most; of each a random part, half at least.
 	firstWait = 20 * time.Millisecond
 	lastWait  = 500 * time.Millisecond
 	// Between two tries of a call that is refused for now.
@@ -196,6 +197,11 @@ func rest(ctx context.Context, pause time.Duration) {
 	}
 }
 
+// part is a random part of a pause, half at least, so that not all clients of a server that is gone come back at once.
+func part(pause time.Duration) time.Duration {
+	return pause/2 + time.Duration(rand.Int63n(int64(pause/2)+1))
+}
+
 // ---- the keeper's goroutine
 
 // greetOne greets until a server takes the client, where there are several.
@@ -299,7 +305,7 @@ func (it *Client) keep(connection *connection) {
 		it.tell(it.session.note(now()))
 		it.guard.Unlock()
 		if it.goesOn() {
-			rest(it.gone, pause)
+			rest(it.gone, part(pause))
 			if pause *= 2; pause > lastWait {
 				pause = lastWait
 			}

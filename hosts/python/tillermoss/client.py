@@ -3,6 +3,7 @@
 import math
 import os
 import queue
+import random
 import ssl
 import threading
 import time
@@ -18,7 +19,8 @@ from .session import EXPIRED, NO_SESSION, NOT_FOUND, UNKNOWN, Session, leased_un
 MODES = {"r": 1, "w": 2, "c": 4}
 EVENT_LETTERS = {"m": 1, "d": 2, "l": 4, "x": 8}
 BAD_NAME, TOO_LARGE, STALE_INSTANCE, BAD_SEQUENCER, BUSY, RECOVERING, IN_JEOPARDY = 2, 12, 14, 18, 22, 29, 30
-# Between two tries to connect, at first and at most, in seconds.
+# Between two tries to connect, at first and at most, in seconds; of each a random part, half at least, so that not all clients of a
+# server that is gone come back at once.
 PAUSES = 0.02, 0.5
 # Between two tries of a call that is refused for now.
 PAUSE = 0.05
@@ -232,7 +234,7 @@ class Client:
                 connection.close()
                 connection = None
             if self.goes_on():
-                time.sleep(pause)
+                time.sleep(pause * random.uniform(0.5, 1))
                 pause = min(2 * pause, PAUSES[1])
 
     def goes_on(self) -> bool:

@@ -10,6 +10,7 @@ import java.util.Optional;
 import java.util.Set;
 import java.util.concurrent.CopyOnWriteArrayList;
 import java.util.concurrent.Semaphore;
+import java.util.concurrent.ThreadLocalRandom;
 import java.util.concurrent.TimeUnit;
 import java.util.function.Function;
 import javax.net.ssl.SSLContext;
@@ -274,7 +275,8 @@ public final class Client implements AutoCloseable {
                 connection = null;
                 tell(session.note(Clock.latest()));
             }
-            rest(pause);
+            // (a random part of it, so that not all clients of a server that is gone come back at once)
+            rest(ThreadLocalRandom.current().nextLong(pause / 2, pause + 1));
             pause = Math.min(2 * pause, LAST_WAIT);
         }
     }

@@ -79,6 +79,12 @@ impl Asked {
         self.parts.what == START
     }
 
+    /// Whether something is asked for; else a session is begun or kept.
+    #[must_use]
+    pub fn is_call(&self) -> bool {
+        self.parts.what == CALL
+    }
+
     /// Whether it is from the client of this number, who acts for this principal.
     #[must_use]
     pub fn is_from(&self, client: u64, principal: &str) -> bool {

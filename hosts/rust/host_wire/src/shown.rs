@@ -88,8 +88,11 @@ pub struct WaitShown {
     pub name: String,
     /// Since so many milliseconds.
     pub waited: u64,
-    /// For which clients it waits: they hold the lock, or may have the node in their cache.
+    /// For which clients it waits: they hold the lock, or may have the node in their cache; the first hundred.
     pub waits_for: Vec<u64>,
+    /// How many these are.
+    #[serde(default)]
+    pub count: usize,
 }
 
 /// A node, without its content.
@@ -116,10 +119,10 @@ pub struct Shown {
     pub status: Status,
     /// The nodes, in order of names; the first thousand.
     pub nodes: Vec<NodeShown>,
-    /// The sessions that are live; the first thousand.
+    /// The sessions that are live; two hundred, and of these first those for which a call waits.
     pub sessions: Vec<SessionShown>,
-    /// The locks that aren't free.
+    /// The locks that aren't free; two hundred, and of these first those that most wait for.
     pub locks: Vec<LockShown>,
-    /// The calls that wait.
+    /// The calls that wait; the two hundred that have waited longest, these first.
     pub waits: Vec<WaitShown>,
 }

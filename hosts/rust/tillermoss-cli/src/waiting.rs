@@ -38,11 +38,14 @@ impl Waiting {
     }
 }
 
+/// So many of those that it waits for are named.
+const NAMED: usize = 10;
+
 fn follow(is_done: &Receiver<()>, client: &AtomicU64, admin: Option<&Admin>, server: &str, what: &str) {
     let mut told = String::new();
     while let Err(RecvTimeoutError::Timeout) = is_done.recv_timeout(AWHILE) {
         let client = client.load(Ordering::SeqCst);
-        let shown = admin.and_then(|admin| admin.all().ok());
+        let shown = admin.and_then(|admin| admin.find(&client.to_string()).ok());
         let now = reason(shown.as_ref(), client, server);
         if matches!(is_done.try_recv(), Err(TryRecvError::Empty)) && now != told {
             say(&format!("{what} waits: {now}"));
@@ -72,7 +75,12 @@ fn reason(shown: Option<&Shown>, client: u64, server: &str) -> String {
     }
     let found = shown.waits.iter().find(|wait| wait.client == client);
     match found {
-        Some(wait) if !wait.waits_for.is_empty() => format!("for {}", named(&wait.waits_for, &shown.sessions)),
+        Some(wait) if !wait.waits_for.is_empty() => {
+            let first = &wait.waits_for[..wait.waits_for.len().min(NAMED)];
+            let others = wait.count.max(wait.waits_for.len()) - first.len();
+            let more = if others > 0 { format!(" and {others} more") } else { String::new() };
+            format!("for {}{more}", named(first, &shown.sessions))
+        }
         Some(_) => "for a lock-delay, or for one whose session is over".to_owned(),
         None if client == 0 => format!("{server} has begun no session yet"),
         None => "for the master".to_owned(),
@@ -103,15 +111,17 @@ mod tests {
             name: "/ls/c/l".to_owned(),
             waited: 2000,
             waits_for: waits_for.to_vec(),
+            count: waits_for.len(),
         };
         let shown = Shown {
             status: Status { is_ready: true, ..Status::default() },
             sessions: vec![session(3, true), session(4, false)],
-            waits: vec![wait(7, &[3, 4, 5]), wait(8, &[])],
+            waits: vec![wait(7, &[3, 4, 5]), wait(8, &[]), wait(6, &[3; 12])],
             ..Shown::default()
         };
         let rows = [
             (Some(&shown), 7, "for client 3 (bob), client 4 (bob, away), client 5"),
+            (Some(&shown), 6, &format!("for {} and 2 more", ["client 3 (bob)"; 10].join(", "))),
             (Some(&shown), 8, "for a lock-delay, or for one whose session is over"),
             (Some(&shown), 9, "for the master"),
             (Some(&shown), 0, "h:7 has begun no session yet"),

@@ -142,6 +142,25 @@ impl Admin {
         self.get("/all")
     }
 
+    /// The same of names, principals and clients in which a text stands, of the characters that names have: of a cell that has more than
+    /// a page shows.
+    ///
+    /// ```
+    /// # let server = trials::server_of_its_own();
+    /// # let address = server.admin.as_deref().unwrap();
+    /// # use tillermoss::*;
+    /// let shown = Admin::new(address)?.find("acl")?;
+    /// assert_eq!(shown.nodes.len(), 2);
+    /// # Ok::<(), Error>(())
+    /// ```
+    ///
+    /// # Errors
+    ///
+    /// As `status`.
+    pub fn find(&self, text: &str) -> Result<Shown, Error> {
+        self.get(&format!("/all?find={text}"))
+    }
+
     /// Takes a copy of the store into a new file that this user alone reads; how many bytes it has. The server gives it over a
     /// `unix:` alone. While it copies its files the master is given nothing; the copy is whole, as of one moment between two changes.
     ///

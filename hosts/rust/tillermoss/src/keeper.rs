@@ -7,6 +7,7 @@ use crate::outgoing::Outgoing;
 use crate::reaching::{Reach, Stream};
 use host_wire::trust::worded;
 use host_wire::{ANSWER_LIMIT, Answer, Blocks, Hello, Notice, Said, TurnedAway, Welcome, framed};
+use rand::Rng;
 use std::io::{self, ErrorKind};
 use std::sync::Arc;
 use std::time::{Duration, Instant};
@@ -16,7 +17,8 @@ use tokio::time::{sleep, timeout};
 /// So long a connection may take to be made, and a greeting to be answered.
 const CONNECTING: Duration = Duration::from_secs(5);
 
-/// So many milliseconds between two tries to connect, at first and at most.
+/// So many milliseconds between two tries to connect, at first and at most; of each a random part, half at least, so that not all clients
+/// of a server that is gone come back at once.
 const PAUSES: (u64, u64) = (20, 500);
 
 /// So many milliseconds at least between two Beats that have nothing to acknowledge.
@@ -230,7 +232,8 @@ impl Keeper {
 
     // Waits so many milliseconds; gives how many the next time.
     async fn rest(pause: u64) -> u64 {
-        sleep(Duration::from_millis(pause)).await;
+        let part = rand::thread_rng().gen_range(pause / 2..=pause);
+        sleep(Duration::from_millis(part)).await;
         (2 * pause).min(PAUSES.1)
     }
 

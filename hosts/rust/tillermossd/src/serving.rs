@@ -18,7 +18,7 @@ use crate::master::store::{self, Head, beside};
 use crate::net::connections::{Hall, take_all};
 use crate::net::doors::{Certificates, Door};
 use crate::options::Options;
-use crate::settings::{Own, Settings};
+use crate::settings::{Limits, Own, Settings};
 use anyhow::{Context, Result, bail};
 use host_wire::{Address, Notice};
 use nix::sys::resource::{Resource, getrlimit, setrlimit};
@@ -98,9 +98,24 @@ pub fn serve(options: Options) -> Result<()> {
 }
 
 fn begin() -> Result<Runtime> {
-    let (_, most) = getrlimit(Resource::RLIMIT_NOFILE)?;
+    let most = descriptors()?;
     setrlimit(Resource::RLIMIT_NOFILE, most, most)?;
     Ok(tokio::runtime::Builder::new_multi_thread().enable_all().build()?)
+}
+
+// How many this process may have open.
+fn descriptors() -> nix::Result<u64> {
+    getrlimit(Resource::RLIMIT_NOFILE).map(|(_, most)| most)
+}
+
+// The limits of the settings, as far as there are descriptors for them.
+fn limits(settings: &Settings) -> Limits {
+    let descriptors = descriptors().unwrap_or(u64::MAX);
+    let limits = settings.limits.clone().within(descriptors);
+    if limits.connections < settings.limits.connections {
+        info!(descriptors, connections = limits.connections, "fewer connections are let in than the limits say: each wants a descriptor");
+    }
+    limits
 }
 
 // Stands by until it is master, and serves then. Where the mastership has ended it stands by anew, as a new process.
@@ -386,7 +401,7 @@ async fn run(
         Some(opened) => opened,
     };
     let mastership = rows.as_ref().map(|rows| rows.mastership.clone());
-    let hall = Arc::new(Hall::new(found.numbers, &found.settings.limits, mastership)?);
+    let hall = Arc::new(Hall::new(found.numbers, &limits(&found.settings), mastership)?);
     let store = rows.is_none().then(|| path.clone());
     if let Some(rows) = &rows {
         hall.metrics.watch(rows)?;
@@ -595,7 +610,7 @@ async fn wait(
 fn renew(options: &Options, hall: &Hall, certificates: Option<&Certificates>) {
     match Settings::read(options.settings.as_deref()) {
         Ok(settings) => {
-            *hall.limits.write().unwrap_or_else(PoisonError::into_inner) = settings.limits;
+            *hall.limits.write().unwrap_or_else(PoisonError::into_inner) = limits(&settings);
             info!("the limits were read again; what is said of the cell holds from the next start on");
         }
         Err(error) => error!(reason = %format_args!("{error:#}"), "the settings stay as they were"),

@@ -49,9 +49,9 @@ pub struct Limits {
 impl Default for Limits {
     fn default() -> Limits {
         Limits {
-            connections: 10_000,
-            connections_of_a_principal: 8_000,
-            greetings: 1024,
+            connections: 40_000,
+            connections_of_a_principal: 30_000,
+            greetings: 4096,
             silence: 180,
             rate_of_a_client: 2_000,
             rate_of_a_principal: 10_000,
@@ -61,6 +61,19 @@ impl Default for Limits {
             bytes: 1 << 30,
             bytes_of_a_principal: 1 << 29,
         }
+    }
+}
+
+/// So many descriptors a server wants for other things than connections.
+const OTHERS: usize = 128;
+
+impl Limits {
+    /// The same, in a process that may have so many descriptors: each connection is one. Few of them are kept for greetings.
+    #[must_use]
+    pub fn within(self, descriptors: u64) -> Limits {
+        let descriptors = usize::try_from(descriptors).unwrap_or(usize::MAX).saturating_sub(OTHERS);
+        let greetings = self.greetings.min(descriptors / 16);
+        Limits { greetings, connections: self.connections.min(descriptors - greetings), ..self }
     }
 }
 
@@ -206,6 +219,16 @@ mod tests {
         assert_eq!(fs::read_to_string(settings.write().unwrap().path()).unwrap(), "cell = \"k\"\nlease = 2000\n");
         for text in ["[limits]\nnode = 7\n", "[limits]\nnodes = -1\n", "limits = 7\n", "cell"] {
             assert!(Settings::of_text(text).is_err(), "{text}");
+        }
+    }
+
+    #[test]
+    fn each_connection_wants_a_descriptor() {
+        let limits = Limits { connections: 500, greetings: 200, ..Limits::default() };
+        let rows = [(u64::MAX, 500, 200), (3328, 500, 200), (3327, 500, 199), (628, 469, 31), (0, 0, 0)];
+        for (descriptors, connections, greetings) in rows {
+            let found = limits.clone().within(descriptors);
+            assert_eq!((found.connections, found.greetings), (connections, greetings), "{descriptors}");
         }
     }
 

@@ -27,6 +27,8 @@ pub struct Noticed {
     pub answered: Duration,
     /// So long after the first one was told to go; it includes its going.
     pub answered_since_the_end: Duration,
+    /// So long after that another server was master, where several stand by for it.
+    pub taken: Duration,
     /// So often a lease ended before it was given again.
     pub jeopardies: usize,
     /// So many sessions were lost.
@@ -146,6 +148,17 @@ fn go(server: &mut Server, going: Going) -> io::Result<()> {
     server.kill(if going == Going::InOrder { Kill::InOrder } else { Kill::Server }).map(drop)
 }
 
+// Until this server is master, as etcd has it: how long after that moment.
+fn wait_for_master(etcd: &Etcd, server: &Server, since: Instant) -> io::Result<Duration> {
+    while since.elapsed() < PATIENCE {
+        if etcd.get("c/master").is_ok_and(|seat| seat.is_some_and(|seat| seat.contains(&server.address))) {
+            return Ok(since.elapsed());
+        }
+        thread::sleep(Duration::from_millis(20));
+    }
+    Err(io::Error::other("nobody took over"))
+}
+
 /// So many clients of a cell over etcd that has so many files more; the server goes, and one that stands by takes its place. They are
 /// looked at for so long after that. In what they noticed the first answer counts from the going, and so does the last.
 ///
@@ -162,14 +175,17 @@ pub fn fail_over_to_one_that_stands_by(files: u64, clients: usize, going: Going,
     thread::sleep(QUIET + Duration::from_millis(files / 10));
     let gone = Instant::now();
     go(&mut first, going)?;
-    let answers = thread::scope(|scope| {
+    let (taken, answers) = thread::scope(|scope| {
         let writers = guests.iter().map(|guest| (&guest.client, guest.watch.handle));
         let writing: Vec<_> = writers.map(|(client, file)| scope.spawn(move || write(client, file).map(|()| gone.elapsed()))).collect();
+        let taken = wait_for_master(&etcd, &second, gone);
         let answers = writing.into_iter().map(|writing| writing.join().unwrap_or(Err(Error::Closed)));
-        answers.collect::<Result<Vec<Duration>, Error>>()
-    })?;
+        (taken, answers.collect::<Result<Vec<Duration>, Error>>())
+    });
+    let (taken, answers) = (taken?, answers?);
     let answered = answers.iter().min().copied().unwrap_or_default();
-    let mut noticed = Noticed { answered, answered_since_the_end: answers.into_iter().max().unwrap_or_default(), ..Noticed::default() };
+    let mut noticed =
+        Noticed { answered, answered_since_the_end: answers.into_iter().max().unwrap_or_default(), taken, ..Noticed::default() };
     thread::sleep(looked_at);
     noticed.look_at(&guests);
     Ok(noticed)

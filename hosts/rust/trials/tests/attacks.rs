@@ -1007,7 +1007,7 @@ fn ten_thousand_connections_hold_in_little_memory() {
     setrlimit(Resource::RLIMIT_NOFILE, most, most).unwrap();
     let folder = folder("many");
     let store = folder.join("store.db");
-    let server = Start::new(&store).settings("[limits]\nconnections_of_a_principal = 10000\n").start().unwrap();
+    let server = Start::new(&store).settings("[limits]\nconnections = 10000\nconnections_of_a_principal = 10000\n").start().unwrap();
     let mut held = Vec::new();
     for number in 0..10_000 {
         let (connection, welcome) = Plain::greet(server.place(), &new("ann")).unwrap();

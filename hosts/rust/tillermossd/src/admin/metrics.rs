@@ -34,6 +34,7 @@ pub struct Metrics {
     starts_let_go: IntCounter,
     changes_kept: IntCounter,
     connections: IntGaugeVec,
+    most_connections: IntGauge,
     nodes: IntGauge,
     content_bytes: IntGauge,
     sessions: IntGauge,
@@ -58,6 +59,7 @@ struct Processes {
     memory: IntGauge,
     seconds: Counter,
     files: IntGauge,
+    most_files: IntGauge,
     started: Gauge,
 }
 
@@ -68,6 +70,7 @@ impl Processes {
             memory: register_int_gauge_with_registry!("process_resident_memory_bytes", "Memory of the server.", r)?,
             seconds: register_counter_with_registry!("process_cpu_seconds_total", "Processor time of the server.", r)?,
             files: register_int_gauge_with_registry!("process_open_fds", "Descriptors that the server has open.", r)?,
+            most_files: register_int_gauge_with_registry!("process_max_fds", "Descriptors that the server may have open.", r)?,
             started: register_gauge_with_registry!("process_start_time_seconds", "When the server began, since 1970.", r)?,
             registry: r,
         })
@@ -79,6 +82,9 @@ impl Processes {
 pub struct Levels {
     pub greeting: usize,
     pub bound: usize,
+    /// Of the bound ones so many are let in, and so many descriptors may be open.
+    pub most: usize,
+    pub descriptors: u64,
     pub nodes: usize,
     pub bytes: u64,
     pub sessions: usize,
@@ -123,6 +129,7 @@ impl Metrics {
             starts_let_go: register_int_counter_with_registry!(by("starts_let_go_total", "Starts of sessions that had begun often."), r)?,
             changes_kept: register_int_counter_with_registry!(by("changes_kept_total", "Changes beyond their principal's share."), r)?,
             connections: register_int_gauge_vec_with_registry!(by("connections", "Connections."), &["state"], r)?,
+            most_connections: level("connections_limit", "Connections that may have greeted.")?,
             nodes: level("nodes", "Nodes of the cell.")?,
             content_bytes: level("content_bytes", "Bytes of all contents.")?,
             sessions: level("sessions", "Sessions that live.")?,
@@ -245,6 +252,8 @@ impl Metrics {
             (&self.master_memory, levels.master.memory),
             (&self.processes.memory, levels.own.memory),
             (&self.processes.files, levels.own.files),
+            (&self.processes.most_files, levels.descriptors),
+            (&self.most_connections, levels.most as u64),
         ];
         for (gauge, value) in counts {
             gauge.set(value.cast_signed());

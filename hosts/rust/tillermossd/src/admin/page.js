@@ -19,8 +19,8 @@ const wanted = (...texts) => {
   return !word || texts.some((text) => String(text).toLowerCase().includes(word));
 };
 
-function table(id, heads, rows) {
-  at('count-' + id).textContent = rows.length ? String(rows.length) : '';
+function table(id, heads, rows, total = 0) {
+  at('count-' + id).textContent = rows.length < total ? rows.length + ' of ' + total : rows.length ? String(rows.length) : '';
   const lines = [made('tr')];
   lines[0].append(...heads.map((head) => made('th', head)));
   for (const row of rows) {
@@ -107,17 +107,23 @@ function show(all) {
   recovery(status);
   tree(all.nodes, status.nodes);
   table('waits', ['client', 'wants', 'of', 'since', 'waits for'], all.waits.filter((wait) => wanted(wait.name, wait.client, wait.principal, who(wait.waits_for))).map((wait) =>
-    [client(wait.client, names), wait.act, wait.name, seconds(wait.waited), who(wait.waits_for) || 'its turn']));
+    [client(wait.client, names), wait.act, wait.name, seconds(wait.waited), (who(wait.waits_for) || 'its turn') + (wait.count > wait.waits_for.length ? ' and ' + (wait.count - wait.waits_for.length) + ' more' : '')]));
   table('locks', ['node', 'held', 'by', 'waiting', 'generation'], all.locks.filter((lock) => wanted(lock.name, who(lock.holders), who(lock.waiters))).map((lock) =>
-    [lock.name, lock.is_shared ? 'shared' : 'exclusive', who(lock.holders) || 'nobody: lock-delay', who(lock.waiters), String(lock.generation)]));
+    [lock.name, lock.is_shared ? 'shared' : 'exclusive', who(lock.holders) || 'nobody: lock-delay', who(lock.waiters), String(lock.generation)]), status.locks);
   table('sessions', ['client', 'principal', 'connection', 'lease'], all.sessions.filter((session) => wanted(session.client, session.principal)).map((session) =>
-    [String(session.client), session.principal, session.is_connected ? 'yes' : 'no', lease(session.lease_left)]));
+    [String(session.client), session.principal, session.is_connected ? 'yes' : 'no', lease(session.lease_left)]), status.sessions);
+}
+
+// The server looks for what was typed, among more than the page shows. (Names, principals and numbers have no other characters.)
+function asked() {
+  const word = at('filter').value.trim().toLowerCase();
+  return /^[a-z0-9._\/-]+$/.test(word) ? '/all?find=' + word : '/all';
 }
 
 async function follow() {
   for (;;) {
     try {
-      const answer = await fetch('/all', token ? { headers: { Authorization: 'Bearer ' + token } } : {});
+      const answer = await fetch(asked(), token ? { headers: { Authorization: 'Bearer ' + token } } : {});
       if (!answer.ok) throw new Error(answer.statusText);
       show(await answer.json());
     } catch {

@@ -239,15 +239,20 @@ async fn shown(admin: &Admin, copies: &Copies, request: &Request<Body>) -> Respo
             Ok(text) => said(StatusCode::OK, "text/plain; version=0.0.4", text),
             Err(error) => said(StatusCode::INTERNAL_SERVER_ERROR, "text/plain", error.to_string()),
         },
-        (&Method::GET, "/all") => json(serde_json::to_string(&showing.all())),
+        (&Method::GET, "/all") => json(serde_json::to_string(&showing.all(find(request)))),
         (&Method::GET, "/status") => json(serde_json::to_string(&showing.status())),
-        (&Method::GET, "/sessions") => json(serde_json::to_string(&showing.sessions(usize::MAX))),
+        (&Method::GET, "/sessions") => json(serde_json::to_string(&showing.sessions(usize::MAX, find(request), &BTreeSet::new()))),
         (&Method::GET, "/locks") => json(serde_json::to_string(&showing.locks())),
         (&Method::POST, "/backup") => backup(admin, copies).await,
         (&Method::POST, path) if path.starts_with("/end/") => end(admin, path).await,
         (_, "/backup") => said(StatusCode::METHOD_NOT_ALLOWED, "text/plain", "only by POST\n"),
         _ => said(StatusCode::NOT_FOUND, "text/plain", "there is no such page\n"),
     }
+}
+
+// The text that is looked for, `?find=TEXT`: of characters of names, so none of it is written in another way.
+fn find(request: &Request<Body>) -> &str {
+    request.uri().query().and_then(|query| query.strip_prefix("find=")).unwrap_or_default()
 }
 
 fn said(status: StatusCode, kind: &'static str, body: impl Into<Body>) -> Response<Body> {

@@ -2,18 +2,25 @@
 
 use crate::admin::metrics::Levels;
 use crate::admin::processes::Used;
-use crate::master::picture::Picture;
+use crate::master::picture::{Picture, Session, Waiting};
 use crate::master::store::beside;
 use crate::net::connections::Hall;
 use host_wire::{Act, LockShown, NodeShown, RecoveryShown, SessionShown, Shown, Status, WaitShown};
-use std::collections::BTreeMap;
+use nix::sys::resource::{Resource, getrlimit};
+use std::cmp::Reverse;
+use std::collections::{BTreeMap, BTreeSet};
 use std::fs;
 use std::path::{Path, PathBuf};
 use std::sync::Arc;
 use std::time::{Duration, Instant};
 
-/// So many of each are shown at most.
-const MOST: usize = 1000;
+/// So many nodes are shown at most, and so many of all else: who looks for another one asks for it.
+const NODES: usize = 1000;
+const MOST: usize = 200;
+
+/// A call may wait for many: so many of them are shown, and of so many of these the sessions.
+const FOR: usize = 100;
+const NAMED: usize = 10;
 
 /// So long a call has to have waited before it is shown: most are answered at once.
 const AWHILE: u128 = 20;
@@ -70,6 +77,8 @@ impl Showing {
         Levels {
             greeting: self.hall.lobby.count(),
             bound: self.hall.crowd.count(),
+            most: self.hall.limits().connections,
+            descriptors: getrlimit(Resource::RLIMIT_NOFILE).map_or(0, |(_, most)| most),
             nodes: picture.nodes.len(),
             bytes: picture.bytes(),
             sessions: picture.sessions.len(),
@@ -86,11 +95,14 @@ impl Showing {
         }
     }
 
-    /// The sessions that are live.
+    /// The sessions that are live, of a client or principal in which this text stands; before them those of the clients that are named.
     #[must_use]
-    pub fn sessions(&self, most: usize) -> Vec<SessionShown> {
+    pub fn sessions(&self, most: usize, find: &str, named: &BTreeSet<u64>) -> Vec<SessionShown> {
         let picture = self.hall.picture();
-        let shown = picture.sessions.iter().take(most).map(|(client, session)| SessionShown {
+        let first = named.iter().filter_map(|client| picture.sessions.get_key_value(client));
+        let is_found = |client: u64, session: &Session| has(&session.principal, find) || has_number(client, find);
+        let others = picture.sessions.iter().filter(|(client, session)| !named.contains(client) && is_found(**client, session));
+        let shown = first.chain(others).take(most).map(|(client, session)| SessionShown {
             client: *client,
             principal: session.principal.to_string(),
             is_connected: self.hall.routes.principal(*client).is_some(),
@@ -114,9 +126,9 @@ impl Showing {
         shown.collect()
     }
 
-    fn nodes(&self) -> Vec<NodeShown> {
+    fn nodes(&self, find: &str) -> Vec<NodeShown> {
         let picture = self.hall.picture();
-        let shown = picture.nodes.iter().take(MOST).map(|(name, node)| NodeShown {
+        let shown = picture.nodes.iter().filter(|(name, _)| has(name, find)).take(NODES).map(|(name, node)| NodeShown {
             name: name.clone(),
             is_file: node.is_file,
             is_ephemeral: node.is_ephemeral,
@@ -126,26 +138,53 @@ impl Showing {
         shown.collect()
     }
 
-    fn waits(&self) -> Vec<WaitShown> {
+    // What has waited longest stands first.
+    fn waits(&self, find: &str) -> Vec<WaitShown> {
         let picture = self.hall.picture();
-        let slow = picture.waiting.iter().filter(|(_, waiting)| waiting.since.elapsed().as_millis() >= AWHILE);
-        let shown = slow.take(MOST).map(|(client, waiting)| WaitShown {
-            client: *client,
-            principal: waiting.principal().to_owned(),
-            act: waiting.act.name().to_owned(),
-            name: waiting.name.clone(),
-            waited: waiting.since.elapsed().as_millis() as u64,
-            waits_for: picture.waits_for(*client, waiting),
-        });
-        shown.collect()
+        let is_shown = |client: u64, waiting: &Waiting| {
+            let is_found = has(&waiting.name, find) || has(waiting.principal(), find) || has_number(client, find);
+            is_found && waiting.since.elapsed().as_millis() >= AWHILE
+        };
+        let mut slow: Vec<(&u64, &Waiting)> = picture.waiting.iter().filter(|(client, waiting)| is_shown(**client, waiting)).collect();
+        slow.sort_by_key(|(_, waiting)| waiting.since);
+        slow.into_iter().take(MOST).map(|(client, waiting)| wait(&picture, *client, waiting)).collect()
     }
 
-    /// All of it, in so much as a page holds.
+    /// All of it in which this text stands, in so much as a page holds. Locks that are waited for stand first.
     #[must_use]
-    pub fn all(&self) -> Shown {
+    pub fn all(&self, find: &str) -> Shown {
         let (status, mut locks) = (self.status(), self.locks());
+        let names_one = |clients: &[u64]| clients.iter().any(|client| has_number(*client, find));
+        locks.retain(|lock| has(&lock.name, find) || names_one(&lock.holders) || names_one(&lock.waiters));
+        locks.sort_by_key(|lock| Reverse(lock.waiters.len()));
         locks.truncate(MOST);
-        Shown { mark: 0, status, nodes: self.nodes(), sessions: self.sessions(MOST), locks, waits: self.waits() }
+        let waits = self.waits(find);
+        let named = waits.iter().flat_map(|wait| wait.waits_for.iter().take(NAMED)).copied().collect();
+        Shown { mark: 0, status, nodes: self.nodes(find), sessions: self.sessions(MOST, find, &named), locks, waits }
+    }
+}
+
+// (each text has none)
+fn has(text: &str, find: &str) -> bool {
+    text.contains(find)
+}
+
+fn has_number(client: u64, find: &str) -> bool {
+    find.is_empty() || client.to_string().contains(find)
+}
+
+fn wait(picture: &Picture, client: u64, waiting: &Waiting) -> WaitShown {
+    let mut waits_for = picture.waits_for(client, waiting);
+    let count = waits_for.len();
+    waits_for.truncate(FOR);
+    WaitShown {
+        client,
+        principal: waiting.principal().to_owned(),
+        act: waiting.act.name().to_owned(),
+        name: waiting.name.clone(),
+        waited: waiting.since.elapsed().as_millis() as u64,
+        waits_for,
+        count,
     }
 }
 

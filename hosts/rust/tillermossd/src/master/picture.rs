@@ -75,8 +75,9 @@ pub struct Picture {
     pub locks: BTreeMap<u64, Lock>,
     pub waiting: BTreeMap<u64, Waiting>,
     names: HashMap<u64, String>,
-    rights: HashMap<u64, (u64, String)>,
-    caching: HashMap<String, BTreeSet<(u64, u64)>>,
+    // (of each right its client and its name, which is kept once; and of each name its rights)
+    rights: HashMap<u64, (u64, Arc<str>)>,
+    caching: HashMap<Arc<str>, BTreeSet<u64>>,
     written: Sums,
     reserved: Sums,
 }
@@ -285,16 +286,17 @@ impl Picture {
     }
 
     fn grant(&mut self, right: u64, client: u64, name: &str) {
-        self.rights.insert(right, (client, name.to_owned()));
-        self.caching.entry(name.to_owned()).or_default().insert((client, right));
+        let name = self.caching.get_key_value(name).map_or_else(|| name.into(), |(name, _)| name.clone());
+        self.rights.insert(right, (client, name.clone()));
+        self.caching.entry(name).or_default().insert(right);
     }
 
     fn end_right(&mut self, right: u64) {
-        let Some((client, name)) = self.rights.remove(&right) else {
+        let Some((_, name)) = self.rights.remove(&right) else {
             return;
         };
         if let Some(caching) = self.caching.get_mut(&name) {
-            caching.remove(&(client, right));
+            caching.remove(&right);
             if caching.is_empty() {
                 self.caching.remove(&name);
             }
@@ -372,7 +374,8 @@ impl Picture {
     /// For which clients a call waits: those that hold the lock, or may have the node or its parent in their cache.
     #[must_use]
     pub fn waits_for(&self, client: u64, waiting: &Waiting) -> Vec<u64> {
-        let of_caches = |name: &str| self.caching.get(name).into_iter().flatten().map(|(holder, _)| *holder).collect::<Vec<u64>>();
+        let holder = |right: &u64| self.rights.get(right).map(|(client, _)| *client);
+        let of_caches = |name: &str| self.caching.get(name).into_iter().flatten().filter_map(holder).collect::<Vec<u64>>();
         let mut found = match waiting.act {
             Act::Acquire(instance) => self.locks.get(&instance).map_or_else(Vec::new, |lock| lock.holders.clone()),
             Act::Create(_) | Act::Delete => [of_caches(&waiting.name), of_caches(parent(&waiting.name))].concat(),

@@ -180,7 +180,7 @@ impl Hall {
         spawn_blocking(move || hall.numbers.lock().unwrap_or_else(PoisonError::into_inner).note_ended(still)).await?
     }
 
-    // A connection, from its greeting to its end.
+    // A connection, up to its greeting. After that it has another task: what a greeting needs is more, and is free then.
     async fn take(self: Arc<Self>, guest: Guest) {
         let peer = guest.peer();
         let greeted = {
@@ -191,7 +191,7 @@ impl Hall {
             }
         };
         match greeted {
-            Ok(Some((stream, blocks, bound))) => self.carry(stream, blocks, &bound, &peer).await,
+            Ok(Some((stream, blocks, bound))) => drop(tokio::spawn(async move { self.carry(stream, blocks, &bound, &peer).await })),
             Ok(None) => {}
             Err(error) => {
                 self.metrics.turned_away("greeting");
@@ -327,7 +327,8 @@ impl Hall {
             if !self.routes.is_bound(bound.client, binding) {
                 return Some("its client has a later one");
             }
-            let message = Message { client: bound.client, principal: principal.clone(), bytes: block, place };
+            let (principal, is_call) = (principal.clone(), asked.is_call());
+            let message = Message { client: bound.client, principal, is_call, bytes: block, place };
             self.go_on(self.let_in(&asked, message, binding, outgoing));
         }
     }

@@ -8,10 +8,15 @@ use host_wire::trust::common_name;
 use host_wire::{Address, is_component};
 use openssl::ssl::SslContext;
 use std::io;
+use std::net::SocketAddr;
 use std::sync::{Arc, PoisonError, RwLock};
 use tokio::io::{AsyncRead, AsyncWrite};
-use tokio::net::{TcpListener, TcpStream, UnixListener, UnixStream};
+use tokio::net::{TcpListener, TcpSocket, TcpStream, UnixListener, UnixStream, lookup_host};
 use tokio_openssl::SslStream;
+
+/// So many connections may wait until they are taken: all clients come at once where a server is replaced, and one that finds no place
+/// tries again after a second. (The system has a limit of its own.)
+const BACKLOG: u32 = 4096;
 
 /// A stream of bytes to a client.
 pub trait Stream: AsyncRead + AsyncWrite + Send + Unpin {}
@@ -74,6 +79,25 @@ impl Certificates {
     }
 }
 
+// A socket at the first of the place's addresses that can be had.
+async fn listen_tcp(place: &str) -> io::Result<TcpListener> {
+    let mut listener = Err(io::Error::from(io::ErrorKind::AddrNotAvailable));
+    for address in lookup_host(place).await? {
+        listener = listen_at(address);
+        if listener.is_ok() {
+            break;
+        }
+    }
+    listener
+}
+
+fn listen_at(address: SocketAddr) -> io::Result<TcpListener> {
+    let socket = if address.is_ipv4() { TcpSocket::new_v4()? } else { TcpSocket::new_v6()? };
+    socket.set_reuseaddr(true)?;
+    socket.bind(address)?;
+    socket.listen(BACKLOG)
+}
+
 impl Door {
     /// Listens at an address; gives it with the port that it has. Whoever the system knows may come to a `unix:`.
     pub async fn open(address: &Address, is_insecure: bool, certificates: Option<&Arc<Certificates>>) -> Result<(Door, Address)> {
@@ -84,7 +108,7 @@ impl Door {
             (Address::Tcp(place), _) if address.is_local() || is_insecure => (place, None),
             (Address::Tcp(_), _) => bail!("{address}: who connects there acts for anybody, and nothing is encrypted; only with --insecure"),
         };
-        let listener = TcpListener::bind(place).await.with_context(|| format!("listening at {address}"))?;
+        let listener = listen_tcp(place).await.with_context(|| format!("listening at {address}"))?;
         let address = address.at(listener.local_addr()?);
         let door = match certificates {
             Some(certificates) => Door::Tls(listener, certificates),

@@ -124,10 +124,12 @@ async fn main() -> Done<()> {
     let (begun, before) = (Instant::now(), count.reads.load(Ordering::Relaxed));
     sleep(Duration::from_secs(seconds.parse()?)).await;
     let reads = count.reads.load(Ordering::Relaxed) - before;
-    println!("{kind}: {:.0} reads a second over {connections} connections", reads as f64 / begun.elapsed().as_secs_f64());
+    let a_second = reads as f64 / begun.elapsed().as_secs_f64();
     count.is_over.store(true, Ordering::Relaxed);
     while let Some(read) = reading.join_next().await {
         read??;
     }
+    let (places, all) = (places.len(), count.reads.load(Ordering::Relaxed));
+    println!("{kind} at {places}: {a_second:.0} reads a second over {connections} connections; {all} in all");
     Ok(())
 }
