@@ -22,7 +22,7 @@ const PATIENCE: Duration = Duration::from_secs(60);
 /// A server, as its operators reach it. Each call is a connection of its own.
 ///
 /// ```
-/// # let server = trials::server_of_its_own();
+/// # let server = programs::server_of_its_own();
 /// # let address = server.admin.as_deref().unwrap();
 /// # use tillermoss::*;
 /// let admin = Admin::new(address)?;
@@ -73,7 +73,7 @@ impl Admin {
     /// How the server stands.
     ///
     /// ```
-    /// # let server = trials::server_of_its_own();
+    /// # let server = programs::server_of_its_own();
     /// # let address = server.admin.as_deref().unwrap();
     /// # use tillermoss::*;
     /// let admin = Admin::new(address)?;
@@ -91,7 +91,7 @@ impl Admin {
     /// The sessions that are live.
     ///
     /// ```
-    /// # let server = trials::server_of_its_own();
+    /// # let server = programs::server_of_its_own();
     /// # let address = server.admin.as_deref().unwrap();
     /// # use tillermoss::*;
     /// let admin = Admin::new(address)?;
@@ -109,7 +109,7 @@ impl Admin {
     /// The locks that aren't free, with those who hold them and wait for them.
     ///
     /// ```
-    /// # let server = trials::server_of_its_own();
+    /// # let server = programs::server_of_its_own();
     /// # let address = server.admin.as_deref().unwrap();
     /// # use tillermoss::*;
     /// let admin = Admin::new(address)?;
@@ -127,7 +127,7 @@ impl Admin {
     /// All that a server shows: how it stands, nodes, sessions, locks, and which calls wait for whom.
     ///
     /// ```
-    /// # let server = trials::server_of_its_own();
+    /// # let server = programs::server_of_its_own();
     /// # let address = server.admin.as_deref().unwrap();
     /// # use tillermoss::*;
     /// let shown: Shown = Admin::new(address)?.all()?;
@@ -165,7 +165,7 @@ impl Admin {
     /// `unix:` alone. While it copies its files the master is given nothing; the copy is whole, as of one moment between two changes.
     ///
     /// ```
-    /// # let server = trials::server_of_its_own();
+    /// # let server = programs::server_of_its_own();
     /// # let address = server.admin.as_deref().unwrap();
     /// # use tillermoss::*;
     /// let admin = Admin::new(address)?;
@@ -202,7 +202,7 @@ impl Admin {
     /// `unix:` alone.
     ///
     /// ```
-    /// # let server = trials::server_of_its_own();
+    /// # let server = programs::server_of_its_own();
     /// # let address = server.admin.as_deref().unwrap();
     /// # use tillermoss::*;
     /// let client = Client::connect(&Options::new(&server.address, "ann"))?;
@@ -222,7 +222,7 @@ impl Admin {
     /// The same of all clients of a principal; which these are.
     ///
     /// ```
-    /// # let server = trials::server_of_its_own();
+    /// # let server = programs::server_of_its_own();
     /// # let address = server.admin.as_deref().unwrap();
     /// # use tillermoss::*;
     /// let client = Client::connect(&Options::new(&server.address, "bob"))?;

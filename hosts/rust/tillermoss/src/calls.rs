@@ -10,8 +10,9 @@ use host_wire::{is_component, is_name};
 /// Whether a new node goes by itself.
 ///
 /// ```
-/// # trials::with_client(|client| {
+/// # programs::with_server(|address| -> Result<(), tillermoss::Error> {
 /// # use tillermoss::*;
+/// # let client = &Client::connect(&Options::new(address, "ann"))?;
 /// let file = Create { content: Some(vec![]), life: Life::Ephemeral, ..Create::default() };
 /// let opened = client.open_with(&Opening { create: Some(file), ..Opening::new("/ls/c/here", Mode::READ) })?;
 /// assert!(client.stat(opened)?.is_ephemeral);
@@ -50,8 +51,9 @@ pub struct Create {
 /// What an Open asks for.
 ///
 /// ```
-/// # trials::with_client(|client| {
+/// # programs::with_server(|address| -> Result<(), tillermoss::Error> {
 /// # use tillermoss::*;
+/// # let client = &Client::connect(&Options::new(address, "ann"))?;
 /// // Its lock stays closed for a minute where the session ends while this handle holds it.
 /// let file = Create { content: Some(vec![]), ..Create::default() };
 /// let opening = Opening { create: Some(file), lock_delay: 60_000, ..Opening::new("/ls/c/lock", Mode::WRITE) };
@@ -76,7 +78,8 @@ impl Opening {
     /// A plain one: nothing is made, and nothing told.
     ///
     /// ```
-    /// # trials::with_client(|client| {
+    /// # programs::with_server(|address| -> Result<(), tillermoss::Error> {
+    /// # let client = &tillermoss::Client::connect(&tillermoss::Options::new(address, "ann"))?;
     /// use tillermoss::{Mode, Opening};
     /// client.open_with(&Opening::new("/ls/c", Mode::READ))?;
     /// # Ok(()) });

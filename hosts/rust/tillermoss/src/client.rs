@@ -75,8 +75,9 @@ impl Options {
 /// An open node, by its client's own number for it. Where its client is closed, or has lost its session, it is open no more.
 ///
 /// ```
-/// # trials::with_client(|client| {
+/// # programs::with_server(|address| -> Result<(), tillermoss::Error> {
 /// # use tillermoss::*;
+/// # let client = &Client::connect(&Options::new(address, "ann"))?;
 /// let file = client.create("/ls/c/f", b"")?;
 /// client.close(file)?;
 /// assert_eq!(client.read(file).unwrap_err().refusal(), Some(Refusal::BadHandle));
@@ -91,8 +92,9 @@ pub struct Handle {
 /// A node that is watched: its handle, and its events. They end when the handle is closed or the session is lost.
 ///
 /// ```
-/// # trials::with_client(|client| {
+/// # programs::with_server(|address| -> Result<(), tillermoss::Error> {
 /// # use tillermoss::*;
+/// # let client = &Client::connect(&Options::new(address, "ann"))?;
 /// let watch = client.watch("/ls/c", Events::CHILDREN)?;
 /// client.create("/ls/c/f", b"")?;
 /// assert_eq!(watch.events.recv(), Ok(Event::ChildAdded("/ls/c/f".to_owned())));
@@ -113,8 +115,9 @@ pub struct Watch {
 /// calls that was poisoned waits still, the session ends when its lease has run out, as that of a program that is killed.
 ///
 /// ```
-/// # trials::with_client(|client| {
+/// # programs::with_server(|address| -> Result<(), tillermoss::Error> {
 /// # use tillermoss::*;
+/// # let client = &Client::connect(&Options::new(address, "ann"))?;
 /// // Threads share a client: what its cache answers waits for nobody.
 /// let file = client.create("/ls/c/f", b"hello")?;
 /// client.read(file)?;
@@ -137,7 +140,7 @@ impl Client {
     ///
     /// ```
     /// # use tillermoss::*;
-    /// # let server = trials::server_of_its_own();
+    /// # let server = programs::server_of_its_own();
     /// # let address = server.address.as_str();
     /// let client = Client::connect(&Options::new(address, "ann"))?;
     /// client.create("/ls/c/f", b"hello")?;
@@ -185,7 +188,8 @@ impl Client {
     /// The client's number, which no other client of the cell has or had.
     ///
     /// ```
-    /// # trials::with_client(|client| {
+    /// # programs::with_server(|address| -> Result<(), tillermoss::Error> {
+    /// # let client = &tillermoss::Client::connect(&tillermoss::Options::new(address, "ann"))?;
     /// assert_eq!(client.number(), 1);
     /// # Ok(()) });
     /// ```
@@ -197,7 +201,8 @@ impl Client {
     /// Whether the session is lost, or the server turns the client away. Then each call is refused, for good: connect anew.
     ///
     /// ```
-    /// # trials::with_client(|client| {
+    /// # programs::with_server(|address| -> Result<(), tillermoss::Error> {
+    /// # let client = &tillermoss::Client::connect(&tillermoss::Options::new(address, "ann"))?;
     /// assert!(!client.is_lost());
     /// # Ok(()) });
     /// ```
@@ -210,7 +215,8 @@ impl Client {
     /// where the session is lost. What was held before that may be another's then, once a lock-delay is over.
     ///
     /// ```
-    /// # trials::with_client(|client| {
+    /// # programs::with_server(|address| -> Result<(), tillermoss::Error> {
+    /// # let client = &tillermoss::Client::connect(&tillermoss::Options::new(address, "ann"))?;
     /// assert!(!client.lease_left().is_zero());
     /// # Ok(()) });
     /// ```
@@ -224,7 +230,7 @@ impl Client {
     /// lock-delay: its locks are free for who waits, its ephemeral nodes go, and no write and no new master waits for it.
     ///
     /// ```
-    /// # let server = trials::server_of_its_own();
+    /// # let server = programs::server_of_its_own();
     /// # let address = server.address.as_str();
     /// # use tillermoss::*;
     /// let client = Client::connect(&Options::new(address, "ann"))?;
@@ -377,8 +383,9 @@ impl Client {
     /// cache.
     ///
     /// ```
-    /// # trials::with_client(|client| {
+    /// # programs::with_server(|address| -> Result<(), tillermoss::Error> {
     /// # use tillermoss::*;
+    /// # let client = &Client::connect(&Options::new(address, "ann"))?;
     /// // A directory, made where there is none.
     /// let directory = Opening { create: Some(Create::default()), ..Opening::new("/ls/c/d", Mode::READ) };
     /// client.open_with(&directory)?;
@@ -396,8 +403,9 @@ impl Client {
     /// Opens a node that is there. A name that isn't there may be kept in the cache: then the next Open asks nobody.
     ///
     /// ```
-    /// # trials::with_client(|client| {
+    /// # programs::with_server(|address| -> Result<(), tillermoss::Error> {
     /// # use tillermoss::*;
+    /// # let client = &Client::connect(&Options::new(address, "ann"))?;
     /// assert_eq!(client.open("/ls/c/f", Mode::READ).unwrap_err().refusal(), Some(Refusal::NotFound));
     /// client.open("/ls/c/acl/base", Mode::READ)?;
     /// # Ok(()) });
@@ -413,8 +421,9 @@ impl Client {
     /// Makes a permanent file, which isn't there yet, and opens it to read and to write.
     ///
     /// ```
-    /// # trials::with_client(|client| {
+    /// # programs::with_server(|address| -> Result<(), tillermoss::Error> {
     /// # use tillermoss::*;
+    /// # let client = &Client::connect(&Options::new(address, "ann"))?;
     /// client.create("/ls/c/f", b"hello")?;
     /// assert_eq!(client.create("/ls/c/f", b"").unwrap_err().refusal(), Some(Refusal::Exists));
     /// # Ok(()) });
@@ -431,8 +440,9 @@ impl Client {
     /// Opens a node to read it, and tells of its events, and of those of the session.
     ///
     /// ```
-    /// # trials::with_client(|client| {
+    /// # programs::with_server(|address| -> Result<(), tillermoss::Error> {
     /// # use tillermoss::*;
+    /// # let client = &Client::connect(&Options::new(address, "ann"))?;
     /// let file = client.create("/ls/c/f", b"a")?;
     /// let watch = client.watch("/ls/c/f", Events::CONTENTS)?;
     /// client.set(file, b"b", None)?;
@@ -450,8 +460,9 @@ impl Client {
     /// Opens a node as it is asked for, and tells of its events, and of those of the session.
     ///
     /// ```
-    /// # trials::with_client(|client| {
+    /// # programs::with_server(|address| -> Result<(), tillermoss::Error> {
     /// # use tillermoss::*;
+    /// # let client = &Client::connect(&Options::new(address, "ann"))?;
     /// let file = Create { content: Some(vec![]), ..Create::default() };
     /// let opening = Opening { create: Some(file), events: Events::LOCK, ..Opening::new("/ls/c/f", Mode::WRITE) };
     /// let watch = client.watch_with(&opening)?;
@@ -479,8 +490,9 @@ impl Client {
     /// Closes a handle. A lock that it holds is free from then on.
     ///
     /// ```
-    /// # trials::with_client(|client| {
+    /// # programs::with_server(|address| -> Result<(), tillermoss::Error> {
     /// # use tillermoss::*;
+    /// # let client = &Client::connect(&Options::new(address, "ann"))?;
     /// let file = client.create("/ls/c/f", b"")?;
     /// client.acquire(file, LockMode::Exclusive)?;
     /// client.close(file)?;
@@ -501,8 +513,9 @@ impl Client {
     /// Each later call on the handle is refused as `Poisoned`, but its close; so is one that waits for its reply.
     ///
     /// ```
-    /// # trials::with_client(|client| {
+    /// # programs::with_server(|address| -> Result<(), tillermoss::Error> {
     /// # use tillermoss::*;
+    /// # let client = &Client::connect(&Options::new(address, "ann"))?;
     /// let file = client.create("/ls/c/f", b"")?;
     /// client.poison(file)?;
     /// assert_eq!(client.read(file).unwrap_err().refusal(), Some(Refusal::Poisoned));
@@ -520,7 +533,8 @@ impl Client {
     /// Reads a node: out of the cache, without a message, where it holds it under a lease that runs.
     ///
     /// ```
-    /// # trials::with_client(|client| {
+    /// # programs::with_server(|address| -> Result<(), tillermoss::Error> {
+    /// # let client = &tillermoss::Client::connect(&tillermoss::Options::new(address, "ann"))?;
     /// let file = client.create("/ls/c/f", b"hello")?;
     /// assert!(!client.read(file)?.is_served);
     /// let again = client.read(file)?;
@@ -544,7 +558,8 @@ impl Client {
     /// the room is large enough.
     ///
     /// ```
-    /// # trials::with_client(|client| {
+    /// # programs::with_server(|address| -> Result<(), tillermoss::Error> {
+    /// # let client = &tillermoss::Client::connect(&tillermoss::Options::new(address, "ann"))?;
     /// let file = client.create("/ls/c/f", b"hello")?;
     /// let mut room = Vec::with_capacity(64);
     /// assert!(!client.read_into(file, &mut room)?);
@@ -570,7 +585,8 @@ impl Client {
     /// A reader for one thread, which takes no lock where the cache answers.
     ///
     /// ```
-    /// # trials::with_client(|client| {
+    /// # programs::with_server(|address| -> Result<(), tillermoss::Error> {
+    /// # let client = &tillermoss::Client::connect(&tillermoss::Options::new(address, "ann"))?;
     /// let file = client.create("/ls/c/f", b"hello")?;
     /// assert_eq!(client.viewer().read(file)?, b"hello");
     /// # Ok(()) });
@@ -611,7 +627,8 @@ impl Client {
     /// The numbers of a node.
     ///
     /// ```
-    /// # trials::with_client(|client| {
+    /// # programs::with_server(|address| -> Result<(), tillermoss::Error> {
+    /// # let client = &tillermoss::Client::connect(&tillermoss::Options::new(address, "ann"))?;
     /// let stat = client.stat(client.create("/ls/c/f", b"hello")?)?;
     /// assert_eq!((stat.length, stat.content_generation), (5, 1));
     /// # Ok(()) });
@@ -630,8 +647,9 @@ impl Client {
     /// The last components of the names of a directory's children, in order of bytes: out of the cache as `read`.
     ///
     /// ```
-    /// # trials::with_client(|client| {
+    /// # programs::with_server(|address| -> Result<(), tillermoss::Error> {
     /// # use tillermoss::*;
+    /// # let client = &Client::connect(&Options::new(address, "ann"))?;
     /// client.create("/ls/c/f", b"")?;
     /// assert_eq!(client.list(client.open("/ls/c", Mode::READ)?)?, ["acl", "f"]);
     /// # Ok(()) });
@@ -651,8 +669,9 @@ impl Client {
     /// until no client has the old content in its cache.
     ///
     /// ```
-    /// # trials::with_client(|client| {
+    /// # programs::with_server(|address| -> Result<(), tillermoss::Error> {
     /// # use tillermoss::*;
+    /// # let client = &Client::connect(&Options::new(address, "ann"))?;
     /// let file = client.create("/ls/c/f", b"a")?;
     /// client.set(file, b"b", None)?;
     /// client.set(file, b"c", Some(2))?;
@@ -671,8 +690,9 @@ impl Client {
     /// Names the ACLs to read, to write, and to change ACLs; with a generation only where that is the present one.
     ///
     /// ```
-    /// # trials::with_client(|client| {
+    /// # programs::with_server(|address| -> Result<(), tillermoss::Error> {
     /// # use tillermoss::*;
+    /// # let client = &Client::connect(&Options::new(address, "ann"))?;
     /// client.create("/ls/c/acl/readers", b"ann\nbob\n")?;
     /// client.create("/ls/c/f", b"")?;
     /// let file = client.open("/ls/c/f", Mode::READ.and(Mode::CHANGE))?;
@@ -691,8 +711,9 @@ impl Client {
     /// Deletes a node that has no children.
     ///
     /// ```
-    /// # trials::with_client(|client| {
+    /// # programs::with_server(|address| -> Result<(), tillermoss::Error> {
     /// # use tillermoss::*;
+    /// # let client = &Client::connect(&Options::new(address, "ann"))?;
     /// let file = client.create("/ls/c/f", b"")?;
     /// client.delete(file)?;
     /// assert_eq!(client.read(file).unwrap_err().refusal(), Some(Refusal::StaleInstance));
@@ -709,8 +730,9 @@ impl Client {
     /// Takes the node's lock, and waits for it. Meanwhile other calls of this client that the cache doesn't answer wait too.
     ///
     /// ```
-    /// # trials::with_client(|client| {
+    /// # programs::with_server(|address| -> Result<(), tillermoss::Error> {
     /// # use tillermoss::*;
+    /// # let client = &Client::connect(&Options::new(address, "ann"))?;
     /// let file = client.create("/ls/c/f", b"")?;
     /// client.acquire(file, LockMode::Exclusive)?;
     /// assert_eq!(client.stat(file)?.lock_generation, Some(1));
@@ -728,8 +750,9 @@ impl Client {
     /// Takes the node's lock, if that can be had at once.
     ///
     /// ```
-    /// # trials::with_client(|client| {
+    /// # programs::with_server(|address| -> Result<(), tillermoss::Error> {
     /// # use tillermoss::*;
+    /// # let client = &Client::connect(&Options::new(address, "ann"))?;
     /// client.acquire(client.create("/ls/c/f", b"")?, LockMode::Shared)?;
     /// let other = client.open("/ls/c/f", Mode::WRITE)?;
     /// let refusal = client.try_acquire(other, LockMode::Exclusive).unwrap_err().refusal();
@@ -748,8 +771,9 @@ impl Client {
     /// Lets the lock go.
     ///
     /// ```
-    /// # trials::with_client(|client| {
+    /// # programs::with_server(|address| -> Result<(), tillermoss::Error> {
     /// # use tillermoss::*;
+    /// # let client = &Client::connect(&Options::new(address, "ann"))?;
     /// let file = client.create("/ls/c/f", b"")?;
     /// client.acquire(file, LockMode::Exclusive)?;
     /// client.release(file)?;
@@ -767,8 +791,9 @@ impl Client {
     /// The bytes of the sequencer of the lock that the handle holds: they show others that it is held (Burrows 2006, section 2.4).
     ///
     /// ```
-    /// # trials::with_client(|client| {
+    /// # programs::with_server(|address| -> Result<(), tillermoss::Error> {
     /// # use tillermoss::*;
+    /// # let client = &Client::connect(&Options::new(address, "ann"))?;
     /// let file = client.create("/ls/c/f", b"")?;
     /// client.acquire(file, LockMode::Exclusive)?;
     /// let sequencer = client.sequencer(file)?;
@@ -790,8 +815,9 @@ impl Client {
     /// sequencer of the lock that the handle holds ([`Sequencer::fencing_number`]).
     ///
     /// ```
-    /// # trials::with_client(|client| {
+    /// # programs::with_server(|address| -> Result<(), tillermoss::Error> {
     /// # use tillermoss::*;
+    /// # let client = &Client::connect(&Options::new(address, "ann"))?;
     /// let file = client.create("/ls/c/f", b"")?;
     /// client.acquire(file, LockMode::Exclusive)?;
     /// let first = client.fencing_number(file)?;
@@ -814,8 +840,9 @@ impl Client {
     /// The handle's later calls stand under the sequencer of these bytes: they are refused once its lock is held no more.
     ///
     /// ```
-    /// # trials::with_client(|client| {
+    /// # programs::with_server(|address| -> Result<(), tillermoss::Error> {
     /// # use tillermoss::*;
+    /// # let client = &Client::connect(&Options::new(address, "ann"))?;
     /// let lock = client.create("/ls/c/lock", b"")?;
     /// client.acquire(lock, LockMode::Exclusive)?;
     /// let file = client.create("/ls/c/f", b"")?;
@@ -836,8 +863,9 @@ impl Client {
     /// Whether the lock of the sequencer of these bytes is held: Ok, or why not.
     ///
     /// ```
-    /// # trials::with_client(|client| {
+    /// # programs::with_server(|address| -> Result<(), tillermoss::Error> {
     /// # use tillermoss::*;
+    /// # let client = &Client::connect(&Options::new(address, "ann"))?;
     /// let file = client.create("/ls/c/f", b"")?;
     /// client.acquire(file, LockMode::Exclusive)?;
     /// let sequencer = client.sequencer(file)?;

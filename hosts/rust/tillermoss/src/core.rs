@@ -423,11 +423,11 @@ impl State {
 #[cfg(test)]
 mod tests {
     use super::*;
+    use programs::Master;
     use std::io;
     use std::pin::Pin;
     use std::task::{Context, Poll};
     use tokio::io::AsyncWrite;
-    use trials::Master;
 
     const CLIENT: u64 = 7;
 

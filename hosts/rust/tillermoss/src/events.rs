@@ -18,8 +18,9 @@ impl Events {
     /// Of none.
     ///
     /// ```
-    /// # trials::with_client(|client| {
+    /// # programs::with_server(|address| -> Result<(), tillermoss::Error> {
     /// # use tillermoss::*;
+    /// # let client = &Client::connect(&Options::new(address, "ann"))?;
     /// let file = client.create("/ls/c/f", b"")?;
     /// let watch = client.watch("/ls/c/f", Events::NONE)?;
     /// client.set(file, b"a", None)?;
@@ -30,8 +31,9 @@ impl Events {
     /// The content was set.
     ///
     /// ```
-    /// # trials::with_client(|client| {
+    /// # programs::with_server(|address| -> Result<(), tillermoss::Error> {
     /// # use tillermoss::*;
+    /// # let client = &Client::connect(&Options::new(address, "ann"))?;
     /// let file = client.create("/ls/c/f", b"")?;
     /// let watch = client.watch("/ls/c/f", Events::CONTENTS)?;
     /// client.set(file, b"a", None)?;
@@ -42,8 +44,9 @@ impl Events {
     /// A child came, went, or was set.
     ///
     /// ```
-    /// # trials::with_client(|client| {
+    /// # programs::with_server(|address| -> Result<(), tillermoss::Error> {
     /// # use tillermoss::*;
+    /// # let client = &Client::connect(&Options::new(address, "ann"))?;
     /// let file = client.create("/ls/c/f", b"")?;
     /// let watch = client.watch("/ls/c", Events::CHILDREN)?;
     /// client.set(file, b"a", None)?;
@@ -54,8 +57,9 @@ impl Events {
     /// The lock went from free to held.
     ///
     /// ```
-    /// # trials::with_client(|client| {
+    /// # programs::with_server(|address| -> Result<(), tillermoss::Error> {
     /// # use tillermoss::*;
+    /// # let client = &Client::connect(&Options::new(address, "ann"))?;
     /// let file = client.create("/ls/c/f", b"")?;
     /// let watch = client.watch("/ls/c/f", Events::LOCK)?;
     /// client.acquire(file, LockMode::Shared)?;
@@ -66,8 +70,9 @@ impl Events {
     /// Another wants the lock that the handle holds.
     ///
     /// ```
-    /// # trials::with_client(|client| {
+    /// # programs::with_server(|address| -> Result<(), tillermoss::Error> {
     /// # use tillermoss::*;
+    /// # let client = &Client::connect(&Options::new(address, "ann"))?;
     /// client.create("/ls/c/f", b"")?;
     /// let watch = client.watch_with(&Opening { events: Events::CONFLICT, ..Opening::new("/ls/c/f", Mode::WRITE) })?;
     /// client.acquire(watch.handle, LockMode::Exclusive)?;
@@ -93,8 +98,9 @@ impl Events {
 /// An event. It tells of a change that was made: what is read afterwards is no older.
 ///
 /// ```
-/// # trials::with_client(|client| {
+/// # programs::with_server(|address| -> Result<(), tillermoss::Error> {
 /// # use tillermoss::*;
+/// # let client = &Client::connect(&Options::new(address, "ann"))?;
 /// let watch = client.watch("/ls/c", Events::CHILDREN)?;
 /// client.delete(client.create("/ls/c/f", b"")?)?;
 /// assert_eq!(watch.events.recv(), Ok(Event::ChildAdded("/ls/c/f".to_owned())));

@@ -7,7 +7,7 @@
 //! ```
 //! use tillermoss::{Client, Options};
 //!
-//! # let server = trials::server_of_its_own();
+//! # let server = programs::server_of_its_own();
 //! # let address = server.address.as_str();
 //! let client = Client::connect(&Options::new(address, "ann"))?;
 //! let file = client.create("/ls/c/motd", b"hello")?;
@@ -55,7 +55,7 @@ pub use events::{Event, Events};
 pub use host_wire::Address;
 /// ```
 /// # use tillermoss::*;
-/// # let server = trials::server_of_its_own();
+/// # let server = programs::server_of_its_own();
 /// # let (address, admin) = (server.address.as_str(), server.admin.as_deref().unwrap());
 /// let client = Client::connect(&Options::new(address, "ann"))?;
 /// client.acquire(client.create("/ls/c/f", b"")?, LockMode::Exclusive)?;
@@ -66,7 +66,7 @@ pub use host_wire::Address;
 pub use host_wire::LockShown;
 /// ```
 /// # use tillermoss::*;
-/// # let server = trials::server_of_its_own();
+/// # let server = programs::server_of_its_own();
 /// # let (address, admin) = (server.address.as_str(), server.admin.as_deref().unwrap());
 /// let client = Client::connect(&Options::new(address, "bob"))?;
 /// let sessions: Vec<SessionShown> = Admin::new(admin)?.sessions()?;
@@ -76,7 +76,7 @@ pub use host_wire::LockShown;
 pub use host_wire::SessionShown;
 /// ```
 /// # use tillermoss::*;
-/// # let server = trials::server_of_its_own();
+/// # let server = programs::server_of_its_own();
 /// # let admin = server.admin.as_deref().unwrap();
 /// let status: Status = Admin::new(admin)?.status()?;
 /// assert_eq!((status.epoch, status.locks), (1, 0));
@@ -85,7 +85,7 @@ pub use host_wire::SessionShown;
 pub use host_wire::Status;
 /// ```
 /// # use tillermoss::*;
-/// # let server = trials::server_of_its_own();
+/// # let server = programs::server_of_its_own();
 /// # let address = server.address.as_str();
 /// let refused = Client::connect(&Options::new(address, "not a principal"));
 /// assert!(matches!(refused, Err(Error::TurnedAway(TurnedAway::BadPrincipal))));
@@ -94,7 +94,7 @@ pub use host_wire::Status;
 pub use host_wire::TurnedAway;
 /// ```
 /// # use tillermoss::*;
-/// # let server = trials::server_of_its_own();
+/// # let server = programs::server_of_its_own();
 /// # let (address, admin) = (server.address.as_str(), server.admin.as_deref().unwrap());
 /// Client::connect(&Options::new(address, "ann"))?.create("/ls/c/f", b"hello")?;
 /// let shown: Shown = Admin::new(admin)?.all()?;

@@ -448,7 +448,7 @@ mod tests {
     use crate::lines::{Answer, Line, Shown};
     use crate::nodes::{Kind, LockMode, Mode, Right, Stat};
     use host_wire::Asked;
-    use trials::Master;
+    use programs::Master;
 
     const CLIENT: u64 = 7;
     const OTHER: u64 = 8;

@@ -6,8 +6,9 @@ use std::fmt;
 /// A file or a directory.
 ///
 /// ```
-/// # trials::with_client(|client| {
+/// # programs::with_server(|address| -> Result<(), tillermoss::Error> {
 /// # use tillermoss::*;
+/// # let client = &Client::connect(&Options::new(address, "ann"))?;
 /// let root = client.open("/ls/c", Mode::READ)?;
 /// assert_eq!(client.stat(root)?.kind, Kind::Directory);
 /// assert_eq!(Kind::File.to_string(), "file");
@@ -24,8 +25,9 @@ pub enum Kind {
 /// How a lock is held.
 ///
 /// ```
-/// # trials::with_client(|client| {
+/// # programs::with_server(|address| -> Result<(), tillermoss::Error> {
 /// # use tillermoss::*;
+/// # let client = &Client::connect(&Options::new(address, "ann"))?;
 /// client.acquire(client.create("/ls/c/f", b"")?, LockMode::Shared)?;
 /// client.acquire(client.open("/ls/c/f", Mode::WRITE)?, LockMode::Shared)?;
 /// # Ok(()) });
@@ -41,8 +43,9 @@ pub enum LockMode {
 /// What a principal may be permitted on a node.
 ///
 /// ```
-/// # trials::with_client(|client| {
+/// # programs::with_server(|address| -> Result<(), tillermoss::Error> {
 /// # use tillermoss::*;
+/// # let client = &Client::connect(&Options::new(address, "ann"))?;
 /// let file = client.create("/ls/c/f", b"")?;
 /// let reading = client.open("/ls/c/f", Mode::READ)?;
 /// assert_eq!(client.set(reading, b"", None).unwrap_err().refusal(), Some(Refusal::Denied(Right::Write)));
@@ -62,7 +65,8 @@ pub enum Right {
 /// What a handle is for: each wants the right of its name when it is opened.
 ///
 /// ```
-/// # trials::with_client(|client| {
+/// # programs::with_server(|address| -> Result<(), tillermoss::Error> {
+/// # let client = &tillermoss::Client::connect(&tillermoss::Options::new(address, "ann"))?;
 /// use tillermoss::Mode;
 /// client.create("/ls/c/f", b"")?;
 /// client.open("/ls/c/f", Mode::READ.and(Mode::WRITE))?;
@@ -75,8 +79,9 @@ impl Mode {
     /// To read, and to list.
     ///
     /// ```
-    /// # trials::with_client(|client| {
+    /// # programs::with_server(|address| -> Result<(), tillermoss::Error> {
     /// # use tillermoss::*;
+    /// # let client = &Client::connect(&Options::new(address, "ann"))?;
     /// assert_eq!(client.list(client.open("/ls/c", Mode::READ)?)?, ["acl"]);
     /// # Ok(()) });
     /// ```
@@ -84,8 +89,9 @@ impl Mode {
     /// To set, to delete, and to take the lock.
     ///
     /// ```
-    /// # trials::with_client(|client| {
+    /// # programs::with_server(|address| -> Result<(), tillermoss::Error> {
     /// # use tillermoss::*;
+    /// # let client = &Client::connect(&Options::new(address, "ann"))?;
     /// client.create("/ls/c/f", b"")?;
     /// let file = client.open("/ls/c/f", Mode::WRITE)?;
     /// client.set(file, b"hello", None)?;
@@ -96,8 +102,9 @@ impl Mode {
     /// To change the names of the ACLs.
     ///
     /// ```
-    /// # trials::with_client(|client| {
+    /// # programs::with_server(|address| -> Result<(), tillermoss::Error> {
     /// # use tillermoss::*;
+    /// # let client = &Client::connect(&Options::new(address, "ann"))?;
     /// client.create("/ls/c/f", b"")?;
     /// client.set_acl(client.open("/ls/c/f", Mode::CHANGE)?, &["base", "base", "base"].map(str::to_owned), None)?;
     /// # Ok(()) });
@@ -119,7 +126,8 @@ impl Mode {
 /// The numbers of a node.
 ///
 /// ```
-/// # trials::with_client(|client| {
+/// # programs::with_server(|address| -> Result<(), tillermoss::Error> {
+/// # let client = &tillermoss::Client::connect(&tillermoss::Options::new(address, "ann"))?;
 /// let file = client.create("/ls/c/f", b"a")?;
 /// client.set(file, b"bc", None)?;
 /// let stat = client.stat(file)?;
@@ -149,7 +157,8 @@ pub struct Stat {
 /// What a read shows of a node.
 ///
 /// ```
-/// # trials::with_client(|client| {
+/// # programs::with_server(|address| -> Result<(), tillermoss::Error> {
+/// # let client = &tillermoss::Client::connect(&tillermoss::Options::new(address, "ann"))?;
 /// use tillermoss::Mode;
 /// let view = client.read(client.open("/ls/c", Mode::READ)?)?;
 /// assert_eq!(view.children, ["acl"]);

@@ -31,7 +31,7 @@ const TRIES: u32 = 10;
 ///
 /// ```
 /// # use tillermoss::*;
-/// # let server = trials::server_of_its_own();
+/// # let server = programs::server_of_its_own();
 /// # let address = server.address.as_str();
 /// let reader = Reader::new(Client::connect(&Options::new(address, "ann"))?);
 /// let page: std::sync::Arc<Page> = reader.read("/ls/c")?.page;
@@ -54,7 +54,7 @@ pub struct Page {
 ///
 /// ```
 /// # use tillermoss::*;
-/// # let server = trials::server_of_its_own();
+/// # let server = programs::server_of_its_own();
 /// # let address = server.address.as_str();
 /// Client::connect(&Options::new(address, "ann"))?.create("/ls/c/f", b"hello")?;
 /// let reader = Reader::new(Client::connect(&Options::new(address, "ann"))?);
@@ -75,7 +75,7 @@ pub struct Sight {
 ///
 /// ```
 /// # use tillermoss::*;
-/// # let server = trials::server_of_its_own();
+/// # let server = programs::server_of_its_own();
 /// # let address = server.address.as_str();
 /// let reader = Reader::new(Client::connect(&Options::new(address, "ann"))?);
 /// let mut watch: TaskWatch = reader.watch("/ls/c", Events::CHILDREN)?;
@@ -129,7 +129,7 @@ struct Kept {
 ///
 /// ```
 /// # use tillermoss::*;
-/// # let server = trials::server_of_its_own();
+/// # let server = programs::server_of_its_own();
 /// # let address = server.address.as_str();
 /// let writer = Client::connect(&Options::new(address, "ann"))?;
 /// let file = writer.create("/ls/c/f", b"hello")?;
@@ -158,7 +158,7 @@ impl Reader {
     ///
     /// ```
     /// # use tillermoss::*;
-    /// # let server = trials::server_of_its_own();
+    /// # let server = programs::server_of_its_own();
     /// # let address = server.address.as_str();
     /// let reader = Reader::new(Client::connect(&Options::new(address, "ann"))?);
     /// assert_eq!(reader.read("/ls/c/none").unwrap_err().refusal(), Some(Refusal::NotFound));
@@ -173,7 +173,7 @@ impl Reader {
     ///
     /// ```
     /// # use tillermoss::*;
-    /// # let server = trials::server_of_its_own();
+    /// # let server = programs::server_of_its_own();
     /// # let address = server.address.as_str();
     /// assert!(!Reader::new(Client::connect(&Options::new(address, "ann"))?).is_lost());
     /// # Ok::<(), Error>(())
@@ -187,7 +187,7 @@ impl Reader {
     ///
     /// ```
     /// # use tillermoss::*;
-    /// # let server = trials::server_of_its_own();
+    /// # let server = programs::server_of_its_own();
     /// # let address = server.address.as_str();
     /// assert!(!Reader::new(Client::connect(&Options::new(address, "ann"))?).lease_left().is_zero());
     /// # Ok::<(), Error>(())
@@ -201,7 +201,7 @@ impl Reader {
     ///
     /// ```
     /// # use tillermoss::*;
-    /// # let server = trials::server_of_its_own();
+    /// # let server = programs::server_of_its_own();
     /// # let address = server.address.as_str();
     /// let reader = Reader::new(Client::connect(&Options::new(address, "ann"))?);
     /// assert!(reader.hit("/ls/c/acl/base").is_none());
@@ -226,7 +226,7 @@ impl Reader {
     ///
     /// ```
     /// # use tillermoss::*;
-    /// # let server = trials::server_of_its_own();
+    /// # let server = programs::server_of_its_own();
     /// # let address = server.address.as_str();
     /// let reader = Reader::new(Client::connect(&Options::new(address, "ann"))?);
     /// assert_eq!(&reader.read("/ls/c/acl/base")?.page.content[..], b"ann\nbob\n");
@@ -255,7 +255,7 @@ impl Reader {
     ///
     /// ```
     /// # use tillermoss::*;
-    /// # let server = trials::server_of_its_own();
+    /// # let server = programs::server_of_its_own();
     /// # let address = server.address.as_str();
     /// let reader = Reader::new(Client::connect(&Options::new(address, "ann"))?);
     /// assert_eq!(reader.stat("/ls/c/acl/base")?.length, 8);
@@ -276,7 +276,7 @@ impl Reader {
     ///
     /// ```
     /// # use tillermoss::*;
-    /// # let server = trials::server_of_its_own();
+    /// # let server = programs::server_of_its_own();
     /// # let address = server.address.as_str();
     /// let reader = Reader::new(Client::connect(&Options::new(address, "ann"))?);
     /// let watch = reader.watch("/ls/c", Events::CHILDREN)?;
@@ -296,7 +296,7 @@ impl Reader {
     ///
     /// ```
     /// # use tillermoss::*;
-    /// # let server = trials::server_of_its_own();
+    /// # let server = programs::server_of_its_own();
     /// # let address = server.address.as_str();
     /// let reader = Reader::new(Client::connect(&Options::new(address, "ann"))?);
     /// reader.end_watch(reader.watch("/ls/c", Events::CHILDREN)?)?;

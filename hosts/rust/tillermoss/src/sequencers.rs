@@ -6,8 +6,9 @@ use crate::nodes::LockMode;
 /// bytes alone: whether the lock is held still, only the cell knows ([`check_sequencer`](crate::Client::check_sequencer)).
 ///
 /// ```
-/// # trials::with_client(|client| {
+/// # programs::with_server(|address| -> Result<(), tillermoss::Error> {
 /// # use tillermoss::*;
+/// # let client = &Client::connect(&Options::new(address, "ann"))?;
 /// let file = client.create("/ls/c/f", b"")?;
 /// client.acquire(file, LockMode::Exclusive)?;
 /// let sequencer = Sequencer::read(&client.sequencer(file)?).unwrap();

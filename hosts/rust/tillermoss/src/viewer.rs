@@ -33,7 +33,8 @@ impl Kept {
 /// It keeps a content for each handle that it was asked for, until it is dropped.
 ///
 /// ```
-/// # trials::with_client(|client| {
+/// # programs::with_server(|address| -> Result<(), tillermoss::Error> {
+/// # let client = &tillermoss::Client::connect(&tillermoss::Options::new(address, "ann"))?;
 /// let file = client.create("/ls/c/f", b"hello")?;
 /// std::thread::scope(|scope| {
 ///     for _ in 0..4 {
@@ -56,7 +57,7 @@ impl<C: Deref<Target = Client>> Viewer<C> {
     /// ```
     /// # use tillermoss::*;
     /// # use std::sync::Arc;
-    /// # let server = trials::server_of_its_own();
+    /// # let server = programs::server_of_its_own();
     /// # let address = server.address.as_str();
     /// let client = Arc::new(Client::connect(&Options::new(address, "ann"))?);
     /// let file = client.create("/ls/c/f", b"hello")?;
@@ -73,7 +74,8 @@ impl<C: Deref<Target = Client>> Viewer<C> {
     /// The content of a file, as [`Client::read_into`] reads it.
     ///
     /// ```
-    /// # trials::with_client(|client| {
+    /// # programs::with_server(|address| -> Result<(), tillermoss::Error> {
+    /// # let client = &tillermoss::Client::connect(&tillermoss::Options::new(address, "ann"))?;
     /// let file = client.create("/ls/c/f", b"hello")?;
     /// let mut viewer = client.viewer();
     /// assert_eq!(viewer.read(file)?, b"hello");

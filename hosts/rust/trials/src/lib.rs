@@ -16,11 +16,12 @@ mod members;
 mod plain;
 mod proxy;
 mod relay;
-mod servers;
 mod stops;
 mod strangers;
 mod watchers;
 mod workers;
+
+use programs as servers;
 
 pub use disks::{Filled, fill};
 pub use etcd::{Etcd, rows};
@@ -35,14 +36,14 @@ pub use history::{Read, Write, check_history};
 pub use holder::Holder;
 pub use holds::{Hold, check_holds};
 pub use languages::run_languages;
-pub use masters::{Master, forged, messages, opening};
+pub use masters::{client_of, forged, messages, opening};
 pub use members::Member;
 pub use plain::{Plain, Talker, again, answer, new, start};
+pub use programs::{
+    Kill, Master, Server, Start, certificates, folder, free, guards, master_program, masters, program, revoke, server_of_its_own,
+};
 pub use proxy::{Counts, Proxy};
 pub use relay::{Passing, Relay};
-pub use servers::{
-    Kill, Server, Start, certificates, folder, free, guards, master_program, masters, program, revoke, server_of_its_own, with_client,
-};
 pub use stops::{Kind, Stopped, stop_for};
 pub use strangers::{Stranger, expired};
 pub use watchers::{TellingTime, tell_watchers};

@@ -1,140 +1,34 @@
-//! A master by itself, without a server: it is handed the messages of clients, and what it says to them is handed back.
+//! Clients of a master by itself, without a server.
 
-use crate::servers::master_program;
-use host_wire::{ANSWER_LIMIT, Blocks, Frame, Heard, Told};
-use std::fs;
-use std::io::{self, ErrorKind, Write};
-use std::process::{Child, ChildStdin, ChildStdout, Command, Stdio};
-use tempfile::TempDir;
+use programs::{Master, NOW};
+use std::io::{self, ErrorKind};
 use tillermoss::{Bare, Create, Error, Mode, Opening};
-
-/// The moment at which all of it happens, unless another is told.
-const NOW: u64 = 1000;
-
-/// A master over a new store of its own, whose secret everybody knows.
-#[derive(Debug)]
-pub struct Master {
-    child: Child,
-    input: ChildStdin,
-    output: ChildStdout,
-    blocks: Blocks,
-    _folder: TempDir,
-}
 
 fn broken(what: &str) -> io::Error {
     io::Error::new(ErrorKind::InvalidData, what.to_owned())
 }
 
-impl Master {
-    /// One that is up for the first time.
-    ///
-    /// # Errors
-    ///
-    /// Where it can't be started.
-    pub fn start() -> io::Result<Master> {
-        let folder = tempfile::tempdir()?;
-        let settings = folder.path().join("settings.toml");
-        fs::write(&settings, format!("secret = \"{}\"\n", "0".repeat(64)))?;
-        let mut command = Command::new(master_program());
-        command.arg("serve").arg("--store").arg(folder.path().join("store.db")).arg("--settings").arg(&settings);
-        let mut child = command.stdin(Stdio::piped()).stdout(Stdio::piped()).spawn()?;
-        let (input, output) = (child.stdin.take(), child.stdout.take());
-        let (input, output) = input.zip(output).ok_or_else(|| broken("the master's pipes"))?;
-        let mut master = Master { child, input, output, blocks: Blocks::new(ANSWER_LIMIT), _folder: folder };
-        master.say(Frame::Up(NOW))?;
-        Ok(master)
+// Hands a master what a client has to say, and the client what is said to that; the handle that the client opened by it.
+fn serve(master: &mut Master, client: &mut Bare, message: Option<Vec<u8>>) -> io::Result<Option<u64>> {
+    let own = client.number();
+    let said = master.ask(NOW, &message.ok_or_else(|| broken("a client that says nothing"))?)?;
+    let mut opened = None;
+    for (_, message) in said.iter().filter(|(number, _)| *number == own) {
+        opened = client.give(NOW, message).or(opened);
     }
-
-    /// One that is up so many times.
-    ///
-    /// # Errors
-    ///
-    /// As `start`.
-    pub fn of_epoch(epoch: u64) -> io::Result<Master> {
-        let mut master = Master::start()?;
-        (1..epoch).try_for_each(|_| master.again())?;
-        Ok(master)
-    }
-
-    /// It goes, and comes up again.
-    ///
-    /// # Errors
-    ///
-    /// Where it is gone.
-    pub fn again(&mut self) -> io::Result<()> {
-        self.say(Frame::Down)?;
-        self.say(Frame::Up(NOW))?;
-        Ok(())
-    }
-
-    // What it says to clients by a frame, each with the client's number.
-    fn say(&mut self, frame: Frame) -> io::Result<Vec<(u64, Vec<u8>)>> {
-        self.input.write_all(&frame.write().ok_or_else(|| broken("a frame for the master"))?)?;
-        self.input.flush()?;
-        let mut said = Vec::new();
-        loop {
-            let block = self.blocks.next(&mut self.output)?.ok_or_else(|| io::Error::from(ErrorKind::UnexpectedEof))?;
-            match Heard::read(&block).ok_or_else(|| broken("what the master tells"))?.told() {
-                Told::Message(client, _, message) => said.push((client, message.to_vec())),
-                Told::End(_) => return Ok(said),
-                Told::Bad(reason) => return Err(broken(&format!("a frame for the master, as {reason}"))),
-                _ => {}
-            }
-        }
-    }
-
-    /// What it says at this moment to these bytes of a client, to whom.
-    ///
-    /// # Errors
-    ///
-    /// Where they are no message, or it is gone.
-    pub fn ask(&mut self, now: u64, message: &[u8]) -> io::Result<Vec<(u64, Vec<u8>)>> {
-        self.say(Frame::Message(now, message))
-    }
-
-    /// What it says by itself at this moment, to whom.
-    ///
-    /// # Errors
-    ///
-    /// Where it is gone.
-    pub fn tick(&mut self, now: u64) -> io::Result<Vec<(u64, Vec<u8>)>> {
-        self.say(Frame::Tick(now))
-    }
-
-    /// Hands it what a client has to say, and the client what is said to that; the handle that the client opened by it.
-    ///
-    /// # Errors
-    ///
-    /// Where the client has nothing to say, or the master is gone.
-    pub fn serve(&mut self, client: &mut Bare, message: Option<Vec<u8>>) -> io::Result<Option<u64>> {
-        let own = client.number();
-        let said = self.ask(NOW, &message.ok_or_else(|| broken("a client that says nothing"))?)?;
-        let mut opened = None;
-        for (_, message) in said.iter().filter(|(number, _)| *number == own) {
-            opened = client.give(NOW, message).or(opened);
-        }
-        Ok(opened)
-    }
-
-    /// A client of this number, for this principal, that has a session.
-    ///
-    /// # Errors
-    ///
-    /// As `serve`, and where there is no such client.
-    pub fn client(&mut self, number: u64, principal: &str) -> Result<Bare, Error> {
-        let mut client = Bare::new(number, principal)?;
-        let start = client.beat(NOW);
-        self.serve(&mut client, start)?;
-        Ok(client)
-    }
+    Ok(opened)
 }
 
-impl Drop for Master {
-    fn drop(&mut self) {
-        // (one that has ended is killed already)
-        let _ = self.child.kill();
-        let _ = self.child.wait();
-    }
+/// A client of this number, for this principal, that has a session with this master.
+///
+/// # Errors
+///
+/// Where there is no such client, or the master is gone.
+pub fn client_of(master: &mut Master, number: u64, principal: &str) -> Result<Bare, Error> {
+    let mut client = Bare::new(number, principal)?;
+    let start = client.beat(NOW);
+    serve(master, &mut client, start)?;
+    Ok(client)
 }
 
 /// How a file is opened to read and to write, which is made with this content where there is none.
@@ -148,10 +42,10 @@ pub fn opening(name: &str, content: &[u8]) -> Opening {
 ///
 /// # Errors
 ///
-/// As `Master::client`.
+/// As `client_of`.
 pub fn messages(master: &mut Master, number: u64, principal: &str) -> Result<[Vec<u8>; 3], Error> {
     let start = Bare::new(number, principal)?.beat(NOW);
-    let mut client = master.client(number, principal)?;
+    let mut client = client_of(master, number, principal)?;
     let (beat, call) = (client.beat(NOW), client.open(NOW, &opening("/ls/c/mutated", b"content")));
     let all = [start, beat, call].map(|message| message.ok_or_else(|| broken("a client that says nothing")));
     let [start, beat, call] = all;
@@ -163,15 +57,15 @@ pub fn messages(master: &mut Master, number: u64, principal: &str) -> Result<[Ve
 ///
 /// # Errors
 ///
-/// As `Master::client`, and where there is no such node.
+/// As `client_of`, and where there is no such node.
 pub fn forged(client: u64, epoch: u64, name: &str, content: &[u8]) -> Result<Vec<u8>, Error> {
     let mut master = Master::start()?;
-    let mut client = master.client(client, "ann")?;
+    let mut client = client_of(&mut master, client, "ann")?;
     let open = client.open(NOW, &Opening::new(name, Mode::READ.and(Mode::WRITE)));
-    let handle = master.serve(&mut client, open)?.ok_or_else(|| broken("no handle"))?;
+    let handle = serve(&mut master, &mut client, open)?.ok_or_else(|| broken("no handle"))?;
     (1..epoch).try_for_each(|_| master.again())?;
     // (it is told of the epoch)
     let beat = client.beat(NOW);
-    master.serve(&mut client, beat)?;
+    serve(&mut master, &mut client, beat)?;
     Ok(client.set(NOW, handle, content).ok_or_else(|| broken("a client that says nothing"))?)
 }

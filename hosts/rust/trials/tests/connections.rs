@@ -4,7 +4,7 @@ use host_wire::{Answer, Hello, TurnedAway, Welcome};
 use std::fs;
 use std::path::Path;
 use tillermoss::{Client, Options};
-use trials::{Kill, Master, Plain, Server, Start, again, answer, certificates, expired, folder, messages, new, start};
+use trials::{Kill, Master, Plain, Server, Start, again, answer, certificates, client_of, expired, folder, messages, new, start};
 
 fn greeted(server: &Server, hello: &Hello) -> (Plain, Result<Welcome, TurnedAway>) {
     Plain::greet(server.place(), hello).unwrap()
@@ -59,7 +59,7 @@ fn a_connection_carries_its_own_client_alone() {
     let started = connection.next_block().unwrap();
     assert!(matches!(host_wire::Said::read(&started).unwrap().answer, Answer::Started(_)));
     // (28: a Beat of no epoch)
-    let beat = Master::of_epoch(9).unwrap().client(client, "ann").unwrap().beat(0).unwrap();
+    let beat = client_of(&mut Master::of_epoch(9).unwrap(), client, "ann").unwrap().beat(0).unwrap();
     connection.send(&beat).unwrap();
     assert_eq!(answer(&mut connection), Some(Answer::Refused(28)));
 

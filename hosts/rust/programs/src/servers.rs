@@ -2,6 +2,7 @@
 
 use nix::sys::signal::{Signal, kill};
 use nix::unistd::Pid;
+use std::fmt::Debug;
 use std::fs::{self, File};
 use std::io::{self, BufRead, BufReader, Read, Seek, SeekFrom, Write};
 use std::net::{SocketAddr, TcpListener};
@@ -9,7 +10,6 @@ use std::path::{Path, PathBuf};
 use std::process::{Child, Command, ExitStatus, Stdio};
 use std::thread;
 use std::time::{Duration, Instant};
-use tillermoss::{Client, Error, Options};
 
 /// How a server is killed.
 #[derive(Clone, Copy, Debug, PartialEq, Eq)]
@@ -508,13 +508,12 @@ pub fn server_of_its_own() -> Server {
     Start::new(&folder.join("store.db")).with(&["--admin", &admin]).start().expect("a server can be started")
 }
 
-/// Runs an example with a client of a server of its own.
+/// Runs an example with the address of a server of its own.
 ///
 /// # Panics
 ///
-/// Where the server can't be started, and where the example fails.
-pub fn with_client(example: impl FnOnce(&Client) -> Result<(), Error>) {
+/// If the server can't be started, and if the example fails.
+pub fn with_server<E: Debug>(example: impl FnOnce(&str) -> Result<(), E>) {
     let server = server_of_its_own();
-    let client = Client::connect(&Options::new(&server.address, "ann")).expect("the server is reached");
-    example(&client).expect("the example succeeds");
+    example(&server.address).expect("the example succeeds");
 }
