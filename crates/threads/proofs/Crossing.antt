@@ -38,6 +38,8 @@ use Rattle.master_state.specs.contracts.masters.Master.TheInside as master_in
 use Rattle.cell_core.specs.contracts.cells.Cell as Cell
 use Rattle.cell_core.specs.contracts.cells.Cell.TheInside as cell_in
 use Rattle.rows_cell.specs.declared.records.Records as records
+use Rattle.over_core.specs.contracts.keeping.Keeping as Keeping
+use Rattle.over_core.specs.contracts.keeping.Keeping.TheInside as keeping_in
 use Rattle.over_core.specs.contracts.cells.Cell as Over
 use Rattle.over_core.specs.contracts.cells.Cell.TheInside as over_in
 use Rattle.watch_cell.specs.declared.locked.Opening as opening
@@ -105,8 +107,16 @@ cell_send : IsSend Cell.the_row
 cell_send = view_send cell_in.the_row _ _ _ _ cell_inside
 
 module _ (R : RattleType) (r : records.Ghosts R.Denot) where
+  keeping_inside : IsSend R → IsSend (keeping_in.the_row R r)
+  keeping_inside s =
+      recorded_send (keeping_in.the_field R r).row _ _ (keeping_in.the_type R r).to_one
+      (struct_send (shape (keeping_in.the_type R r)) (search (s, both, sendable) depth 40))
+
+  keeping_send : IsSend R → IsSend (Keeping.the_row R r)
+  keeping_send s = view_send (keeping_in.the_row R r) _ _ _ _ (keeping_inside s)
+
   over_inside : IsSend R → IsSend (over_in.the_row R r)
-  over_inside s = recorded_send (over_in.the_field R r).row _ _ (over_in.the_type R r).to_one (struct_send (shape (over_in.the_type R r)) (s, (cell_send, tt)))
+  over_inside s = recorded_send (over_in.the_field R r).row _ _ (over_in.the_type R r).to_one (struct_send (shape (over_in.the_type R r)) (keeping_send s, (cell_send, tt)))
 
   -- a master with its records
   pub over_send : IsSend R → IsSend (Over.the_row R r)
