@@ -516,7 +516,7 @@ static void refusals_by_parts(struct client_exports *client) {
     } rows[] = {
         {6, 0, 0, 0}, {8, 0, 1, CELL_CLIENT_A_FILE}, {8, 1, 1, CELL_CLIENT_A_DIRECTORY}, {10, 0, 1, CELL_CLIENT_READ},
         {10, 1, 1, CELL_CLIENT_WRITE}, {10, 2, 1, CELL_CLIENT_CHANGE_ACL}, {11, 7, 8, 7}, {20, 3, 8, 3}, {23, 0, 1, CELL_CLIENT_EXCLUSIVE},
-        {23, 1, 1, CELL_CLIENT_SHARED}, {24, 60000, 8, 60000}, {28, 2, 8, 2}, {41, 5, 8, 5}, {42, 6, 8, 6},
+        {23, 1, 1, CELL_CLIENT_SHARED}, {24, 60000, 8, 60000}, {28, 2, 8, 2}, {41, 5, 8, 5}, {42, 6, 8, 6}, {43, 7, 8, 7},
     };
     for (uint64_t i = 0; i < sizeof rows / sizeof *rows; i++) {
         struct bytes refused = with(reply(i + 2, 7), NULL, rows[i].fault - 1, 1);

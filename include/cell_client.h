@@ -88,8 +88,8 @@ struct cell_client_line {
     uint64_t length;
     uint32_t kind;
     uint32_t life;
-    /* Of a refusal, what docs/FORMATS.md has after its name: a generation, a count, milliseconds, an epoch or a place; of 8 the KIND that
-     * is there, of 10 the right that is missing (READ, WRITE or CHANGE_ACL), of 23 the lock's mode. */
+    /* Of a refusal, what docs/FORMATS.md has after its name: a generation, a count, milliseconds, an epoch, a place or a limit; of 8 the
+     * KIND that is there, of 10 the right that is missing (READ, WRITE or CHANGE_ACL), of 23 the lock's mode. */
     uint64_t argument;
     /* Of an EVENT, the number of the call that opened its handle; 0 where it is of no handle. */
     uint64_t opened;
@@ -142,7 +142,7 @@ struct cell_client_line {
 #define CELL_CLIENT_DONE 0u
 
 /*
- * 1 to 42: refused, by the number of the refusal, which is also the one that stands in the lines. docs/FORMATS.md has them all;
+ * 1 to 43: refused, by the number of the refusal, which is also the one that stands in the lines. docs/FORMATS.md has them all;
  * a step of a client answers these itself.
  */
 #define CELL_CLIENT_NO_MEMORY 1u

@@ -173,7 +173,7 @@ impl Cell {
     pub fn kill(&mut self, how: Kill) -> Result<()> {
         let at = self.serving().context("no server serves")?;
         let server = self.servers[at].child.id();
-        let master = child_of(server).context("there is no master")?;
+        let master = master_of(server).context("there is no master")?;
         kill(Pid::from_raw(master as i32), Signal::SIGKILL)?;
         if how == Kill::Master {
             return Ok(());
@@ -188,7 +188,7 @@ impl Cell {
     pub fn used(&self) -> (Used, Used) {
         let server = self.serving().map(|at| self.servers[at].child.id());
         let used = |process: Option<u32>| process.map(Used::of).unwrap_or_default();
-        (used(server), used(server.and_then(child_of)))
+        (used(server), used(server.and_then(master_of)))
     }
 
     /// Bytes of the store's file and its log.
@@ -217,11 +217,15 @@ pub fn principal(at: usize) -> String {
     format!("user{}", at % PRINCIPALS)
 }
 
-// The child of a process.
-fn child_of(process: u32) -> Option<u32> {
-    let tasks = fs::read_dir(format!("/proc/{process}/task")).ok()?;
+// The master that a server has started. (Over etcd its guard is another child of it.)
+fn master_of(server: u32) -> Option<u32> {
+    let tasks = fs::read_dir(format!("/proc/{server}/task")).ok()?;
     let children = tasks.flatten().filter_map(|task| fs::read_to_string(task.path().join("children")).ok()).collect::<String>();
-    children.split_whitespace().next()?.parse().ok()
+    let is_master = |child: &&str| {
+        let words = fs::read_to_string(format!("/proc/{child}/cmdline")).unwrap_or_default();
+        words.split('\0').nth(1) == Some("serve")
+    };
+    children.split_whitespace().find(is_master)?.parse().ok()
 }
 
 impl Used {

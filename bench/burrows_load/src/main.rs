@@ -44,6 +44,9 @@ pub struct Options {
     shared: usize,
     #[arg(long, default_value_t = 30)]
     every: u64,
+    /// Of so many clients that go one is killed, and the others leave; with 0 all leave. (A master that comes up waits for the killed.)
+    #[arg(long, default_value_t = 10)]
+    killed: u32,
     /// Within so many seconds after a fail-over caches are filled again.
     #[arg(long, default_value_t = 120)]
     refill: u64,

@@ -10,6 +10,9 @@ const HEIGHT: f64 = 130.0;
 const LEFT: f64 = 70.0;
 const TOP: f64 = 40.0;
 
+/// So many points a line has at most: of the seconds between two of them the greatest number is drawn.
+const POINTS: usize = 450;
+
 /// What is drawn, one below the other: a title, and the columns with their colours.
 const PANELS: [(&str, &[(&str, &str)]); 5] = [
     ("sessions", &[("sessions", "#1f77b4"), ("jeopardy", "#d62728")]),
@@ -73,10 +76,16 @@ fn panel(out: &mut String, rows: &[Vec<f64>], (title, lines): (&str, &[(&str, &s
     writeln!(out, "<rect x=\"{LEFT}\" y=\"{top:.1}\" width=\"{WIDTH}\" height=\"{HEIGHT}\" fill=\"none\" stroke=\"#ccc\"/>")?;
     for (name, colour) in lines {
         let at = column(name)?;
-        let points: Vec<String> = rows.iter().map(|row| format!("{:.1},{:.1}", x(row[0]), bottom - row[at] * HEIGHT / most)).collect();
+        let points: Vec<String> =
+            points(rows, at).map(|(second, number)| format!("{:.1},{:.1}", x(second), bottom - number * HEIGHT / most)).collect();
         writeln!(out, "<polyline fill=\"none\" stroke=\"{colour}\" points=\"{}\"><title>{name}</title></polyline>", points.join(" "))?;
     }
     Ok(())
+}
+
+// The points of a column.
+fn points(rows: &[Vec<f64>], at: usize) -> impl Iterator<Item = (f64, f64)> {
+    rows.chunks(rows.len().div_ceil(POINTS).max(1)).map(move |some| (some[0][0], some.iter().map(|row| row[at]).fold(0.0, f64::max)))
 }
 
 // Who was killed at which second.
@@ -101,5 +110,12 @@ mod tests {
         let drawn = picture(&text).unwrap();
         assert_eq!((drawn.matches("<polyline").count(), drawn.matches("stroke-dasharray").count()), (9, 1));
         assert!(picture("").is_err());
+    }
+
+    #[test]
+    fn a_line_has_the_greatest_of_many_numbers() {
+        let rows: Vec<Vec<f64>> = (0..1000).map(|second| vec![f64::from(second), f64::from(second % 3)]).collect();
+        let points: Vec<(f64, f64)> = points(&rows, 1).collect();
+        assert_eq!((points.len(), points[0], points[333]), (334, (0.0, 2.0), (999.0, 0.0)));
     }
 }

@@ -70,7 +70,7 @@ pub fn run(options: &Options) -> Result<ExitCode> {
     let cell = Cell::start(programs, &folder)?;
     let load = Load::new(table, names, cell, random, !options.herded)?;
     let herd = Herd::new(options.shared, options.every * 1000);
-    let work = Work::new(herd, options.refill * 1000);
+    let work = Work::new(herd, options.refill * 1000, options.killed);
     let events = Events::with_capacity(EVENTS);
     let mut run =
         Run { load, work, events, told: 0, used: [Used::default(); 3], all: Counts::default(), quiet: Counts::default(), over: Vec::new() };

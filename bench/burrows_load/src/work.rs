@@ -12,9 +12,6 @@ use std::time::Duration;
 /// Of so many clients one comes and goes, and holds nothing.
 const PASSING: usize = 20;
 
-/// Of so many that go one is killed; the others leave.
-const KILLED: u32 = 10;
-
 /// So many files are cached by many: each client that stays has one of them.
 const POPULAR: u32 = 10;
 
@@ -45,6 +42,8 @@ pub struct Work {
     pub herd: Herd,
     /// After a fail-over caches are filled within so many milliseconds.
     pub refill: u64,
+    /// Of so many that go one is killed, and the others leave; 0 stands for none.
+    killed: u32,
     next: [f64; 7],
 }
 
@@ -116,8 +115,8 @@ pub fn holdings(load: &mut Load, herd: &Herd) -> Vec<(usize, Vec<Step>)> {
 }
 
 impl Work {
-    pub fn new(herd: Herd, refill: u64) -> Work {
-        Work { again: Again::default(), herd, refill, next: [0.0; 7] }
+    pub fn new(herd: Herd, refill: u64, killed: u32) -> Work {
+        Work { again: Again::default(), herd, refill, killed, next: [0.0; 7] }
     }
 
     /// From now on the rates hold.
@@ -170,7 +169,7 @@ impl Work {
         match kind {
             0 => stat(load),
             1 => open(load),
-            2 => session(load),
+            2 => session(load, self.killed),
             3 => match self.again.later.pop_front() {
                 Some((slot, name)) => read_again(load, slot as usize, name),
                 None => read(load),
@@ -268,7 +267,7 @@ fn make(load: &mut Load) {
 }
 
 // One that passes goes, and another comes.
-fn session(load: &mut Load) {
+fn session(load: &mut Load, killed: u32) {
     let slots = staying(load)..load.table.clients;
     if slots.is_empty() {
         return;
@@ -277,7 +276,7 @@ fn session(load: &mut Load) {
     if load.clients[slot].phase != Phase::Live || !load.is_idle(slot) {
         return;
     }
-    if load.random.gen_range(0..KILLED) == 0 {
+    if killed > 0 && load.random.gen_range(0..killed) == 0 {
         load.kill(slot);
     } else {
         load.give(slot, &[Step::Leave]);

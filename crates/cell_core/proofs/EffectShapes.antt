@@ -41,7 +41,7 @@ use Rattle.master_parts.specs.Keys.{key_of}
 use Rattle.cell_core.specs.declared.effects.Effect.{Effect}
 use Rattle.cell_core.specs.declared.effects.Leave.{Leave}
 use Rattle.cell_core.specs.declared.effects.Locking.TheVariants as lockings
-use Rattle.cell_core.specs.Effect.{answered, refused, changes_to, is_last, opened_effect, new_node, acls_of, create_made, create_numbered, create_permitted, create_in, create_under, create_new, create_over, create_effect, create_tested, create_under_sequencer, open_effect, lock_put, acquire_by, try_by, release_by, close_by, close_under, generation_fits, with_content, with_acls, put_at, deleted, delete_at, change_at, change_on, effect_on, handle_effect, effect}
+use Rattle.cell_core.specs.Effect.{answered, refused, changes_to, is_last, new_node_fault, content_fault, lock_fault, opened_effect, new_node, acls_of, create_put, create_made, create_numbered, create_permitted, create_in, create_under, create_new, create_over, create_effect, create_tested, create_under_sequencer, open_effect, lock_put, lock_taken, acquired_by, acquire_by, try_by, release_by, close_by, close_under, generation_fits, with_content, with_acls, put_at, deleted, delete_at, change_at, change_on, effect_on, handle_effect, effect}
 
 -- it ends with an answer, changes the map beside that, deletes a node with its lock, takes a lock, waits for it, or leaves it
 pub data Shape : Type 0 where
@@ -89,7 +89,9 @@ module _ (s : MasterState) where
   of_opened opened = (Ends (opened_note (name_space s) opened) (opened_answer (name_space s) opened), refl)
 
   of_made : (opening : Open) (node : Node) (opened : Result Handle Fault) → HasShape (create_made (name_space s) opening node opened)
-  of_made opening node (Ok handle) = (Applies (opened_note (name_space s) (Ok handle)) (record { change = Put opening.name node; next_instance = s.next_instance + 1 }) (opened_answer (name_space s) (Ok handle)), refl)
+  of_made opening node (Ok handle) =
+      by_option (new_node_fault (name_space s) node) (λ fault. refused fault) (create_put (name_space s) opening node handle) of_fault
+      (Applies (opened_note (name_space s) (Ok handle)) (record { change = Put opening.name node; next_instance = s.next_instance + 1 }) (opened_answer (name_space s) (Ok handle)), refl)
   of_made opening node (Err fault) = of_fault fault
 
   of_numbered : (client number : ℕ) (opening : Open) (node : Node) → HasShape (create_numbered (name_space s) (caller s client) number opening node)
@@ -144,14 +146,17 @@ module _ (s : MasterState) where
 
   -- ---- locks
 
-  of_acquired : (handle : Handle) (claim : Claim) (r : Result Acquired Fault) → HasShape (acquire_by handle claim r)
-  of_acquired handle claim (Ok (asked.Held lock)) = (Locks (lock_put handle lock) claim results.Done, refl)
-  of_acquired handle claim (Ok (asked.Waits lock)) = (Awaits (lock_put handle lock), refl)
-  of_acquired handle claim (Err fault) = of_fault fault
+  of_held : (handle : Handle) (claim : Claim) (asked : Acquired) → HasShape (acquired_by handle claim asked)
+  of_held handle claim (asked.Held lock) = (Locks (lock_put handle lock) claim results.Done, refl)
+  of_held handle claim (asked.Waits lock) = (Awaits (lock_put handle lock), refl)
 
-  of_tried : (handle : Handle) (claim : Claim) (r : Result LockState Fault) → HasShape (try_by handle claim r)
-  of_tried handle claim (Ok lock) = (Locks (lock_put handle lock) claim results.Done, refl)
-  of_tried handle claim (Err fault) = of_fault fault
+  of_acquired : (handle : Handle) (claim : Claim) (room : Option Fault) (r : Result Acquired Fault) → HasShape (acquire_by handle claim room r)
+  of_acquired handle claim room (Ok asked) = by_option room (λ fault. refused fault) (acquired_by handle claim asked) of_fault (of_held handle claim asked)
+  of_acquired handle claim room (Err fault) = of_fault fault
+
+  of_tried : (handle : Handle) (claim : Claim) (room : Option Fault) (r : Result LockState Fault) → HasShape (try_by handle claim room r)
+  of_tried handle claim room (Ok lock) = by_option room (λ fault. refused fault) (lock_taken handle claim lock) of_fault (Locks (lock_put handle lock) claim results.Done, refl)
+  of_tried handle claim room (Err fault) = of_fault fault
 
   of_released : (handle : Handle) (r : Result Turn Fault) → HasShape (release_by handle r)
   of_released handle (Ok turn) = (Leaves None (record { name = handle.name; instance = handle.instance; held = true; turn = turn }) results.Done, refl)
@@ -167,11 +172,12 @@ module _ (s : MasterState) where
 
   -- ---- a change of a node that stands
 
-  of_put : (handle : Handle) (present : ℕ) (wanted : Option ℕ) (node : Node) → HasShape (put_at (name_space s) handle present wanted node)
-  of_put handle present wanted node =
-      let written : Effect = changes_to (Put handle.name node) s.next_instance results.Done in
+  of_put : (handle : Handle) (present : ℕ) (wanted : Option ℕ) (room : Option Fault) (node : Node) → HasShape (put_at (name_space s) handle present wanted room node)
+  of_put handle present wanted room node =
+      let changed : Effect = changes_to (Put handle.name node) s.next_instance results.Done in
+      let written : Effect = option_map_or (λ fault. refused fault) room changed in
       either (generation_fits wanted present) (cond (is_last present) (refused faults.Exhausted) written) (refused (faults.WrongGeneration present))
-      (either (is_last present) (refused faults.Exhausted) written (of_fault faults.Exhausted) (of_change (Put handle.name node) s.next_instance results.Done))
+      (either (is_last present) (refused faults.Exhausted) written (of_fault faults.Exhausted) (by_option room (λ fault. refused fault) changed of_fault (of_change (Put handle.name node) s.next_instance results.Done)))
       (of_fault (faults.WrongGeneration present))
 
   of_deleted : (handle : Handle) → HasShape (deleted (name_space s) handle)
@@ -182,11 +188,11 @@ module _ (s : MasterState) where
       either (has_children s.nodes handle.name || is_none (parent_of handle.name)) (refused faults.NotEmpty) (deleted (name_space s) handle) (of_fault faults.NotEmpty) (of_deleted handle)
 
   of_node : (handle : Handle) (call : Call) (node : Node) → HasShape (change_at (name_space s) s.clock handle call node)
-  of_node handle (calls.Set bytes content generation) node = of_put handle node.content_generation generation (with_content node content)
-  of_node handle (calls.SetAcl bytes acls generation) node = of_put handle node.acl_generation generation (with_acls node acls)
+  of_node handle (calls.Set bytes content generation) node = of_put handle node.content_generation generation (content_fault (name_space s) node content) (with_content node content)
+  of_node handle (calls.SetAcl bytes acls generation) node = of_put handle node.acl_generation generation None (with_acls node acls)
   of_node handle (calls.Delete bytes) node = of_delete handle
-  of_node handle (calls.Acquire bytes mode) node = of_acquired handle (claim_of handle mode) (acquired (lock_under (name_space s) handle) (claim_of handle mode))
-  of_node handle (calls.TryAcquire bytes mode) node = of_tried handle (claim_of handle mode) (tried (lock_under (name_space s) handle) (claim_of handle mode) s.clock)
+  of_node handle (calls.Acquire bytes mode) node = of_acquired handle (claim_of handle mode) (lock_fault (name_space s) handle.client) (acquired (lock_under (name_space s) handle) (claim_of handle mode))
+  of_node handle (calls.TryAcquire bytes mode) node = of_tried handle (claim_of handle mode) (lock_fault (name_space s) handle.client) (tried (lock_under (name_space s) handle) (claim_of handle mode) s.clock)
   of_node handle (calls.Release bytes) node = of_released handle (released (lock_under (name_space s) handle) (owner_of handle))
   of_node handle (calls.Open opening) node = of_fault faults.BadHandle
   of_node handle (calls.Close bytes) node = of_fault faults.BadHandle

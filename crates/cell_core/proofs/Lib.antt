@@ -6,3 +6,6 @@ mod Above
 pub mod AskedFor
 mod ToAsk
 pub mod EffectShapes
+mod Limited
+pub mod Within
+mod RoomAsked

@@ -1,6 +1,6 @@
 -- What a change does when its turn comes.
-use Rattle.std.specs.Prelude.{ℕ, Bool, true, ◌==◌, ◌+◌, ◌||◌, nat_le, List, [], Option, Some, None, Result, Ok, Err, if◌then◌else◌, is_none}
-use Rattle.std.specs.Option.{option_map_or}
+use Rattle.std.specs.Prelude.{ℕ, Bool, true, ◌==◌, ◌+◌, ◌-◌, ◌||◌, length, nat_le, List, [], Option, Some, None, Result, Ok, Err, if◌then◌else◌, is_none}
+use Rattle.std.specs.Option.{option_map_or, option_or}
 use Rattle.names_cell.specs.Text.{parent_of}
 use Rattle.node_core.specs.declared.refusals.Fault.{Fault}
 use Rattle.node_core.specs.declared.nodes.Node.{Node}
@@ -11,6 +11,7 @@ use Rattle.node_core.specs.declared.kinds.LockMode.{LockMode}
 use Rattle.node_core.specs.declared.kinds.Life.{Life}
 use Rattle.node_core.specs.Limits.{number_limit}
 use Rattle.node_core.specs.Nodes.{get_node, has_children}
+use Rattle.node_core.specs.Room.{content_length, content_bytes, room_fault}
 use Rattle.tags_cell.specs.Handles.{read_handle}
 use Rattle.tags_cell.specs.declared.handles.Handle.{Handle}
 use Rattle.tags_cell.specs.declared.messages.calls.AclNames.{AclNames}
@@ -30,6 +31,7 @@ use Rattle.lock_core.specs.declared.turns.Turn.{Turn}
 use Rattle.lock_core.specs.declared.turns.Acquired.{Acquired}
 use Rattle.lock_core.specs.State.{LockState}
 use Rattle.lock_core.specs.Locks.{lock_at}
+use Rattle.lock_core.specs.Counted.{claim_count}
 use Rattle.lock_core.specs.Turns.{tried, acquired, released, closed_by}
 use Rattle.master_state.specs.declared.updates.LockPut.{LockPut}
 use Rattle.master_parts.specs.Claims.{owner_of, claim_of}
@@ -59,6 +61,24 @@ changes_to change next_instance answer = record { note = None; change = Some (re
 -- a number at its end
 abbrev pub is_last : ℕ → Bool
 is_last n = nat_le number_limit n
+
+-- ---- room: what a call adds to what a limit counts is tested last, and refused where the limit leaves no room for it
+
+-- one node more, and then the bytes of its content
+abbrev pub new_node_fault : NameSpace → Node → Option Fault
+new_node_fault space node =
+    option_or (room_fault space.limits.max_nodes (length space.nodes) 1) (room_fault space.limits.max_bytes (content_bytes space.nodes) (content_length node))
+
+-- the bytes by which a node's content grows
+abbrev pub content_fault : NameSpace → Node → List ℕ → Option Fault
+content_fault space node content = room_fault space.limits.max_bytes (content_bytes space.nodes) (length content - content_length node)
+
+-- one lock more that the client holds or waits for
+abbrev pub lock_fault : NameSpace → ℕ → Option Fault
+lock_fault space client = room_fault space.limits.max_locks (claim_count client space.locks) 1
+
+abbrev pub unless : Option Fault → Effect → Effect
+unless room effect = option_map_or (λ fault. refused fault) room effect
 
 -- ---- creates
 
@@ -98,14 +118,17 @@ new_node instance node life acls = record {
 }
 
 -- the new node is put, and its handle is open
-abbrev pub create_made : NameSpace → Open → Node → Result Handle Fault → Effect
-create_made space opening node (Err fault) = refused fault
-create_made space opening node (Ok handle) = record {
+abbrev pub create_put : NameSpace → Open → Node → Handle → Effect
+create_put space opening node handle = record {
   note = opened_note space (Ok handle);
   change = Some (record { change = Put opening.name node; next_instance = space.next_instance + 1 });
   locking = Nothing;
   answer = Some (opened_answer space (Ok handle));
 }
+
+abbrev pub create_made : NameSpace → Open → Node → Result Handle Fault → Effect
+create_made space opening node (Err fault) = refused fault
+create_made space opening node (Ok handle) = unless (new_node_fault space node) (create_put space opening node handle)
 
 abbrev pub create_numbered : NameSpace → Caller → ℕ → Open → Node → Effect
 create_numbered space caller number opening node =
@@ -178,25 +201,28 @@ lock_awaited handle lock = record { note = None; change = None; locking = Waits 
 abbrev pub leaving_by : Handle → Bool → Turn → Locking
 leaving_by handle held turn = Leaves (record { name = handle.name; instance = handle.instance; held = held; turn = turn })
 
-abbrev pub acquire_by : Handle → Claim → Result Acquired Fault → Effect
-acquire_by handle claim (Ok (asked.Held lock)) = lock_taken handle claim lock
-acquire_by handle claim (Ok (asked.Waits lock)) = lock_awaited handle lock
-acquire_by handle claim (Err fault) = refused fault
+abbrev pub acquired_by : Handle → Claim → Acquired → Effect
+acquired_by handle claim (asked.Held lock) = lock_taken handle claim lock
+acquired_by handle claim (asked.Waits lock) = lock_awaited handle lock
 
-abbrev pub try_by : Handle → Claim → Result LockState Fault → Effect
-try_by handle claim (Ok lock) = lock_taken handle claim lock
-try_by handle claim (Err fault) = refused fault
+abbrev pub acquire_by : Handle → Claim → Option Fault → Result Acquired Fault → Effect
+acquire_by handle claim room (Ok asked) = unless room (acquired_by handle claim asked)
+acquire_by handle claim room (Err fault) = refused fault
+
+abbrev pub try_by : Handle → Claim → Option Fault → Result LockState Fault → Effect
+try_by handle claim room (Ok lock) = unless room (lock_taken handle claim lock)
+try_by handle claim room (Err fault) = refused fault
 
 abbrev pub release_by : Handle → Result Turn Fault → Effect
 release_by handle (Ok turn) = record { note = None; change = None; locking = leaving_by handle true turn; answer = Some results.Done }
 release_by handle (Err fault) = refused fault
 
 abbrev pub acquire_at : NameSpace → Handle → LockMode → Effect
-acquire_at space handle mode = acquire_by handle (claim_of handle mode) (acquired (lock_under space handle) (claim_of handle mode))
+acquire_at space handle mode = acquire_by handle (claim_of handle mode) (lock_fault space handle.client) (acquired (lock_under space handle) (claim_of handle mode))
 
 -- by the moment that the master was told
 abbrev pub try_at : NameSpace → ℕ → Handle → LockMode → Effect
-try_at space now handle mode = try_by handle (claim_of handle mode) (tried (lock_under space handle) (claim_of handle mode) now)
+try_at space now handle mode = try_by handle (claim_of handle mode) (lock_fault space handle.client) (tried (lock_under space handle) (claim_of handle mode) now)
 
 abbrev pub release_at : NameSpace → Handle → Effect
 release_at space handle = release_by handle (released (lock_under space handle) (owner_of handle))
@@ -232,10 +258,10 @@ with_content node content = record node { content_generation = node.content_gene
 abbrev pub with_acls : Node → AclNames → Node
 with_acls node acls = record node { acl_generation = node.acl_generation + 1; read = acls.read; write = acls.write; change = acls.change }
 
-abbrev pub put_at : NameSpace → Handle → ℕ → Option ℕ → Node → Effect
-put_at space handle present wanted node =
+abbrev pub put_at : NameSpace → Handle → ℕ → Option ℕ → Option Fault → Node → Effect
+put_at space handle present wanted room node =
     if generation_fits wanted present
-    then (if is_last present then refused faults.Exhausted else changes_to (Put handle.name node) space.next_instance results.Done)
+    then (if is_last present then refused faults.Exhausted else unless room (changes_to (Put handle.name node) space.next_instance results.Done))
     else refused (faults.WrongGeneration present)
 
 -- the node goes, and its lock with it
@@ -254,8 +280,8 @@ delete_at space handle =
     else deleted space handle
 
 abbrev pub change_at : NameSpace → ℕ → Handle → Call → Node → Effect
-change_at space now handle (calls.Set bytes content generation) node = put_at space handle node.content_generation generation (with_content node content)
-change_at space now handle (calls.SetAcl bytes acls generation) node = put_at space handle node.acl_generation generation (with_acls node acls)
+change_at space now handle (calls.Set bytes content generation) node = put_at space handle node.content_generation generation (content_fault space node content) (with_content node content)
+change_at space now handle (calls.SetAcl bytes acls generation) node = put_at space handle node.acl_generation generation None (with_acls node acls)
 change_at space now handle (calls.Delete bytes) node = delete_at space handle
 change_at space now handle (calls.Acquire bytes mode) node = acquire_at space handle mode
 change_at space now handle (calls.TryAcquire bytes mode) node = try_at space now handle mode

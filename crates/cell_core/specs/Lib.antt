@@ -1,6 +1,7 @@
 pub use Rattle.collections.specs.Results
 pub use Rattle.names_cell.specs.Text
 pub use Rattle.node_core.specs.Nodes
+pub use Rattle.node_core.specs.Room as NodeRoom
 pub use Rattle.rights_core.specs.Rights
 pub use Rattle.gate_core.specs.Gate
 pub use Rattle.lease_core.specs.Lease
@@ -19,6 +20,7 @@ pub use Rattle.master_state.specs.Updates
 pub use Rattle.lock_core.specs.State as LockStates
 pub use Rattle.lock_core.specs.Turns
 pub use Rattle.lock_core.specs.Locks as LockTables
+pub use Rattle.lock_core.specs.Counted
 pub use Rattle.master_state.specs.Replies
 pub mod Step
 pub mod Names
@@ -28,3 +30,4 @@ pub mod Ephemerals
 pub mod Effect
 pub mod Outcomes
 pub mod ChangeNotices
+pub mod Room

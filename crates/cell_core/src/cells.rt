@@ -10,7 +10,7 @@ use crate::stored::{locks_of, sessions_of};
 use collections::Items;
 use master_parts::{Nodes, Tables, Telling};
 use master_state::{Former, Grown, Master, Rest, Update, finish, grow, settle, undo};
-use rows_cell::Rows;
+use rows_cell::{MasterTerms, Rows};
 use std::alloc::{AllocError, Global};
 use std::marker::Model;
 
@@ -30,17 +30,22 @@ impl Model for Cell {
 }
 
 impl Cell {
-    /// A master that comes up with these rows, with its lease and the moment in milliseconds: nothing waits, no right is
-    /// held, and it knows of no call and of no handle. To each live session it issues its first event, which tells that
+    /// A master that comes up with these rows, by its terms, the moment in milliseconds: nothing waits, no right is held, and
+    /// it knows of no call and of no handle. To each live session it issues its first event, which tells that
     /// it is up, and where there is one it is in recovery.
-    pub fn of_rows(alloc: Global, rows: Rows, lease: u64, now: u64) -> Result<Cell, AllocError>
-        requires range { (least_lease ≤ lease) × (lease ≤ longest_lease) }
+    pub fn of_rows(
+        alloc: Global,
+        rows: Rows,
+        terms: MasterTerms,
+        now: u64,
+    ) -> Result<Cell, AllocError>
+        requires range { (least_lease ≤ terms.lease) × (terms.lease ≤ longest_lease) }
         requires moment { IsMoment now }
-        ensures { IfOk result (λ cell. cell ≡ master_of rows lease now) }
+        ensures { IfOk result (λ cell. cell ≡ master_of rows terms now) }
     {
         let nodes = Nodes::of_map(alloc, rows.map(alloc)?)?;
         let locks = locks_of(alloc, &rows, now)?;
-        let sessions = sessions_of(alloc, &rows, lease, now)?;
+        let sessions = sessions_of(alloc, &rows, terms.lease, now)?;
         let recovering = !sessions.all_heard();
         let Rows {
             cell,
@@ -55,6 +60,7 @@ impl Cell {
             secret,
             epoch,
             next_instance,
+            limits: terms.limits,
             tables: Tables::of_parts(alloc, nodes, sessions),
             locks,
             recovering,

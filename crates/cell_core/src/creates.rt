@@ -2,10 +2,11 @@
 ghost use Rattle.std.specs.Prelude.{◌≡◌, ◌<◌, ◌+◌, ◌-◌, ◌^◌, None, Ok, IfOk};
 ghost use Rattle.node_core.specs.declared.views.Mod.TheVariants.{Put};
 ghost use Rattle.master_state.specs.NameSpace.{name_space, caller};
-ghost use Rattle.cell_core.specs.Effect.{create_effect, create_over, create_new, create_in, create_permitted, create_numbered, create_made, new_node, kind_of, first_generation, content_of, acls_of};
+ghost use Rattle.cell_core.specs.Effect.{create_effect, create_over, create_new, create_in, create_permitted, create_numbered, create_made, create_put, new_node, kind_of, first_generation, content_of, acls_of};
 ghost use Rattle.master_state.specs.Lookups.{may};
 
 use crate::effects::{Effect, Locking, opened_effect};
+use crate::room::new_node_fault;
 use collections::Bytes;
 use master_state::{Change, Master};
 use names_cell::Name;
@@ -132,7 +133,6 @@ fn create_numbered(
     }
 }
 
-// The new node is put, and its handle is open.
 fn create_made(
     master: &Master,
     opening: &Open,
@@ -141,6 +141,22 @@ fn create_made(
 ) -> Result<Effect, AllocError>
     requires { master.now.next_instance < 2 ^ 63 - 1 }
     ensures { IfOk result (λ done. done ≡ create_made (name_space master.now) opening.now node (Ok handle)) }
+{
+    match new_node_fault(master, &node) {
+        Some(fault) => Ok(Effect::refused(fault)),
+        None => create_put(master, opening, node, handle),
+    }
+}
+
+// The new node is put, and its handle is open.
+fn create_put(
+    master: &Master,
+    opening: &Open,
+    node: Node,
+    handle: Handle,
+) -> Result<Effect, AllocError>
+    requires { master.now.next_instance < 2 ^ 63 - 1 }
+    ensures { IfOk result (λ done. done ≡ create_put (name_space master.now) opening.now node handle) }
 {
     let name = opening.name.clone()?;
     let change = made_change(master, name, node);

@@ -1,11 +1,12 @@
 //! What a call does to a lock when its turn comes.
-ghost use Rattle.std.specs.Prelude.{◌≡◌, Some, None, IfOk};
+ghost use Rattle.std.specs.Prelude.{◌≡◌, Some, None, Ok, IfOk};
 ghost use Rattle.lock_core.specs.Locks.{lock_at};
 ghost use Rattle.master_state.specs.NameSpace.{name_space};
 ghost use Rattle.master_state.specs.Lookups.{node_of_handle};
-ghost use Rattle.cell_core.specs.Effect.{lock_put, lock_taken, lock_awaited, leaving_by, acquire_at, try_at, release_at, close_under, close_at, deleted, gone_by_itself};
+ghost use Rattle.cell_core.specs.Effect.{lock_put, lock_taken, lock_awaited, leaving_by, acquired_by, acquire_by, acquire_at, try_by, try_at, release_at, close_under, close_at, deleted, gone_by_itself};
 
 use crate::effects::{Effect, Leave, Locking};
+use crate::room::lock_fault;
 use collections::Items;
 use lock_core::{Acquired, Claim, Lock, Turn};
 use master_parts::{HandleKey, HandleState, Idle, Note, claim_of, owner_of};
@@ -22,11 +23,34 @@ pub(crate) fn acquire_at(
     ensures { IfOk result (λ done. done ≡ acquire_at (name_space master.now) handle.now mode) }
 {
     let claim = claim_of(handle, mode);
+    let room = lock_fault(master, handle.client.get())?;
     match master.locks().acquire(handle.instance.get(), claim) {
-        Ok(Acquired::Held(lock)) => lock_taken(handle, claim, lock),
-        Ok(Acquired::Waits(lock)) => lock_awaited(handle, lock),
+        Ok(asked) => acquire_by(handle, claim, room, asked),
         Err(Fault::NoMemory) => Err(AllocError),
         Err(fault) => Ok(Effect::refused(fault)),
+    }
+}
+
+fn acquire_by(
+    handle: &Handle,
+    claim: Claim,
+    room: Option<Fault>,
+    asked: Acquired,
+) -> Result<Effect, AllocError>
+    ensures { IfOk result (λ done. done ≡ acquire_by handle.now claim room (Ok asked)) }
+{
+    match room {
+        Some(fault) => Ok(Effect::refused(fault)),
+        None => acquired_by(handle, claim, asked),
+    }
+}
+
+fn acquired_by(handle: &Handle, claim: Claim, asked: Acquired) -> Result<Effect, AllocError>
+    ensures { IfOk result (λ done. done ≡ acquired_by handle.now claim asked) }
+{
+    match asked {
+        Acquired::Held(lock) => lock_taken(handle, claim, lock),
+        Acquired::Waits(lock) => lock_awaited(handle, lock),
     }
 }
 
@@ -35,13 +59,28 @@ pub(crate) fn try_at(master: &Master, handle: &Handle, mode: LockMode) -> Result
     ensures { IfOk result (λ done. done ≡ try_at (name_space master.now) master.now.clock handle.now mode) }
 {
     let claim = claim_of(handle, mode);
+    let room = lock_fault(master, handle.client.get())?;
     match master
         .locks()
         .try_acquire(handle.instance.get(), claim, master.clock())
     {
-        Ok(lock) => lock_taken(handle, claim, lock),
+        Ok(lock) => try_by(handle, claim, room, lock),
         Err(Fault::NoMemory) => Err(AllocError),
         Err(fault) => Ok(Effect::refused(fault)),
+    }
+}
+
+fn try_by(
+    handle: &Handle,
+    claim: Claim,
+    room: Option<Fault>,
+    lock: Lock,
+) -> Result<Effect, AllocError>
+    ensures { IfOk result (λ done. done ≡ try_by handle.now claim room (Ok lock)) }
+{
+    match room {
+        Some(fault) => Ok(Effect::refused(fault)),
+        None => lock_taken(handle, claim, lock),
     }
 }
 

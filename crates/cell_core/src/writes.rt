@@ -1,10 +1,11 @@
 //! What a write does when its turn comes.
-ghost use Rattle.std.specs.Prelude.{◌≡◌, ◌<◌, ◌-◌, ◌^◌, IfOk};
+ghost use Rattle.std.specs.Prelude.{◌≡◌, ◌<◌, ◌-◌, ◌^◌, None, IfOk};
 ghost use Rattle.master_state.specs.NameSpace.{name_space};
-ghost use Rattle.cell_core.specs.Effect.{changes_to, put_at, delete_at, change_at, change_on, generation_fits, with_content, with_acls};
+ghost use Rattle.cell_core.specs.Effect.{changes_to, put_at, content_fault, delete_at, change_at, change_on, generation_fits, with_content, with_acls};
 
 use crate::effects::Effect;
 use crate::locks::{acquire_at, deleted, release_at, try_at};
+use crate::room::content_fault;
 use collections::Bytes;
 use master_state::Master;
 use node_core::{Fault, Mod, NUMBER_LIMIT, Node};
@@ -59,7 +60,7 @@ fn set_at(
     content: &Bytes,
     generation: Option<u64>,
 ) -> Result<Effect, AllocError>
-    ensures { IfOk result (λ done. done ≡ put_at (name_space master.now) handle.now node.now.content_generation generation (with_content node.now content.now)) }
+    ensures { IfOk result (λ done. done ≡ put_at (name_space master.now) handle.now node.now.content_generation generation (content_fault (name_space master.now) node.now content.now) (with_content node.now content.now)) }
 {
     let present = node.content_generation;
     if !generation_fits(generation, present) {
@@ -68,7 +69,10 @@ fn set_at(
     if present >= NUMBER_LIMIT {
         return Ok(Effect::refused(Fault::Exhausted));
     }
-    put(master, handle, with_content(node, content)?)
+    match content_fault(master, node, content) {
+        Some(fault) => Ok(Effect::refused(fault)),
+        None => put(master, handle, with_content(node, content)?),
+    }
 }
 
 fn set_acl_at(
@@ -78,7 +82,7 @@ fn set_acl_at(
     acls: &AclNames,
     generation: Option<u64>,
 ) -> Result<Effect, AllocError>
-    ensures { IfOk result (λ done. done ≡ put_at (name_space master.now) handle.now node.now.acl_generation generation (with_acls node.now acls.now)) }
+    ensures { IfOk result (λ done. done ≡ put_at (name_space master.now) handle.now node.now.acl_generation generation None (with_acls node.now acls.now)) }
 {
     let present = node.acl_generation;
     if !generation_fits(generation, present) {

@@ -7,7 +7,7 @@ use Rattle.sqlite_trees.specs.View.{IsClean}
 use Rattle.sqlite_trees.proofs.Doubt.{no_doubt}
 use Rattle.sqlite.specs.Effect.{Database}
 use Rattle.sqlite.specs.Steps.{IsEmpty}
-use Rattle.rows_cell.specs.Settings.{Settled}
+use Rattle.rows_cell.specs.Settings.{Settled, terms_of}
 use Rattle.rows_cell.specs.declared.tables.Rows.{Rows}
 use Rattle.rows_cell.specs.Opening.{opening}
 use Rattle.rows_cell.specs.Stores.{Store}
@@ -43,11 +43,11 @@ takes_opening settings db rows none (inr (inr (inl p))) = absurd (some_tables Un
 takes_opening settings db rows none (inr (inr (inr (before, said, end, is)))) = absurd (some_tables First db.schema none said.schema)
 
 pub ran_anew : (settings : Settled) (had : State) (text before after : Known) (status : ℕ) (first last : Store) (old new : WorldView) → IsFirst settings had first → had.committed.schema ≡ no_schema
-    → old ≡ opened first settings.lease → last ≡ store_in new → (IsUndoubted new → IsUndoubted old × EndsWith status (EndsSurely text old new) before after) → last.doubt ≡ 0
+    → old ≡ opened first (terms_of settings) → last ≡ store_in new → (IsUndoubted new → IsUndoubted old × EndsWith status (EndsSurely text old new) before after) → last.doubt ≡ 0
     → RanAnew settings text status before after
 ran_anew settings had text before after status first last old new is none opens closes ran sure =
-    let led = script_led_surely settings.lease text before after status first last old new opens closes ran sure in
+    let led = script_led_surely (terms_of settings) text before after status first last old new opens closes ran sure in
     let rows = takes_opening settings had.committed first.rows none (is.adopts led.0).takes in
-    let P : Store → Type 0 = λ s. EndsWith status (EndsSurely text (opened s settings.lease) led.1.0) before after in
-    let Q : Rows → Type 0 = λ r. EndsWith status (EndsSurely text (opened (taken settings r) settings.lease) led.1.0) before after in
+    let P : Store → Type 0 = λ s. EndsWith status (EndsSurely text (opened s (terms_of settings)) led.1.0) before after in
+    let Q : Rows → Type 0 = λ r. EndsWith status (EndsSurely text (opened (taken settings r) (terms_of settings)) led.1.0) before after in
     (led.1.0, subst Q rows (subst P (as_taken settings first is.cell is.left is.none led.0) led.1.1))

@@ -8,6 +8,7 @@ use Rattle.sqlite_wal.specs.Recovery.{Image}
 use Rattle.sqlite_trees.specs.View.{doubt}
 use Rattle.sqlite.specs.State.{State, HasCleanDisk}
 use Rattle.sqlite.specs.Start.{FindsIn}
+use Rattle.rows_cell.specs.declared.settings.MasterTerms.{MasterTerms}
 use Rattle.rows_cell.specs.Settings.{Settled}
 use Rattle.rows_cell.specs.Stores.{Store}
 use Rattle.world_steps.specs.World.{WorldView, IsUndoubted, opened, store_in}
@@ -86,23 +87,23 @@ closed_at g settings had held Leads (Err e) finds done = tt
 
 -- ---- a script
 
-module _ (lease : ℕ) (text before after : Known) (status : ℕ) (first last : Store) (old new : WorldView) (opens : old ≡ opened first lease) (closes : last ≡ store_in new) where
-  pub script_led : EndsWith status (EndsWell text old new) before after → ScriptLeads lease text before after status first last
+module _ (terms : MasterTerms) (text before after : Known) (status : ℕ) (first last : Store) (old new : WorldView) (opens : old ≡ opened first terms) (closes : last ≡ store_in new) where
+  pub script_led : EndsWith status (EndsWell text old new) before after → ScriptLeads terms text before after status first last
   script_led ran = (new, subst (λ w. EndsWith status (EndsWell text w new) before after) opens ran, closes)
 
   pub script_led_surely : (IsUndoubted new → IsUndoubted old × EndsWith status (EndsSurely text old new) before after) → last.doubt ≡ 0
-      → (first.doubt ≡ 0) × ScriptLeadsSurely lease text before after status first last
+      → (first.doubt ≡ 0) × ScriptLeadsSurely terms text before after status first last
   script_led_surely ran sure =
       let end = ran (sym (ap (λ (s : Store). s.doubt) closes) ∙ sure) in
       (sym (ap (λ (w : WorldView). w.doubt) opens) ∙ end.0, (new, subst (λ w. EndsWith status (EndsSurely text w new) before after) opens end.1, closes))
 
 -- ---- frames
 
-abbrev pub terms_of : GroupLimits → ℕ → GroupTerms
-terms_of limits lease = record { lease = lease; limits = limits }
+abbrev pub group_terms : GroupLimits → MasterTerms → GroupTerms
+group_terms limits terms = record { master = terms; limits = limits }
 
-pub same_terms : (limits : GroupLimits) (given lease : ℕ) → given ≡ lease → terms_of limits given ≡ terms_of limits lease
-same_terms limits given lease same = ap (terms_of limits) same
+pub same_terms : (limits : GroupLimits) (given terms : MasterTerms) → given ≡ terms → group_terms limits given ≡ group_terms limits terms
+same_terms limits given terms same = ap (group_terms limits) same
 
 pub ends_serving : (terms given : GroupTerms) (text there before after : Known) (status : ℕ) (ended : Result (Unit {0}) GroupStop) (old new : Hosted) → given ≡ terms → there ≡ text → status ≡ served_status ended
     → EndsGroups given there old ended new before after → EndsServing terms text before after status old new

@@ -1,6 +1,6 @@
 -- What a script did over a new store in memory, and what a run of a script comes to.
 use Rattle.std.specs.Prelude.{◌≡◌, ◌⊎◌, ℕ, Option, None, Some}
-use Rattle.rows_cell.specs.Settings.{Settled}
+use Rattle.rows_cell.specs.Settings.{Settled, terms_of}
 use Rattle.rows_cell.specs.Opening.{opening}
 use Rattle.world_steps.specs.World.{opened}
 use Rattle.scripts.specs.Ran.{RunsSurely}
@@ -10,7 +10,7 @@ use Rattle.cellctl.specs.Led.{Known, EndsScript}
 
 -- it ended so, from the rows of a new cell on, and the laws of runs hold of it
 abbrev pub RanAnew : Settled → Known → ℕ → Known → Known → Type 0
-RanAnew settings text status before after = RunsSurely status text (opened (taken settings (opening settings)) settings.lease) before after
+RanAnew settings text status before after = RunsSurely status text (opened (taken settings (opening settings)) (terms_of settings)) before after
 
 -- it did, or there was no store for it, and nothing was written
 abbrev pub EndsAnew : Settled → Known → ℕ → Known → Known → Type 0
@@ -19,4 +19,4 @@ EndsAnew settings text status before after = RanAnew settings text status before
 -- the script of this whole text was run over the store in the file at a path, where there is one, and else over a new one
 abbrev pub EndsRun : {P : Type 0} → Settled → Option P → Known → ℕ → Known → Known → Type 0
 EndsRun settings None text status before after = EndsAnew settings text status before after
-EndsRun settings (Some path) text status before after = EndsScript settings.lease text status before after
+EndsRun settings (Some path) text status before after = EndsScript (terms_of settings) text status before after

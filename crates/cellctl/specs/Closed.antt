@@ -7,7 +7,7 @@ use Rattle.sqlite.specs.State.{State, HasCleanDisk}
 use Rattle.sqlite.specs.Tree.{Trees}
 use Rattle.sqlite.specs.Effect.{Database, IsDatabase}
 use Rattle.sqlite.specs.Files.{HoldsDatabase, AreFoundIn}
-use Rattle.rows_cell.specs.Settings.{Settled}
+use Rattle.rows_cell.specs.Settings.{Settled, terms_of}
 use Rattle.rows_cell.specs.declared.tables.Rows.{Rows}
 use Rattle.rows_cell.specs.Stores.{Store}
 use Rattle.rows_sql.specs.Adopting.{Adopts, Takes}
@@ -43,14 +43,14 @@ pub record DoneAt {D : Type 0} (g : Ghosts D) (settings : Settled) (held : Image
 
 -- a script ended so over it
 abbrev pub RanOver : {D : Type 0} → Ghosts D → Settled → State → Known → ℕ → Files D → Known → Known → Type 0
-RanOver g settings had text status files before after = DoneOver g settings had (ScriptLeadsSurely settings.lease text before after status) files
+RanOver g settings had text status files before after = DoneOver g settings had (ScriptLeadsSurely (terms_of settings) text before after status) files
 
 abbrev pub RanAt : {D : Type 0} → Ghosts D → Settled → Image → Known → ℕ → Files D → Known → Known → Type 0
-RanAt g settings held text status files before after = DoneAt g settings held (ScriptLeadsSurely settings.lease text before after status) files
+RanAt g settings held text status files before after = DoneAt g settings held (ScriptLeadsSurely (terms_of settings) text before after status) files
 
 -- frames were served so over it
 abbrev pub ServedOver : {D : Type 0} → Ghosts D → Settled → GroupLimits → State → Known → ℕ → Files D → Known → Known → Type 0
-ServedOver g settings limits had text status files before after = DoneOver g settings had (FramesLead (record { lease = settings.lease; limits = limits }) text before after status) files
+ServedOver g settings limits had text status files before after = DoneOver g settings had (FramesLead (record { master = terms_of settings; limits = limits }) text before after status) files
 
 abbrev pub ServedAt : {D : Type 0} → Ghosts D → Settled → GroupLimits → Image → Known → ℕ → Files D → Known → Known → Type 0
-ServedAt g settings limits held text status files before after = DoneAt g settings held (FramesLead (record { lease = settings.lease; limits = limits }) text before after status) files
+ServedAt g settings limits held text status files before after = DoneAt g settings held (FramesLead (record { master = terms_of settings; limits = limits }) text before after status) files

@@ -1,5 +1,6 @@
 -- What leads from one store to another.
 use Rattle.std.specs.Prelude.{◌≡◌, ◌⊎◌, ℕ, List, Option, Result, Ok, Err}
+use Rattle.rows_cell.specs.declared.settings.MasterTerms.{MasterTerms}
 use Rattle.rows_cell.specs.Stores.{Store}
 use Rattle.world_steps.specs.World.{WorldView, opened, store_in}
 use Rattle.scripts.specs.Ran.{EndsWith, EndsWell, EndsSurely}
@@ -19,14 +20,14 @@ Known = Option (List ℕ)
 
 -- with this status a script ended on a new world over a store, which is what it left of it: the laws of runs hold, where nothing
 -- is in doubt
-abbrev pub ScriptLeads : ℕ → Known → Known → Known → ℕ → Store → Store → Type 0
-ScriptLeads lease text before after status first last =
-    (new : WorldView) × EndsWith status (EndsWell text (opened first lease) new) before after × (last ≡ store_in new)
+abbrev pub ScriptLeads : MasterTerms → Known → Known → Known → ℕ → Store → Store → Type 0
+ScriptLeads terms text before after status first last =
+    (new : WorldView) × EndsWith status (EndsWell text (opened first terms) new) before after × (last ≡ store_in new)
 
 -- the same where nothing is in doubt: they hold
-abbrev pub ScriptLeadsSurely : ℕ → Known → Known → Known → ℕ → Store → Store → Type 0
-ScriptLeadsSurely lease text before after status first last =
-    (new : WorldView) × EndsWith status (EndsSurely text (opened first lease) new) before after × (last ≡ store_in new)
+abbrev pub ScriptLeadsSurely : MasterTerms → Known → Known → Known → ℕ → Store → Store → Type 0
+ScriptLeadsSurely terms text before after status first last =
+    (new : WorldView) × EndsWith status (EndsSurely text (opened first terms) new) before after × (last ≡ store_in new)
 
 -- ---- frames
 
@@ -60,8 +61,8 @@ abbrev pub EndsLed : (ℕ → Store → Store → Type 0) → ℕ → Known → 
 EndsLed Leads status before after = LedOn (Leads status) ⊎ (IsShut status × (((done : ℕ) × LedOn (Leads done)) ⊎ (after ≡ before)))
 
 -- a script was run so, and frames were served so
-abbrev pub EndsScript : ℕ → Known → ℕ → Known → Known → Type 0
-EndsScript lease text status before after = EndsLed (ScriptLeads lease text before after) status before after
+abbrev pub EndsScript : MasterTerms → Known → ℕ → Known → Known → Type 0
+EndsScript terms text status before after = EndsLed (ScriptLeads terms text before after) status before after
 
 abbrev pub EndsFrames : GroupTerms → Known → ℕ → Known → Known → Type 0
 EndsFrames terms text status before after = EndsLed (FramesLead terms text before after) status before after

@@ -83,6 +83,9 @@ Settings are a table in TOML. A key that isn't there has its value here:
   lease      = 12000             milliseconds, 1000 to 60000
   principals = [\"ann\", \"bob\"]  those of the ACL file acl/base, a line each, 262,144 bytes at most
   secret     = \"00..\"            64 hexadecimal digits in lower case; zeros where it isn't there
+  limits     = {max_nodes = N, max_bytes = N, max_locks = N}
+                                 what the cell holds at most: nodes, bytes of all contents, locks that one session holds or
+                                 waits for; a number that isn't there is no limit
 cellctl new-settings FILE writes such a file with a random secret.";
 
 /// What a test of a store prints, and how it ends.

@@ -1,5 +1,6 @@
 //! A master whose rows another program keeps.
 ghost use Rattle.std.specs.Prelude.{◌≡◌, IfOk, OnErr};
+ghost use Rattle.rows_cell.specs.Settings.{terms_of};
 ghost use Rattle.cellctl.specs.Exits.{IsExit};
 ghost use Rattle.cellctl.specs.Led.{EndsFrames, EndsAnyFrames};
 
@@ -45,7 +46,7 @@ fn serve_folder<I: Read + Drop, W: Write>(
     writer: &mut W,
 ) -> Result<u8>
     ensures exit { IfOk result IsExit }
-    ensures served { IfOk result (λ status. EndsFrames (record { lease = settings.now.lease; limits = limits }) (I.remaining reader) status (W.contents writer.old) (W.contents writer.new)) }
+    ensures served { IfOk result (λ status. EndsFrames (record { master = terms_of settings.now; limits = limits }) (I.remaining reader) status (W.contents writer.old) (W.contents writer.new)) }
     ensures none { OnErr result (W.contents writer.new ≡ W.contents writer.old) }
 {
     let path = format!(in rt.alloc(); "{folder}/asked").context("naming the pipe")?;
@@ -65,7 +66,7 @@ fn serve_asked<I: Read + Drop, W: Write>(
     writer: &mut W,
 ) -> Result<u8>
     ensures exit { IfOk result IsExit }
-    ensures served { IfOk result (λ status. EndsFrames (record { lease = settings.now.lease; limits = limits }) (I.remaining reader) status (W.contents writer.old) (W.contents writer.new)) }
+    ensures served { IfOk result (λ status. EndsFrames (record { master = terms_of settings.now; limits = limits }) (I.remaining reader) status (W.contents writer.old) (W.contents writer.new)) }
     ensures none { OnErr result (W.contents writer.new ≡ W.contents writer.old) }
 {
     let path = format!(in rt.alloc(); "{folder}/answered").context("naming the pipe")?;
@@ -93,7 +94,7 @@ fn serve_pipes<I: Read + Drop, W: Write>(
     writer: &mut W,
 ) -> Result<u8>
     ensures exit { IfOk result IsExit }
-    ensures served { IfOk result (λ status. EndsFrames (record { lease = settings.now.lease; limits = limits }) (I.remaining reader) status (W.contents writer.old) (W.contents writer.new)) }
+    ensures served { IfOk result (λ status. EndsFrames (record { master = terms_of settings.now; limits = limits }) (I.remaining reader) status (W.contents writer.old) (W.contents writer.new)) }
     ensures none { OnErr result (W.contents writer.new ≡ W.contents writer.old) }
 {
     let (asked, answered) = pipes;

@@ -1,5 +1,6 @@
 //! A run over a store.
 ghost use Rattle.std.specs.Prelude.{◌≡◌, IfOk, IfErr, OnErr};
+ghost use Rattle.rows_cell.specs.Settings.{terms_of};
 ghost use Rattle.sqlite_trees.specs.View.{IsClean};
 ghost use Rattle.sqlite_wal.specs.Reads.{AreClean};
 ghost use Rattle.sqlite_wal.specs.Files.{image_at};
@@ -53,8 +54,8 @@ pub(crate) fn run_path<S: Start, I: Read + Drop, W: Write, E: Write + Drop>(
 ) -> Result<(u8, Files<FileFrom<S>>), Unclosed<FileFrom<S>>>
     ensures closed { IfOk result (λ r. AreClean ⟦<FileFrom<S> as Disk>⟧ r.1.log r.1.db → RanAt ⟦<FileFrom<S> as Disk>⟧ settings.now (image_at S.Start) (I.remaining script.reader) r.0 r.1 (W.contents writer.old) (W.contents writer.new)) }
     // And whatever the disk did: it was run.
-    ensures ran { IfOk result (λ r. LedOn (ScriptLeads settings.now.lease (I.remaining script.reader) (W.contents writer.old) (W.contents writer.new) r.0)) }
-    ensures left { IfErr result (LeavesAt settings.now (image_at S.Start) (ScriptLeads settings.now.lease (I.remaining script.reader) (W.contents writer.old) (W.contents writer.new)) (W.contents writer.old) (W.contents writer.new)) }
+    ensures ran { IfOk result (λ r. LedOn (ScriptLeads (terms_of settings.now) (I.remaining script.reader) (W.contents writer.old) (W.contents writer.new) r.0)) }
+    ensures left { IfErr result (LeavesAt settings.now (image_at S.Start) (ScriptLeads (terms_of settings.now) (I.remaining script.reader) (W.contents writer.old) (W.contents writer.new)) (W.contents writer.old) (W.contents writer.new)) }
     ensures status { IfOk result (λ r. IsStatus r.0) }
 {
     match Connection::open_from(rt, path, false, start) {
@@ -76,9 +77,9 @@ pub(crate) fn run_files<D: Disk + Drop, I: Read + Drop, W: Write, E: Write + Dro
     // those that they have, and the laws of runs hold of it.
     ensures closed { IfOk result (λ r. AreClean D.Disk r.1.log r.1.db → RanOver D.Disk settings.now (file_state conn) (I.remaining script.reader) r.0 r.1 (W.contents writer.old) (W.contents writer.new)) }
     // And whatever the disk did: it was run.
-    ensures ran { IfOk result (λ r. LedOn (ScriptLeads settings.now.lease (I.remaining script.reader) (W.contents writer.old) (W.contents writer.new) r.0)) }
+    ensures ran { IfOk result (λ r. LedOn (ScriptLeads (terms_of settings.now) (I.remaining script.reader) (W.contents writer.old) (W.contents writer.new) r.0)) }
     // Else it is said what a crash leaves.
-    ensures left { IfErr result (LeavesOver settings.now conn (ScriptLeads settings.now.lease (I.remaining script.reader) (W.contents writer.old) (W.contents writer.new)) (W.contents writer.old) (W.contents writer.new)) }
+    ensures left { IfErr result (LeavesOver settings.now conn (ScriptLeads (terms_of settings.now) (I.remaining script.reader) (W.contents writer.old) (W.contents writer.new)) (W.contents writer.old) (W.contents writer.new)) }
     ensures status { IfOk result (λ r. IsStatus r.0) }
 {
     let Script {

@@ -1,5 +1,6 @@
 //! A master that another program starts.
 ghost use Rattle.std.specs.Prelude.{◌≡◌, IfOk, IfErr, OnErr};
+ghost use Rattle.rows_cell.specs.Settings.{terms_of};
 ghost use Rattle.sqlite_wal.specs.Reads.{AreClean};
 ghost use Rattle.sqlite_wal.specs.Files.{image_at};
 ghost use Rattle.sqlite.specs.Files.{file_state};
@@ -68,7 +69,7 @@ fn serve_at<I: Read + Drop, W: Write>(
     writer: &mut W,
 ) -> Result<u8>
     ensures exit { IfOk result IsExit }
-    ensures served { IfOk result (λ status. EndsFrames (record { lease = chosen.now.settings.lease; limits = limits }) (I.remaining reader) status (W.contents writer.old) (W.contents writer.new)) }
+    ensures served { IfOk result (λ status. EndsFrames (record { master = terms_of chosen.now.settings; limits = limits }) (I.remaining reader) status (W.contents writer.old) (W.contents writer.new)) }
     ensures none { OnErr result (W.contents writer.new ≡ W.contents writer.old) }
 {
     match fs::canonicalize(rt, path) {
@@ -93,7 +94,7 @@ fn serve_there<I: Read + Drop, W: Write>(
     writer: &mut W,
 ) -> Result<u8>
     ensures exit { IfOk result IsExit }
-    ensures served { IfOk result (λ status. EndsFrames (record { lease = chosen.now.settings.lease; limits = limits }) (I.remaining reader) status (W.contents writer.old) (W.contents writer.new)) }
+    ensures served { IfOk result (λ status. EndsFrames (record { master = terms_of chosen.now.settings; limits = limits }) (I.remaining reader) status (W.contents writer.old) (W.contents writer.new)) }
     ensures none { OnErr result (W.contents writer.new ≡ W.contents writer.old) }
 {
     let log = format!(in rt.alloc(); "{path}-wal").context("naming the log")?;
@@ -113,7 +114,7 @@ fn serve_real<I: Read + Drop, W: Write>(
     writer: &mut W,
 ) -> Result<u8>
     ensures exit { IfOk result IsExit }
-    ensures served { IfOk result (λ status. EndsFrames (record { lease = chosen.now.settings.lease; limits = limits }) (I.remaining reader) status (W.contents writer.old) (W.contents writer.new)) }
+    ensures served { IfOk result (λ status. EndsFrames (record { master = terms_of chosen.now.settings; limits = limits }) (I.remaining reader) status (W.contents writer.old) (W.contents writer.new)) }
     ensures none { OnErr result (W.contents writer.new ≡ W.contents writer.old) }
 {
     let log = format!(in rt.alloc(); "{path}-wal").context("naming the log")?;
@@ -144,8 +145,8 @@ fn serve_file<S: Start, I: Read + Drop, W: Write, E: Write + Drop>(
 ) -> Result<(u8, Files<FileFrom<S>>), Unclosed<FileFrom<S>>>
     ensures closed { IfOk result (λ r. AreClean ⟦<FileFrom<S> as Disk>⟧ r.1.log r.1.db → ServedAt ⟦<FileFrom<S> as Disk>⟧ settings.now frames.limits (image_at S.Start) (I.remaining frames.reader) r.0 r.1 (W.contents writer.old) (W.contents writer.new)) }
     // And whatever the disk did: they were served.
-    ensures served { IfOk result (λ r. LedOn (FramesLead (record { lease = settings.now.lease; limits = frames.limits }) (I.remaining frames.reader) (W.contents writer.old) (W.contents writer.new) r.0)) }
-    ensures left { IfErr result (LeavesAt settings.now (image_at S.Start) (FramesLead (record { lease = settings.now.lease; limits = frames.limits }) (I.remaining frames.reader) (W.contents writer.old) (W.contents writer.new)) (W.contents writer.old) (W.contents writer.new)) }
+    ensures served { IfOk result (λ r. LedOn (FramesLead (record { master = terms_of settings.now; limits = frames.limits }) (I.remaining frames.reader) (W.contents writer.old) (W.contents writer.new) r.0)) }
+    ensures left { IfErr result (LeavesAt settings.now (image_at S.Start) (FramesLead (record { master = terms_of settings.now; limits = frames.limits }) (I.remaining frames.reader) (W.contents writer.old) (W.contents writer.new)) (W.contents writer.old) (W.contents writer.new)) }
     ensures status { IfOk result (λ r. IsExit r.0) }
 {
     match Connection::open_from(rt, path, false, start) {
@@ -167,9 +168,9 @@ fn serve_store<D: Disk + Drop, I: Read + Drop, W: Write, E: Write + Drop>(
     // to those that they have.
     ensures closed { IfOk result (λ r. AreClean D.Disk r.1.log r.1.db → ServedOver D.Disk settings.now frames.limits (file_state conn) (I.remaining frames.reader) r.0 r.1 (W.contents writer.old) (W.contents writer.new)) }
     // And whatever the disk did: they were served.
-    ensures served { IfOk result (λ r. LedOn (FramesLead (record { lease = settings.now.lease; limits = frames.limits }) (I.remaining frames.reader) (W.contents writer.old) (W.contents writer.new) r.0)) }
+    ensures served { IfOk result (λ r. LedOn (FramesLead (record { master = terms_of settings.now; limits = frames.limits }) (I.remaining frames.reader) (W.contents writer.old) (W.contents writer.new) r.0)) }
     // Else it is said what a crash leaves.
-    ensures left { IfErr result (LeavesOver settings.now conn (FramesLead (record { lease = settings.now.lease; limits = frames.limits }) (I.remaining frames.reader) (W.contents writer.old) (W.contents writer.new)) (W.contents writer.old) (W.contents writer.new)) }
+    ensures left { IfErr result (LeavesOver settings.now conn (FramesLead (record { master = terms_of settings.now; limits = frames.limits }) (I.remaining frames.reader) (W.contents writer.old) (W.contents writer.new)) (W.contents writer.old) (W.contents writer.new)) }
     ensures status { IfOk result (λ r. IsExit r.0) }
 {
     let records = match SqlRecords::adopt(alloc, conn, settings) {
@@ -191,7 +192,7 @@ pub(crate) fn serve_seat<R: Records, I: Read + Drop, W: Write, E: Write + Drop>(
     frames: Frames<I, E>,
     writer: &mut W,
 ) -> (Seat<R>, u8)
-    ensures served { EndsServing (record { lease = settings.now.lease; limits = frames.limits }) (I.remaining frames.reader) (W.contents writer.old) (W.contents writer.new) result.1 (hosted R.store seat) (hosted R.store result.0) }
+    ensures served { EndsServing (record { master = terms_of settings.now; limits = frames.limits }) (I.remaining frames.reader) (W.contents writer.old) (W.contents writer.new) result.1 (hosted R.store seat) (hosted R.store result.0) }
     ensures exit { IsExit result.1 }
 {
     let Frames {
@@ -203,7 +204,7 @@ pub(crate) fn serve_seat<R: Records, I: Read + Drop, W: Write, E: Write + Drop>(
         return (seat, 4);
     };
     let terms = GroupTerms {
-        lease: settings.lease(),
+        master: settings.terms(),
         limits,
     };
     let (seat, ended) = serve_groups(alloc, terms, seat, &mut input, writer);

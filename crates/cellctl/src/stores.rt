@@ -1,5 +1,6 @@
 //! The store that a script runs over.
 ghost use Rattle.std.specs.Prelude.{◌≡◌, None, IfOk, OnErr};
+ghost use Rattle.rows_cell.specs.Settings.{terms_of};
 ghost use Rattle.cellctl.specs.Anew.{EndsAnew, EndsRun};
 ghost use Rattle.cellctl.specs.Exits.{IsExit, IsShut};
 ghost use Rattle.cellctl.specs.Led.{EndsScript};
@@ -143,7 +144,7 @@ fn run_at<I: Read + Drop, W: Write>(
     writer: &mut W,
 ) -> Result<u8>
     ensures exit { IfOk result IsExit }
-    ensures ran { IfOk result (λ status. EndsScript chosen.now.settings.lease (I.remaining script.reader) status (W.contents writer.old) (W.contents writer.new)) }
+    ensures ran { IfOk result (λ status. EndsScript (terms_of chosen.now.settings) (I.remaining script.reader) status (W.contents writer.old) (W.contents writer.new)) }
     ensures none { OnErr result (W.contents writer.new ≡ W.contents writer.old) }
 {
     match fs::canonicalize(rt, path) {
@@ -175,7 +176,7 @@ fn run_there<I: Read + Drop, W: Write>(
     writer: &mut W,
 ) -> Result<u8>
     ensures exit { IfOk result IsExit }
-    ensures ran { IfOk result (λ status. EndsScript chosen.now.settings.lease (I.remaining script.reader) status (W.contents writer.old) (W.contents writer.new)) }
+    ensures ran { IfOk result (λ status. EndsScript (terms_of chosen.now.settings) (I.remaining script.reader) status (W.contents writer.old) (W.contents writer.new)) }
     ensures none { OnErr result (W.contents writer.new ≡ W.contents writer.old) }
 {
     let log = format!(in rt.alloc(); "{path}-wal").context("naming the log")?;
@@ -194,7 +195,7 @@ fn run_closing<I: Read + Drop, W: Write>(
     writer: &mut W,
 ) -> u8
     ensures exit { IsExit result }
-    ensures ran { EndsScript chosen.now.settings.lease (I.remaining script.reader) result (W.contents writer.old) (W.contents writer.new) }
+    ensures ran { EndsScript (terms_of chosen.now.settings) (I.remaining script.reader) result (W.contents writer.old) (W.contents writer.new) }
 {
     let Ok(log) = format!(in rt.alloc(); "{path}-wal") else {
         return 4;

@@ -53,6 +53,7 @@ fault_argument (faults.Delayed left) = left
 fault_argument (faults.OldEpoch present) = present
 fault_argument (faults.PassMissing pass) = pass
 fault_argument (faults.ReceiptApart place) = place
+fault_argument (faults.NoRoom limit) = limit
 fault_argument fault = 0
 
 -- ---- lines in plain numbers

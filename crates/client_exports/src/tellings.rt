@@ -169,6 +169,7 @@ fn fault_argument(fault: Fault) -> u64
         Fault::OldEpoch(present) => present,
         Fault::PassMissing(pass) => pass,
         Fault::ReceiptApart(place) => place,
+        Fault::NoRoom(limit) => limit,
         _ => 0,
     }
 }

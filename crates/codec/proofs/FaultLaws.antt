@@ -27,6 +27,7 @@ fault_any (faults.Delayed x) = refl
 fault_any (faults.OldEpoch x) = refl
 fault_any (faults.PassMissing x) = refl
 fault_any (faults.ReceiptApart x) = refl
+fault_any (faults.NoRoom x) = refl
 fault_any plain = refl
 
 abbrev the_end : Fault → List ℕ → Result (Fault × List ℕ) WireFault
@@ -58,6 +59,8 @@ fault_takes (faults.PassMissing z) bytes x rest placed fits e =
     behind_takes faults.PassMissing (faults.PassMissing z) word_form (λ a. some_is _ _ placed) (λ a h. h) (λ a. refl) bytes x rest fits e
 fault_takes (faults.ReceiptApart z) bytes x rest placed fits e =
     behind_takes faults.ReceiptApart (faults.ReceiptApart z) word_form (λ a. some_is _ _ placed) (λ a h. h) (λ a. refl) bytes x rest fits e
+fault_takes (faults.NoRoom z) bytes x rest placed fits e =
+    behind_takes faults.NoRoom (faults.NoRoom z) word_form (λ a. some_is _ _ placed) (λ a h. h) (λ a. refl) bytes x rest fits e
 fault_takes plain bytes x rest placed fits e = plain_takes plain bytes x rest refl tt refl fits e
 
 fault_again : (x : Fault) (rest : List ℕ) → has_argument x → IsShort (argument_bytes x) → fault_behind (fault_kind x) (argument_bytes x ++ rest) ≡ Ok (x, rest)
@@ -70,6 +73,7 @@ fault_again (faults.Delayed x) rest holds short = behind_again faults.Delayed wo
 fault_again (faults.OldEpoch x) rest holds short = behind_again faults.OldEpoch word_form x rest holds short
 fault_again (faults.PassMissing x) rest holds short = behind_again faults.PassMissing word_form x rest holds short
 fault_again (faults.ReceiptApart x) rest holds short = behind_again faults.ReceiptApart word_form x rest holds short
+fault_again (faults.NoRoom x) rest holds short = behind_again faults.NoRoom word_form x rest holds short
 fault_again plain rest holds short = refl
 
 pub fault_form : IsForm fault

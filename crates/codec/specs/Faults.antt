@@ -28,7 +28,7 @@ all_faults =
     faults.SequencerStale ∷ faults.DelayTooLong ∷ faults.OldEpoch 0 ∷ faults.Recovering ∷ faults.InJeopardy ∷
     faults.SessionExpired ∷ faults.Poisoned ∷ faults.CallOutstanding ∷ faults.Unknown ∷ faults.ProtocolFault ∷
     faults.UnfairClock ∷ faults.NoSuchMessage ∷ faults.MasterDown ∷ faults.MasterUp ∷ faults.WatchFull ∷ faults.PassMissing 0 ∷
-    faults.ReceiptApart 0 ∷ []
+    faults.ReceiptApart 0 ∷ faults.NoRoom 0 ∷ []
 
 -- a refusal as it stands among them
 abbrev pub fault_kind : Fault → Fault
@@ -41,6 +41,7 @@ fault_kind (faults.Delayed x) = faults.Delayed 0
 fault_kind (faults.OldEpoch x) = faults.OldEpoch 0
 fault_kind (faults.PassMissing x) = faults.PassMissing 0
 fault_kind (faults.ReceiptApart x) = faults.ReceiptApart 0
+fault_kind (faults.NoRoom x) = faults.NoRoom 0
 fault_kind fault = fault
 
 -- its place there, one below its number
@@ -58,6 +59,7 @@ argument_bytes (faults.Delayed x) = word.write x
 argument_bytes (faults.OldEpoch x) = word.write x
 argument_bytes (faults.PassMissing x) = word.write x
 argument_bytes (faults.ReceiptApart x) = word.write x
+argument_bytes (faults.NoRoom x) = word.write x
 argument_bytes fault = []
 
 abbrev pub has_argument : Fault → Type 0
@@ -70,6 +72,7 @@ has_argument (faults.Delayed x) = word.is x
 has_argument (faults.OldEpoch x) = word.is x
 has_argument (faults.PassMissing x) = word.is x
 has_argument (faults.ReceiptApart x) = word.is x
+has_argument (faults.NoRoom x) = word.is x
 has_argument fault = Unit {0}
 
 -- what stands behind the number
@@ -83,6 +86,7 @@ fault_behind (faults.Delayed _) bytes = behind faults.Delayed word bytes
 fault_behind (faults.OldEpoch _) bytes = behind faults.OldEpoch word bytes
 fault_behind (faults.PassMissing _) bytes = behind faults.PassMissing word bytes
 fault_behind (faults.ReceiptApart _) bytes = behind faults.ReceiptApart word bytes
+fault_behind (faults.NoRoom _) bytes = behind faults.NoRoom word bytes
 fault_behind fault bytes = Ok (fault, bytes)
 
 unfoldable pub fault : Form Fault

@@ -11,7 +11,7 @@ use node_core::{Fault, Kind, LockMode, Right};
 use std::alloc::AllocError;
 
 // In the order of their numbers, with any argument.
-const FAULTS: [Fault; 42] = [
+const FAULTS: [Fault; 43] = [
     Fault::NoMemory,
     Fault::BadName,
     Fault::OtherCell,
@@ -54,6 +54,7 @@ const FAULTS: [Fault; 42] = [
     Fault::WatchFull,
     Fault::PassMissing(0),
     Fault::ReceiptApart(0),
+    Fault::NoRoom(0),
 ];
 
 #[tactic(auto, unfolding(crate::specs::Faults::fault))]
@@ -78,6 +79,7 @@ fn read_argument(input: &mut Input, kind: Fault) -> Result<Fault, WireFault>
         Fault::OldEpoch(_) => Fault::OldEpoch(input.word()?),
         Fault::PassMissing(_) => Fault::PassMissing(input.word()?),
         Fault::ReceiptApart(_) => Fault::ReceiptApart(input.word()?),
+        Fault::NoRoom(_) => Fault::NoRoom(input.word()?),
         plain => plain,
     })
 }
@@ -110,6 +112,7 @@ fn put_argument(out: &mut Vec<u8>, refusal: &Fault) -> Result<(), AllocError>
         Fault::OldEpoch(x) => put_word(out, *x),
         Fault::PassMissing(x) => put_word(out, *x),
         Fault::ReceiptApart(x) => put_word(out, *x),
+        Fault::NoRoom(x) => put_word(out, *x),
         _ => Ok(()),
     }
 }

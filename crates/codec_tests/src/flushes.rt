@@ -1,5 +1,5 @@
 //! What is told of a frame is flushed before more is read.
-use crate::frames::{LEASE, new_seat};
+use crate::frames::{new_seat, terms};
 use crate::stops::Stop;
 use hosting::serve_on;
 use std::alloc::Global;
@@ -63,7 +63,7 @@ pub(crate) fn flushed(alloc: Global, sent: &[u8]) -> Result<String, Stop> {
         watched: &watched,
     };
     let mut sink = Sink { watched: &watched };
-    let (seat, ended) = serve_on(alloc, LEASE, new_seat(alloc)?, &mut source, &mut sink);
+    let (seat, ended) = serve_on(alloc, terms(), new_seat(alloc)?, &mut source, &mut sink);
     drop(seat);
     let count = watched.flushed.get();
     if ended.is_ok() && !watched.early.get() && watched.waiting.get() == 0 {

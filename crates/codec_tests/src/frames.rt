@@ -10,11 +10,16 @@ use crate::stops::Stop;
 use crate::tables::Part;
 use byteorder::{BigEndian, ByteOrder};
 use hosting::{Seat, read_frame, serve_on};
-use rows_cell::{ListRecords, Settings};
+use rows_cell::{Limits, ListRecords, MasterTerms, Settings};
 use std::alloc::{AllocError, Global};
 
-/// The lease of every master, in milliseconds.
-pub(crate) const LEASE: u64 = 12_000;
+/// The terms of every master: a lease of 12,000 ms, and no limits.
+pub(crate) fn terms() -> MasterTerms {
+    MasterTerms {
+        lease: 12_000,
+        limits: Limits::none(),
+    }
+}
 
 /// A store, and the master that is up over it, or none.
 type Host = Option<Seat<ListRecords>>;
@@ -32,7 +37,7 @@ fn told_of(alloc: Global, host: &mut Host, sent: &[u8]) -> Vec<u8> {
     let Some(seat) = host.take() else {
         return told;
     };
-    let (next, ended) = serve_on(alloc, LEASE, seat, &mut reader, &mut told);
+    let (next, ended) = serve_on(alloc, terms(), seat, &mut reader, &mut told);
     drop(host.replace(next));
     if ended.is_err() {
         told.clear();

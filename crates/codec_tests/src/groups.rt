@@ -1,6 +1,6 @@
 //! Frames that come together: what is told of them, and what the next master finds, where the store refuses one commit, or where no more
 //! can be written.
-use crate::frames::{LEASE, hexadecimal};
+use crate::frames::{hexadecimal, terms};
 use crate::reports::Report;
 use crate::stops::Stop;
 use crate::tables::Part;
@@ -60,7 +60,7 @@ fn serve_kept(
     ended: &mut &'static str,
 ) -> Kept {
     let terms = GroupTerms {
-        lease: LEASE,
+        master: terms(),
         limits,
     };
     let (seat, end) = serve_groups(alloc, terms, Seat::Down(records), reader, paper);
@@ -72,7 +72,7 @@ fn serve_kept(
 fn told_again(alloc: Global, records: Kept, sent: &[u8]) -> Vec<u8> {
     let mut reader = sent;
     let mut told = Vec::new(alloc);
-    let (seat, _) = serve_on(alloc, LEASE, Seat::Down(records), &mut reader, &mut told);
+    let (seat, _) = serve_on(alloc, terms(), Seat::Down(records), &mut reader, &mut told);
     drop(seat);
     told
 }

@@ -1,5 +1,6 @@
 //! A master with its clients and all that they sent, to which messages of anybody may be handed.
 use crate::clients::show_client;
+use crate::frames::terms;
 use crate::masters::show_master;
 use crate::sheets::Sheet;
 use crate::stops::Stop;
@@ -71,7 +72,7 @@ impl Told {
 
 // The next master over these records comes up.
 fn up(alloc: Global, records: ListRecords) -> Result<Cell<ListRecords>, Stop> {
-    match Cell::up(alloc, records, 12_000, 0) {
+    match Cell::up(alloc, records, terms(), 0) {
         Ok(cell) => Ok(cell),
         Err((fault, _)) => Err(Stop::Refused(fault)),
     }

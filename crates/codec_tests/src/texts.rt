@@ -5,7 +5,7 @@ use crate::tables::Part;
 use collections::Bytes;
 use names_cell::{AclList, Component, Name, NameFault, Principal};
 use node_core::Fault;
-use rows_cell::Settings;
+use rows_cell::{Limits, Settings};
 use scripts::{Parsed, content, events, mode, number, read_settings, read_step};
 use std::alloc::{AllocError, Global};
 
@@ -64,14 +64,29 @@ fn put_refusal(text: &mut String, refusal: Option<NameFault>) -> Result<(), Allo
     }
 }
 
-// Cell, lease, and the principals' lines and the secret in hexadecimal.
+// Cell, lease, the principals' lines and the secret in hexadecimal, and the limits that there are.
 fn put_settings(text: &mut String, settings: &Settings) -> Result<(), AllocError> {
     let cell = settings.cell();
     let lease = settings.lease();
     write!(text, "{cell} {lease} ")?;
     put_hex(text, settings.base().as_slice())?;
     text.push_str(" ")?;
-    put_hex(text, settings.secret().as_bytes())
+    put_hex(text, settings.secret().as_bytes())?;
+    put_limits(text, settings.terms().limits)
+}
+
+// Those that there are, each with its word.
+fn put_limits(text: &mut String, limits: Limits) -> Result<(), AllocError> {
+    put_limit(text, "max_nodes", limits.max_nodes)?;
+    put_limit(text, "max_bytes", limits.max_bytes)?;
+    put_limit(text, "max_locks", limits.max_locks)
+}
+
+fn put_limit(text: &mut String, word: &str, limit: Option<u64>) -> Result<(), AllocError> {
+    match limit {
+        Some(limit) => write!(text, " {word} {limit}"),
+        None => Ok(()),
+    }
 }
 
 // Of a refusal only whether it has the wanted word.

@@ -5,7 +5,7 @@ use collections::Bytes;
 use names_cell::{Name, Principal};
 use node_core::{Fault, Life};
 use over_core::Cell;
-use rows_cell::{ListRecords, Settings};
+use rows_cell::{Limits, ListRecords, MasterTerms, Settings};
 use std::alloc::{AllocError, Global};
 use tags_cell::{ClientNumber, Create, Disposition, Events, Mode, NewNode, Open};
 
@@ -15,7 +15,11 @@ pub(crate) type Master = Cell<ListRecords>;
 /// The first master of a new cell, at the moment 0, with a lease of twelve seconds.
 pub(crate) fn new_master(alloc: Global) -> Result<Master> {
     let records = new_records(alloc)?;
-    match Cell::up(alloc, records, 12_000, 0) {
+    let terms = MasterTerms {
+        lease: 12_000,
+        limits: Limits::none(),
+    };
+    match Cell::up(alloc, records, terms, 0) {
         Ok(cell) => Ok(cell),
         Err((fault, records)) => {
             drop(records);

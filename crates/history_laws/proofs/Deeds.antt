@@ -148,7 +148,7 @@ module _ (w : WorldState) (entries : List Entry) (now : Clocks) (timely : IsTime
       typed = takes_typed at new printed t;
       at = λ leave. refl;
       mirrors = subst (λ q. Mirrors q (record w { master = Some t.next; messages = w.messages ++ map ToClient t.taken.outs })) (sym t.left)
-          (record { cell = same.cell; rows = same.rows; master = refl; clients = same.clients; messages = ap (λ told. told ++ map ToClient t.taken.outs) same.messages; lease = same.lease });
+          (record { cell = same.cell; rows = same.rows; master = refl; clients = same.clients; messages = ap (λ told. told ++ map ToClient t.taken.outs) same.messages; terms = same.terms });
       timely = goes_on t.master t.next w.rows (w.messages ++ map ToClient t.taken.outs) (master_is t.master t.up);
     }
 
@@ -167,7 +167,7 @@ module _ (w : WorldState) (entries : List Entry) (now : Clocks) (timely : IsTime
       typed = tt;
       at = λ leave. refl;
       mirrors = subst (λ q. Mirrors q (record w { rows = changed_rows w.rows (sweep_edits t.master w.clock); master = Some t.next; messages = w.messages ++ map ToClient t.swept.outs })) (sym t.left)
-          (record { cell = same.cell; rows = edits_at t.master t.up; master = refl; clients = same.clients; messages = ap (λ told. told ++ map ToClient t.swept.outs) same.messages; lease = same.lease });
+          (record { cell = same.cell; rows = edits_at t.master t.up; master = refl; clients = same.clients; messages = ap (λ told. told ++ map ToClient t.swept.outs) same.messages; terms = same.terms });
       timely = goes_on t.master t.next (changed_rows w.rows (sweep_edits t.master w.clock)) (w.messages ++ map ToClient t.swept.outs) (master_is t.master t.up);
     }
 
@@ -183,7 +183,7 @@ module _ (w : WorldState) (entries : List Entry) (now : Clocks) (timely : IsTime
       typed = tt;
       at = λ leave. refl;
       mirrors = subst (λ q. Mirrors q (record w { rows = changed_rows w.rows (sweep_edits t.master w.clock); master = None })) (sym t.left)
-          (record { cell = same.cell; rows = edits_at t.master t.up; master = refl; clients = same.clients; messages = same.messages; lease = same.lease });
+          (record { cell = same.cell; rows = edits_at t.master t.up; master = refl; clients = same.clients; messages = same.messages; terms = same.terms });
       timely = goes_alone (changed_rows w.rows (sweep_edits t.master w.clock));
     }
 
@@ -195,7 +195,7 @@ module _ (w : WorldState) (entries : List Entry) (now : Clocks) (timely : IsTime
       typed = tt;
       at = λ leave. refl;
       mirrors = subst (λ q. Mirrors q (record w { master = Some t.next; messages = w.messages ++ map ToClient t.swept.outs })) (sym t.left)
-          (record { cell = same.cell; rows = same.rows; master = refl; clients = same.clients; messages = ap (λ told. told ++ map ToClient t.swept.outs) same.messages; lease = same.lease });
+          (record { cell = same.cell; rows = same.rows; master = refl; clients = same.clients; messages = ap (λ told. told ++ map ToClient t.swept.outs) same.messages; terms = same.terms });
       timely = goes_on t.master t.next w.rows (w.messages ++ map ToClient t.swept.outs) (master_is t.master t.up);
     }
 
@@ -211,7 +211,7 @@ module _ (w : WorldState) (entries : List Entry) (now : Clocks) (timely : IsTime
       typed = tt;
       at = λ leave. refl;
       mirrors = subst (λ q. Mirrors q (record w { master = None })) (sym t.left)
-          (record { cell = same.cell; rows = same.rows; master = refl; clients = same.clients; messages = same.messages; lease = same.lease });
+          (record { cell = same.cell; rows = same.rows; master = refl; clients = same.clients; messages = same.messages; terms = same.terms });
       timely = goes_alone w.rows;
     }
 
@@ -258,7 +258,7 @@ module _ (w : WorldState) (entries : List Entry) (now : Clocks) (timely : IsTime
             master = same.master;
             clients = stepped_clients w.clients p.clients n member t.next found.1 same.clients;
             messages = ap (λ told. told ++ sent_by t.asked.outcome) same.messages;
-            lease = same.lease;
+            terms = same.terms;
           });
           timely = steps_on n member t.next (w.messages ++ sent_by t.asked.outcome) found.1;
         }
@@ -282,7 +282,7 @@ module _ (w : WorldState) (entries : List Entry) (now : Clocks) (timely : IsTime
             master = same.master;
             clients = stepped_clients w.clients p.clients n member t.next found.1 same.clients;
             messages = ap (λ told. told ++ sent_as t.beaten.request) same.messages;
-            lease = same.lease;
+            terms = same.terms;
           });
           timely = steps_on n member t.next (w.messages ++ sent_as t.beaten.request) found.1;
         }
@@ -308,7 +308,7 @@ module _ (w : WorldState) (entries : List Entry) (now : Clocks) (timely : IsTime
             master = same.master;
             clients = stepped_clients w.clients p.clients n member t.next found.1 same.clients;
             messages = same.messages;
-            lease = same.lease;
+            terms = same.terms;
           });
           timely = steps_on n member t.next w.messages found.1;
         }
@@ -330,8 +330,8 @@ module _ (w : WorldState) (entries : List Entry) (now : Clocks) (timely : IsTime
     none_is : p.master ≡ None → w.master ≡ None
     none_is none = same.master ∙ none
 
-    up_is : (master : MasterState) → up_step p.cell p.rows p.lease now.master ≡ Ok master → up_step w.cell w.rows w.lease now.master ≡ Ok master
-    up_is master step = rw (same.cell, same.rows, same.lease) step
+    up_is : (master : MasterState) → up_step p.cell p.rows p.terms now.master ≡ Ok master → up_step w.cell w.rows w.terms now.master ≡ Ok master
+    up_is master step = rw (same.cell, same.rows, same.terms) step
 
     up_rows : changed_rows w.rows (up_edits w.rows) ≡ changed_rows p.rows (up_edits p.rows)
     up_rows = ap (λ rows. changed_rows rows (up_edits rows)) same.rows
@@ -356,7 +356,7 @@ module _ (w : WorldState) (entries : List Entry) (now : Clocks) (timely : IsTime
             master = refl;
             clients = λ n. clients_stay (λ number. at_up now.master) (λ number member. refl) w.clients n ∙ same.clients n;
             messages = same.messages;
-            lease = same.lease;
+            terms = same.terms;
           });
           timely = record {
             early = moments.master;
@@ -377,7 +377,7 @@ module _ (w : WorldState) (entries : List Entry) (now : Clocks) (timely : IsTime
           typed = tt;
           at = λ leave. read_as_is now.master w.master leave (none_is t.none);
           mirrors = subst (λ q. Mirrors q after) (sym t.left)
-              (record { cell = same.cell; rows = up_rows; master = same.master; clients = same.clients; messages = same.messages; lease = same.lease });
+              (record { cell = same.cell; rows = up_rows; master = same.master; clients = same.clients; messages = same.messages; terms = same.terms });
           timely = record { early = timely.early; master = timely.master; each = timely.each; fair = timely.fair };
         }
 
@@ -399,7 +399,7 @@ module _ (w : WorldState) (entries : List Entry) (now : Clocks) (timely : IsTime
     pub joins_mirrors : (n : ℕ) (principal : List ℕ) (new : Parts) (printed : List Line) → BeginsBy p n principal new printed → Mirrors new (joined n principal)
     joins_mirrors n principal new printed t =
         subst (λ q. Mirrors q (joined n principal)) (sym t.left)
-        (record { cell = same.cell; rows = same.rows; master = same.master; clients = put_clients w.clients p.clients n (new_member n principal w.clock) same.clients; messages = same.messages; lease = same.lease })
+        (record { cell = same.cell; rows = same.rows; master = same.master; clients = put_clients w.clients p.clients n (new_member n principal w.clock) same.clients; messages = same.messages; terms = same.terms })
 
     -- its own clock alone moves
     abbrev alone_moves : ℕ → ℕ → ℕ

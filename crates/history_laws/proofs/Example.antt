@@ -2,6 +2,7 @@
 use Rattle.std.proofs.Common.{◌≡◌, ℕ, ◌+◌, ◌≤◌, List, [], ◌∷◌, Option, Some, None, true, false, map, refl, sym, ◌∙◌, arith}
 use Rattle.std.specs.Prelude.{is_some}
 use Rattle.rows_cell.specs.Opening.{opening}
+use Rattle.rows_cell.specs.Settings.{terms_of}
 use Rattle.tags_cell.specs.declared.messages.requests.Request.{Request}
 use Rattle.tags_cell.specs.declared.messages.outs.Out.{Out}
 use Rattle.cell_core.specs.Step.{take_step}
@@ -22,7 +23,7 @@ no_move = record { master = omega arith; fair = λ n. omega arith }
 no_later : AreMoments no_time
 no_later = record { master = omega arith; client = λ n. omega arith }
 
-it_goes : is_some (go (nothing_yet a_cell.cell (opening a_cell) a_cell.lease) two_programs) ≡ true
+it_goes : is_some (go (nothing_yet a_cell.cell (opening a_cell) (terms_of a_cell)) two_programs) ≡ true
 unfolding take_step sweep_step beat_step give_step
 it_goes = refl
 
@@ -41,8 +42,8 @@ stand_still (deed ∷ deeds) = (no_later, go_still deeds, keep_still deeds, stan
 
 pub two_are_possible : TwoProgramsArePossible
 two_are_possible =
-    let is = found (go (nothing_yet a_cell.cell (opening a_cell) a_cell.lease) two_programs) it_goes in
-    record { printed = is.0.1; end = is.0.0; history = go_so two_programs (nothing_yet a_cell.cell (opening a_cell) a_cell.lease) is.0 is.1; fair = stand_still deeds_of_two }
+    let is = found (go (nothing_yet a_cell.cell (opening a_cell) (terms_of a_cell)) two_programs) it_goes in
+    record { printed = is.0.1; end = is.0.0; history = go_so two_programs (nothing_yet a_cell.cell (opening a_cell) (terms_of a_cell)) is.0 is.1; fair = stand_still deeds_of_two }
 
 pub nothing_comes : NothingComesOfNobody
 nothing_comes p new clocks at printed = (

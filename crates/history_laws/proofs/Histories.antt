@@ -14,6 +14,7 @@ use Rattle.world_cell.specs.Slices.{lease_shown, client_of as seen_as}
 use Rattle.world_cell.proofs.SliceLeases.{joint_everywhere}
 use Rattle.world_cell.proofs.MembersFound.{member_at}
 use Rattle.node_core.specs.declared.lines.Line.{Line}
+use Rattle.rows_cell.specs.declared.settings.MasterTerms.{MasterTerms}
 use Rattle.rows_cell.specs.declared.tables.Rows.{Rows}
 use Rattle.rows_cell.specs.Rows.{map_of}
 use Rattle.node_core.specs.Nodes.{Nodes, view_at}
@@ -211,19 +212,19 @@ goes_on_from : (entries : List Entry) → GoOn no_clocks entries
 goes_on_from [] = tt
 goes_on_from (entry ∷ entries) = λ number. omega arith
 
-began : (cell : List ℕ) (rows : Rows) (lease : ℕ) (entries : List Entry) → IsTimelyWorld (new_world cell rows lease) entries no_clocks
-began cell rows lease entries = record { early = omega arith; master = tt; each = tt; fair = tt }
+began : (cell : List ℕ) (rows : Rows) (terms : MasterTerms) (entries : List Entry) → IsTimelyWorld (new_world cell rows terms) entries no_clocks
+began cell rows terms entries = record { early = omega arith; master = tt; each = tt; fair = tt }
 
-began_mirrors : (cell : List ℕ) (rows : Rows) (lease : ℕ) → Mirrors (nothing_yet cell rows lease) (new_world cell rows lease)
-began_mirrors cell rows lease = record { cell = refl; rows = refl; master = refl; clients = λ n. refl; messages = refl; lease = refl }
+began_mirrors : (cell : List ℕ) (rows : Rows) (terms : MasterTerms) → Mirrors (nothing_yet cell rows terms) (new_world cell rows terms)
+began_mirrors cell rows terms = record { cell = refl; rows = refl; master = refl; clients = λ n. refl; messages = refl; terms = refl }
 
-whole : (cell : List ℕ) (rows : Rows) (lease : ℕ) (entries : List Entry) (printed : List Line) (end : Parts) → History (nothing_yet cell rows lease) entries printed end → AreFair entries → Mirrored (new_world cell rows lease) [] printed end
-whole cell rows lease entries printed end h fair =
-    history_on (nothing_yet cell rows lease) (new_world cell rows lease) [] no_clocks entries printed end (began_mirrors cell rows lease) (began cell rows lease entries) (goes_on_from entries) fair h
+whole : (cell : List ℕ) (rows : Rows) (terms : MasterTerms) (entries : List Entry) (printed : List Line) (end : Parts) → History (nothing_yet cell rows terms) entries printed end → AreFair entries → Mirrored (new_world cell rows terms) [] printed end
+whole cell rows terms entries printed end h fair =
+    history_on (nothing_yet cell rows terms) (new_world cell rows terms) [] no_clocks entries printed end (began_mirrors cell rows terms) (began cell rows terms entries) (goes_on_from entries) fair h
 
 pub are_runs : HistoriesAreRuns
-are_runs cell rows lease entries printed end h fair =
-    let all = whole cell rows lease entries printed end h fair in
+are_runs cell rows terms entries printed end h fair =
+    let all = whole cell rows terms entries printed end h fair in
     let same = all.mirrors in
     record {
       steps = all.made;
@@ -233,15 +234,15 @@ are_runs cell rows lease entries printed end h fair =
     }
 
 pub hold : HistoriesHold
-hold cell rows lease entries printed end range h fair =
-    let is = are_runs cell rows lease entries printed end h fair in
-    (is, runs_hold (new_view cell rows lease) (λ sure. new_holds cell rows lease range) is.steps printed is.new is.run is.holds.undoubted)
+hold cell rows terms entries printed end range h fair =
+    let is = are_runs cell rows terms entries printed end h fair in
+    (is, runs_hold (new_view cell rows terms) (λ sure. new_holds cell rows terms range) is.steps printed is.new is.run is.holds.undoubted)
 
 -- the call that a client waits for was told
-pub was_asked : (cell : List ℕ) (rows : Rows) (lease : ℕ) (entries : List Entry) (printed : List Line) (end : Parts) (number : ℕ) (client : ClientState) (call : Outstanding) → lease ≤ longest_lease → History (nothing_yet cell rows lease) entries printed end → AreFair entries → end.clients number ≡ Some client → client.outstanding ≡ Some call → HasAsked end.told client call
-was_asked cell rows lease entries printed end number client call range h fair there waits =
-    let all = whole cell rows lease entries printed end h fair in
-    let fits = run_fits (view (new_world cell rows lease) []) all.made printed (view all.behind all.left) (new_holds cell rows lease range) all.run refl in
+pub was_asked : (cell : List ℕ) (rows : Rows) (terms : MasterTerms) (entries : List Entry) (printed : List Line) (end : Parts) (number : ℕ) (client : ClientState) (call : Outstanding) → terms.lease ≤ longest_lease → History (nothing_yet cell rows terms) entries printed end → AreFair entries → end.clients number ≡ Some client → client.outstanding ≡ Some call → HasAsked end.told client call
+was_asked cell rows terms entries printed end number client call range h fair there waits =
+    let all = whole cell rows terms entries printed end h fair in
+    let fits = run_fits (view (new_world cell rows terms) []) all.made printed (view all.behind all.left) (new_holds cell rows terms range) all.run refl in
     let mine = found_client (member_at all.behind.clients number) client (all.mirrors.clients number ∙ there) in
     let held : Holds all.behind.messages client = subst (λ (c : ClientState). Holds all.behind.messages c) mine.2 (fits.holds number mine.0 mine.1) in
     (subst (λ (sent : List Message). Holds sent client) all.mirrors.messages held).asked call waits
@@ -258,8 +259,8 @@ last_on p w leave here (entry ∷ entries) last printed mid new told same timely
     last_on h.0 first.behind first.left entry.clocks entries last h.2 mid new told first.mirrors first.timely fair.1 fair.3 fits_there h.4 does
 
 pub caches_show : CachesShowTheRows
-caches_show cell rows lease entries printed here new last told range h does fair =
-    last_on (nothing_yet cell rows lease) (new_world cell rows lease) [] no_clocks entries last printed here new told (began_mirrors cell rows lease) (began cell rows lease (entries ++ last ∷ [])) (goes_on_from (entries ++ last ∷ [])) fair (new_holds cell rows lease range) h does
+caches_show cell rows terms entries printed here new last told range h does fair =
+    last_on (nothing_yet cell rows terms) (new_world cell rows terms) [] no_clocks entries last printed here new told (began_mirrors cell rows terms) (began cell rows terms (entries ++ last ∷ [])) (goes_on_from (entries ++ last ∷ [])) fair (new_holds cell rows terms range) h does
 
 -- ---- what a cache would answer
 
@@ -308,6 +309,6 @@ answer_on p w leave here now (first ∷ entries) printed end number client name 
     answer_on h.0 enters.behind enters.left first.clocks now entries h.2 end number client name entry enters.mirrors enters.timely fair.1 fair.3 fits_there h.4 there is
 
 pub caches_answer : CachesAnswerTheRows
-caches_answer cell rows lease entries printed here now number client name entry range h fair there is =
+caches_answer cell rows terms entries printed here now number client name entry range h fair there is =
     let all = entries ++ record { clocks = now; deed = Goes } ∷ [] in
-    answer_on (nothing_yet cell rows lease) (new_world cell rows lease) [] no_clocks now entries printed here number client name entry (began_mirrors cell rows lease) (began cell rows lease all) (goes_on_from all) fair (new_holds cell rows lease range) h there is
+    answer_on (nothing_yet cell rows terms) (new_world cell rows terms) [] no_clocks now entries printed here number client name entry (began_mirrors cell rows terms) (began cell rows terms all) (goes_on_from all) fair (new_holds cell rows terms range) h there is

@@ -53,7 +53,7 @@ use Rattle.history_laws.specs.Hosted.{swept_lines, swept_outs, settled_lines, se
 abbrev placed : Parts → CellState → List Out → Parts
 placed p cell outs = behind_frame p (with_master cell) outs
 
-told_more : (told : List Message) (a b : List Out) → (told ++ map ToClient a) ++ map ToClient b ≡ told ++ map ToClient (a ++ b)
+pub told_more : (told : List Message) (a b : List Out) → (told ++ map ToClient a) ++ map ToClient b ≡ told ++ map ToClient (a ++ b)
 told_more told a b = append_assoc told (map ToClient a) (map ToClient b) ∙ ap (λ ms. told ++ ms) (sym (map-append ToClient a b))
 
 placed_again : (p : Parts) (mid new : CellState) (a b : List Out) → placed (placed p mid a) new b ≡ placed p new (a ++ b)
@@ -61,7 +61,7 @@ placed_again p mid new a b = ap (λ told. record p { rows = new.store.rows; mast
 
 -- ---- histories, one behind the other
 
-history_append : (old mid new : Parts) (first second : List Entry) (printed told : List Line) → History old first printed mid → History mid second told new → History old (first ++ second) (printed ++ told) new
+pub history_append : (old mid new : Parts) (first second : List Entry) (printed told : List Line) → History old first printed mid → History mid second told new → History old (first ++ second) (printed ++ told) new
 history_append old mid new [] second printed told one two = rw (sym one.1, one.0) two
 history_append old mid new (entry ∷ first) second printed told one two =
     (one.0, one.1, one.2 ++ told, one.3, history_append one.0 mid new first second one.2 told one.4 two, ap (λ l. l ++ told) one.5 ∙ append_assoc one.1 one.2 told)
@@ -173,7 +173,7 @@ settles_are clocks now at p old new settled has h =
 
 -- ---- the store behind them
 
-record IsLater (old new : Store) : Type 0 where
+pub record IsLater (old new : Store) : Type 0 where
   cell : new.cell ≡ old.cell
   doubted : old.doubt ≤ new.doubt
 
@@ -183,7 +183,7 @@ at_once s = record { cell = refl; doubted = omega arith }
 later_on : (a b c : Store) → IsLater a b → IsLater b c → IsLater a c
 later_on a b c one two = let x = one.doubted in let y = two.doubted in record { cell = two.cell ∙ one.cell; doubted = omega arith }
 
-as_same : (a b : Store) → b ≡ a → IsLater a b
+pub as_same : (a b : Store) → b ≡ a → IsLater a b
 as_same a b same = rw same (at_once a)
 
 steps_later : (Once : CellState → Swept → CellState → Type 0) → ((old new : CellState) (swept : Swept) → Once old swept new → IsLater old.store new.store) → (old new : CellState) (sweeps : List Swept) → StepsTo Once old sweeps new → IsLater old.store new.store
@@ -230,13 +230,13 @@ has_cell : (p : Parts) (master : MasterState) (store : Store) → p.master ≡ S
 has_cell p master store up rows = record { master = up; rows = rows }
 
 -- nothing changes
-same_behind : (p : Parts) (host : Hosted) → p.master ≡ host.master → p.rows ≡ host.store.rows → behind_frame p host [] ≡ p
+pub same_behind : (p : Parts) (host : Hosted) → p.master ≡ host.master → p.rows ≡ host.store.rows → behind_frame p host [] ≡ p
 same_behind p host up rows = ap (λ m. record p { rows = host.store.rows; master = m; told = p.told ++ [] }) (sym up) ∙ ap (λ r. record p { rows = r; told = p.told ++ [] }) (sym rows) ∙ ap (λ told. record p { told = told }) (append-nil p.told)
 
 nothing : (p : Parts) (clocks : Clocks) (old new : Hosted) → IsHostedIn p old → new ≡ old → AreDeeds p clocks [] (behind_frame p new [])
 nothing p clocks old new in_it same = rw same (subst (λ q. AreDeeds p clocks [] q) (sym (same_behind p old in_it.master in_it.rows)) (no_deeds p clocks))
 
-stays_in : (p : Parts) (old new : Hosted) (outs : List Out) → IsHostedIn p old → IsLater old.store new.store → IsHostedIn (behind_frame p new outs) new
+pub stays_in : (p : Parts) (old new : Hosted) (outs : List Out) → IsHostedIn p old → IsLater old.store new.store → IsHostedIn (behind_frame p new outs) new
 stays_in p old new outs in_it later = record { master = refl; rows = refl; cell = in_it.cell ∙ sym later.cell }
 
 module _ (p : Parts) (clocks : Clocks) (now : ℕ) (at : clocks.master ≡ now) (store : Store) where
@@ -278,10 +278,10 @@ module _ (p : Parts) (clocks : Clocks) (now : ℕ) (at : clocks.master ≡ now) 
   )
 
   -- a master comes up
-  up_is : (read : Store) (cell : CellState) → IsHostedIn p (without_master store) → AreInOrder p.rows → read ≡ store → up_step read.cell read.rows p.lease now ≡ Ok cell.master → IsCommitted (up_edits read.rows) read cell.store → AreDeeds p clocks (lines.Up cell.master.epoch ∷ []) (placed p cell [])
+  up_is : (read : Store) (cell : CellState) → IsHostedIn p (without_master store) → AreInOrder p.rows → read ≡ store → up_step read.cell read.rows p.terms now ≡ Ok cell.master → IsCommitted (up_edits read.rows) read cell.store → AreDeeds p clocks (lines.Up cell.master.epoch ∷ []) (placed p cell [])
   up_is read cell in_it ordered same came committed =
       let rows : cell.store.rows ≡ changed_rows p.rows (up_edits p.rows) = committed.rows ∙ ap (λ (s : Store). changed_rows s.rows (up_edits s.rows)) same ∙ ap (λ r. changed_rows r (up_edits r)) (sym in_it.rows) in
-      let step : up_step p.cell p.rows p.lease clocks.master ≡ Ok cell.master = rw (in_it.cell, in_it.rows, at) (subst (λ (s : Store). up_step s.cell s.rows p.lease now ≡ Ok cell.master) same came) in
+      let step : up_step p.cell p.rows p.terms clocks.master ≡ Ok cell.master = rw (in_it.cell, in_it.rows, at) (subst (λ (s : Store). up_step s.cell s.rows p.terms now ≡ Ok cell.master) same came) in
       one_deed p (placed p cell []) clocks ComesUp (lines.Up cell.master.epoch ∷ []) (record {
         master = cell.master;
         none = in_it.master;
@@ -291,7 +291,7 @@ module _ (p : Parts) (clocks : Clocks) (now : ℕ) (at : clocks.master ≡ now) 
         prints = refl;
       })
 
-  came_is : (epoch : ℕ) (settled : Settled) (new : Hosted) → IsHostedIn p (without_master store) → AreInOrder p.rows → new.store.doubt ≡ 0 → CameUp p.lease now store epoch settled new → Is p clocks new (replies.Came epoch settled)
+  came_is : (epoch : ℕ) (settled : Settled) (new : Hosted) → IsHostedIn p (without_master store) → AreInOrder p.rows → new.store.doubt ≡ 0 → CameUp p.terms now store epoch settled new → Is p clocks new (replies.Came epoch settled)
   came_is epoch settled new in_it ordered sure h =
       let cell : CellState = h.cell in
       let after : CellState = h.after in
@@ -311,7 +311,7 @@ module _ (p : Parts) (clocks : Clocks) (now : ℕ) (at : clocks.master ≡ now) 
       rw h.up (told, stays_in p (without_master store) (with_master after) (settled_outs settled) in_it stays)
 
   -- or none does
-  kept_by : (fault : Fault) (new read : Store) → IsRead store read → new.doubt ≡ 0 → ((up_step read.cell read.rows p.lease now ≡ Err fault) × (new ≡ read)) ⊎ IsRefused fault (up_commit (up_step read.cell read.rows p.lease now) read.rows) read new → (new.rows ≡ store.rows) × (new.cell ≡ store.cell)
+  kept_by : (fault : Fault) (new read : Store) → IsRead store read → new.doubt ≡ 0 → ((up_step read.cell read.rows p.terms now ≡ Err fault) × (new ≡ read)) ⊎ IsRefused fault (up_commit (up_step read.cell read.rows p.terms now) read.rows) read new → (new.rows ≡ store.rows) × (new.cell ≡ store.cell)
   kept_by fault new read was_read sure (inl same) =
       let none : read.doubt ≡ 0 = ap (λ (s : Store). s.doubt) (sym same.1) ∙ sure in
       let is : new ≡ store = same.1 ∙ was_read.same none in
@@ -322,15 +322,15 @@ module _ (p : Parts) (clocks : Clocks) (now : ℕ) (at : clocks.master ≡ now) 
       let is : read ≡ store = was_read.same none in
       (refused.rows ∙ ap (λ (s : Store). s.rows) is, refused.cell ∙ ap (λ (s : Store). s.cell) is)
 
-  kept_down : (fault : Fault) (new : Store) → IsKeptDown p.lease now fault store new → new.doubt ≡ 0 → (new.rows ≡ store.rows) × (new.cell ≡ store.cell)
+  kept_down : (fault : Fault) (new : Store) → IsKeptDown p.terms now fault store new → new.doubt ≡ 0 → (new.rows ≡ store.rows) × (new.cell ≡ store.cell)
   kept_down fault new h sure = kept_by fault new h.read h.was_read sure h.why
 
-  down_so : (fault : Fault) (new : Store) → StaysDown p.lease now fault store new → new.doubt ≡ 0 → (new.rows ≡ store.rows) × (new.cell ≡ store.cell)
+  down_so : (fault : Fault) (new : Store) → StaysDown p.terms now fault store new → new.doubt ≡ 0 → (new.rows ≡ store.rows) × (new.cell ≡ store.cell)
   down_so fault new (inl late) sure = (ap (λ (s : Store). s.rows) late.2, ap (λ (s : Store). s.cell) late.2)
   down_so fault new (inr (early, inl unread)) sure = (unread.rows, unread.cell)
   down_so fault new (inr (early, inr kept)) sure = kept_down fault new kept sure
 
-  down_is : (fault : Fault) (new : Hosted) → IsHostedIn p (without_master store) → new.store.doubt ≡ 0 → StaysDown p.lease now fault store new.store → new.master ≡ None → Is p clocks new (replies.Refused fault)
+  down_is : (fault : Fault) (new : Hosted) → IsHostedIn p (without_master store) → new.store.doubt ≡ 0 → StaysDown p.terms now fault store new.store → new.master ≡ None → Is p clocks new (replies.Refused fault)
   down_is fault new in_it sure h none =
       let same = down_so fault new.store h sure in
       (subst (λ q. AreDeeds p clocks [] q) (sym (same_behind p new (in_it.master ∙ sym none) (in_it.rows ∙ sym same.0))) (no_deeds p clocks), record { master = refl; rows = refl; cell = in_it.cell ∙ sym same.1 })
@@ -341,7 +341,7 @@ turned_away : (p : Parts) (clocks : Clocks) (old new : Hosted) (reply : Reply) �
 turned_away p clocks old new reply silent none in_it same =
     rw (silent, none) (nothing p clocks old new in_it same, stays_in p old new [] in_it (as_same old.store new.store (ap (λ (x : Hosted). x.store) same)))
 
-arrives : (p : Parts) (clocks : Clocks) (now : ℕ) → clocks.master ≡ now → (m : Option MasterState) (store : Store) (new : Hosted) (reply : Reply) → IsHostedIn p (record { master = m; store = store }) → AreInOrder p.rows → new.store.doubt ≡ 0 → Arrives p.lease now m store reply new → Is p clocks new reply
+arrives : (p : Parts) (clocks : Clocks) (now : ℕ) → clocks.master ≡ now → (m : Option MasterState) (store : Store) (new : Hosted) (reply : Reply) → IsHostedIn p (record { master = m; store = store }) → AreInOrder p.rows → new.store.doubt ≡ 0 → Arrives p.terms now m store reply new → Is p clocks new reply
 arrives p clocks now at None store new (replies.Came epoch settled) in_it ordered sure h = came_is p clocks now at store epoch settled new in_it ordered sure h
 arrives p clocks now at None store new (replies.Refused fault) in_it ordered sure h = down_is p clocks now at store fault new in_it sure h.0 h.1
 arrives p clocks now at None store new (replies.Bad fault) in_it ordered sure h = absurd h

@@ -11,6 +11,7 @@ use Rattle.node_core.specs.Limits.{number_end}
 use Rattle.node_core.specs.declared.lines.Line.{Line}
 use Rattle.node_core.specs.declared.refusals.Fault.{Fault}
 use Rattle.node_core.specs.declared.refusals.Fault.TheVariants as faults
+use Rattle.rows_cell.specs.declared.settings.MasterTerms.{MasterTerms}
 use Rattle.rows_cell.specs.declared.tables.Rows.{Rows}
 use Rattle.tags_cell.specs.declared.messages.requests.Request.{Request}
 use Rattle.tags_cell.specs.declared.messages.requests.Request.TheVariants as requests
@@ -363,21 +364,21 @@ module _ (number : ℕ) (client : ClientState) (more : List Message) (p : Parts)
 -- ---- histories with a keeper
 
 -- a history of parts alone that leads to a shadow of these parts
-record Shaded (cell : List ℕ) (rows : Rows) (lease number : ℕ) (done : List Entry) (client : ClientState) (more : List Message) (p : Parts) : Type 0 where
+record Shaded (cell : List ℕ) (rows : Rows) (terms : MasterTerms) (number : ℕ) (done : List Entry) (client : ClientState) (more : List Message) (p : Parts) : Type 0 where
   pub entries : List Entry
   pub printed : List Line
   pub of : ℕ → Option ClientState
   pub sent : List Message
-  pub history : History (nothing_yet cell rows lease) entries printed (shade p of sent)
+  pub history : History (nothing_yet cell rows terms) entries printed (shade p of sent)
   pub thins : Thins entries done
   pub shades : Shades number client more p of sent
 
 -- One whose client has the cache that was published last; and one whose client is the keeper's, and whose messages hold that of a call that is late
-record Cast (cell : List ℕ) (rows : Rows) (lease number : ℕ) (done : List Entry) (k : KeptParts) : Type 0 where
+record Cast (cell : List ℕ) (rows : Rows) (terms : MasterTerms) (number : ℕ) (done : List Entry) (k : KeptParts) : Type 0 where
   pub before : ClientState
   pub shows : EndsWith k.keeper.views before.cache
-  pub seen : Shaded cell rows lease number done before [] k.parts
-  pub ahead : Shaded cell rows lease number done k.keeper.client (late_tells k.keeper.late) k.parts
+  pub seen : Shaded cell rows terms number done before [] k.parts
+  pub ahead : Shaded cell rows terms number done k.keeper.client (late_tells k.keeper.late) k.parts
 
 -- the client goes on to this state, and these messages are handed out
 abbrev went : Parts → ℕ → ClientState → List Message → Parts
@@ -419,9 +420,9 @@ its_call : (o : Option Outstanding) (request : Request) → option_map (λ call.
 its_call None request h = cc
 its_call (Some call) request h = (call, refl, cc)
 
-module _ (cell : List ℕ) (rows : Rows) (lease number : ℕ) (done : List Entry) where
+module _ (cell : List ℕ) (rows : Rows) (terms : MasterTerms) (number : ℕ) (done : List Entry) where
   -- nothing of an entry is seen there
-  drops : (client : ClientState) (more : List Message) (p : Parts) (y : Entry) → begins_life y.deed ≡ false → Shaded cell rows lease number done client more p → Shaded cell rows lease number (done ++ y ∷ []) client more p
+  drops : (client : ClientState) (more : List Message) (p : Parts) (y : Entry) → begins_life y.deed ≡ false → Shaded cell rows terms number done client more p → Shaded cell rows terms number (done ++ y ∷ []) client more p
   drops client more p y life s = record {
     entries = s.entries;
     printed = s.printed;
@@ -433,7 +434,7 @@ module _ (cell : List ℕ) (rows : Rows) (lease number : ℕ) (done : List Entry
   }
 
   others_on : (client : ClientState) (more : List Message) (p new : Parts) (y : Entry) (printed : List Line) → IsOfOthers number p.told y.deed → Does p y.clocks y.deed new printed
-      → Shaded cell rows lease number done client more p → Shaded cell rows lease number (done ++ y ∷ []) client more new
+      → Shaded cell rows terms number done client more p → Shaded cell rows terms number (done ++ y ∷ []) client more new
   others_on client more p new y printed apart does s =
       let c = casts number client more p s.of s.sent s.shades y.clocks y.deed printed new apart does in
       let x : Entry = record { clocks = y.clocks; deed = c.there } in
@@ -442,15 +443,15 @@ module _ (cell : List ℕ) (rows : Rows) (lease number : ℕ) (done : List Entry
         printed = s.printed ++ printed;
         of = c.clients;
         sent = c.messages;
-        history = history_more (nothing_yet cell rows lease) (shade p s.of s.sent) (shade new c.clients c.messages) s.entries x s.printed printed s.history c.does;
+        history = history_more (nothing_yet cell rows terms) (shade p s.of s.sent) (shade new c.clients c.messages) s.entries x s.printed printed s.history c.does;
         thins = thins_keep s.entries done x y refl c.life s.thins;
         shades = c.shades;
       }
 
   -- a step of the kept client, which there tells these messages: some are handed out, and the others wait
-  own_on : (client next : ClientState) (p : Parts) (y : Entry) (deed : Deed) (printed : List Line) (out rest tells : List Message) (s : Shaded cell rows lease number done client [] p) → begins_life y.deed ≡ false → begins_life deed ≡ false → ((m : Message) → Among m (out ++ rest) → Among m tells)
+  own_on : (client next : ClientState) (p : Parts) (y : Entry) (deed : Deed) (printed : List Line) (out rest tells : List Message) (s : Shaded cell rows terms number done client [] p) → begins_life y.deed ≡ false → begins_life deed ≡ false → ((m : Message) → Among m (out ++ rest) → Among m tells)
       → Does (shade p s.of s.sent) y.clocks deed (shade p (with_client s.of number next) (s.sent ++ tells)) printed
-      → Shaded cell rows lease number (done ++ y ∷ []) next rest (went p number next out)
+      → Shaded cell rows terms number (done ++ y ∷ []) next rest (went p number next out)
   own_on client next p y deed printed out rest tells s life here fit does =
       let x : Entry = record { clocks = y.clocks; deed = deed } in
       record {
@@ -458,7 +459,7 @@ module _ (cell : List ℕ) (rows : Rows) (lease number : ℕ) (done : List Entry
         printed = s.printed ++ printed;
         of = with_client s.of number next;
         sent = s.sent ++ tells;
-        history = history_more (nothing_yet cell rows lease) (shade p s.of s.sent) (shade p (with_client s.of number next) (s.sent ++ tells)) s.entries x s.printed printed s.history does;
+        history = history_more (nothing_yet cell rows terms) (shade p s.of s.sent) (shade p (with_client s.of number next) (s.sent ++ tells)) s.entries x s.printed printed s.history does;
         thins = thins_keep s.entries done x y refl (here ∙ sym life) s.thins;
         shades = record {
           others = λ n apart. with_other s.of number next n apart ∙ s.shades.others n apart ∙ sym (with_other p.clients number next n apart);
@@ -474,22 +475,22 @@ module _ (cell : List ℕ) (rows : Rows) (lease number : ℕ) (done : List Entry
       }
 
   asks_on : (client next : ClientState) (p : Parts) (y : Entry) (ask : Ask) (asked : Asked) → begins_life y.deed ≡ false → ask_step client (y.clocks.client number) ask ≡ (next, Ok asked)
-      → (out rest : List Message) → ((m : Message) → Among m (out ++ rest) → Among m (asked_tells asked)) → Shaded cell rows lease number done client [] p
-      → Shaded cell rows lease number (done ++ y ∷ []) next rest (went p number next out)
+      → (out rest : List Message) → ((m : Message) → Among m (out ++ rest) → Among m (asked_tells asked)) → Shaded cell rows terms number done client [] p
+      → Shaded cell rows terms number (done ++ y ∷ []) next rest (went p number next out)
   asks_on client next p y ask asked life step out rest fit s =
       own_on client next p y (Asks number ask) (ended_by asked.lines asked.outcome) out rest (asked_tells asked) s life refl fit
       (record { client = client; next = next; asked = asked; there = s.shades.own; step = step; left = refl; prints = refl })
 
   beats_on : (client next : ClientState) (p : Parts) (y : Entry) (beaten : Beaten) → begins_life y.deed ≡ false → beat_step client (y.clocks.client number) ≡ (next, Ok beaten)
-      → (out rest : List Message) → ((m : Message) → Among m (out ++ rest) → Among m (beaten_tells beaten)) → Shaded cell rows lease number done client [] p
-      → Shaded cell rows lease number (done ++ y ∷ []) next rest (went p number next out)
+      → (out rest : List Message) → ((m : Message) → Among m (out ++ rest) → Among m (beaten_tells beaten)) → Shaded cell rows terms number done client [] p
+      → Shaded cell rows terms number (done ++ y ∷ []) next rest (went p number next out)
   beats_on client next p y beaten life step out rest fit s =
       own_on client next p y (Beats number) beaten.lines out rest (beaten_tells beaten) s life refl fit
       (record { client = client; next = next; beaten = beaten; there = s.shades.own; step = step; left = refl; prints = refl })
 
   hears_on : (client next : ClientState) (p : Parts) (y : Entry) (at : ℕ) (message : Out) (given : Given) → begins_life y.deed ≡ false → out_at p.told at ≡ Some message → out_client message ≡ number → give_step client (y.clocks.client number) message ≡ (next, Ok given)
-      → (out rest : List Message) → ((m : Message) → Among m (out ++ rest) → Among m (given_tells given)) → Shaded cell rows lease number done client [] p
-      → Shaded cell rows lease number (done ++ y ∷ []) next rest (went p number next out)
+      → (out rest : List Message) → ((m : Message) → Among m (out ++ rest) → Among m (given_tells given)) → Shaded cell rows terms number done client [] p
+      → Shaded cell rows terms number (done ++ y ∷ []) next rest (went p number next out)
   hears_on client next p y at message given life was own step out rest fit s =
       let place = found_out number client [] p s.of s.sent s.shades at message was in
       let there : s.of (out_client message) ≡ Some client = ap s.of own ∙ s.shades.own in
@@ -507,7 +508,7 @@ module _ (cell : List ℕ) (rows : Rows) (lease number : ℕ) (done : List Entry
   less_told p more m a = elim (among_either m (p.told ++ []) more a) [ inl b ↦ among_left m p.told more (none_more m p.told b) | inr b ↦ among_right m p.told more b ]
 
   -- no message is handed out, and the keeper's client is another
-  behind : (client next : ClientState) (more : List Message) (p : Parts) (y : Entry) → begins_life y.deed ≡ false → Shaded cell rows lease number done client more p → Shaded cell rows lease number (done ++ y ∷ []) client more (went p number next [])
+  behind : (client next : ClientState) (more : List Message) (p : Parts) (y : Entry) → begins_life y.deed ≡ false → Shaded cell rows terms number done client more p → Shaded cell rows terms number (done ++ y ∷ []) client more (went p number next [])
   behind client next more p y life s =
       let d = drops client more p y life s in
       record {
@@ -522,60 +523,60 @@ module _ (cell : List ℕ) (rows : Rows) (lease number : ℕ) (done : List Entry
 
   abbrev Leads : {X : Type 0} → (X → List Message) → ClientState → ClientState × Result X Fault → Parts → Entry → Type 0
   Leads {X} tells client step p y =
-      (next : ClientState) (answer : X) → step ≡ (next, Ok answer) → (out rest : List Message) → ((m : Message) → Among m (out ++ rest) → Among m (tells answer)) → Shaded cell rows lease number done client [] p
-      → Shaded cell rows lease number (done ++ y ∷ []) next rest (went p number next out)
+      (next : ClientState) (answer : X) → step ≡ (next, Ok answer) → (out rest : List Message) → ((m : Message) → Among m (out ++ rest) → Among m (tells answer)) → Shaded cell rows terms number done client [] p
+      → Shaded cell rows terms number (done ++ y ∷ []) next rest (went p number next out)
 
   keeper_on : {X : Type 0} (keep : X → Kept) (tells : X → List Message) (old new : KeeperState) (result : Result X Fault) (step : ClientState × Result X Fault) (p : Parts) (y : Entry)
       → begins_life y.deed ≡ false → ((answer : X) → late_tells (Some (keep answer)) ≡ tells answer) → old.late ≡ None → Publishes keep old new result (unless_last old.client old.views step) → Leads tells old.client step p y
-      → Cast cell rows lease number done (record { parts = p; keeper = old }) → Cast cell rows lease number (done ++ y ∷ []) (record { parts = went p number new.client (handed tells result); keeper = new })
+      → Cast cell rows terms number done (record { parts = p; keeper = old }) → Cast cell rows terms number (done ++ y ∷ []) (record { parts = went p number new.client (handed tells result); keeper = new })
   keeper_on keep tells old new (Ok answer) step p y life late on_time (is, none, shows) leads c =
-      let ahead : Shaded cell rows lease number done old.client [] p = subst (λ l. Shaded cell rows lease number done old.client (late_tells l) p) on_time c.ahead in
+      let ahead : Shaded cell rows terms number done old.client [] p = subst (λ l. Shaded cell rows terms number done old.client (late_tells l) p) on_time c.ahead in
       let next = leads new.client answer (unless_ok old.client new.client old.views step answer is) (tells answer) [] (λ m h. none_more m (tells answer) h) ahead in
       record {
         before = new.client;
         shows = ends old.views new.client.cache new.views shows;
         seen = next;
-        ahead = subst (λ l. Shaded cell rows lease number (done ++ y ∷ []) new.client (late_tells l) (went p number new.client (tells answer))) (sym none) next;
+        ahead = subst (λ l. Shaded cell rows terms number (done ++ y ∷ []) new.client (late_tells l) (went p number new.client (tells answer))) (sym none) next;
       }
   keeper_on {X} keep tells old new (Err fault) step p y life late on_time publishes leads c =
-      by_fault fault (Cast cell rows lease number (done ++ y ∷ []) (record { parts = went p number new.client []; keeper = new }))
+      by_fault fault (Cast cell rows terms number (done ++ y ∷ []) (record { parts = went p number new.client []; keeper = new }))
       (λ other. stays (publishes.0 other).1)
       (λ memory. elim (publishes.1 memory) [ inl same ↦ stays same | inr falls ↦ falls_late falls ])
     where
-      stays : new ≡ old → Cast cell rows lease number (done ++ y ∷ []) (record { parts = went p number new.client []; keeper = new })
+      stays : new ≡ old → Cast cell rows terms number (done ++ y ∷ []) (record { parts = went p number new.client []; keeper = new })
       stays same =
-          subst (λ k. Cast cell rows lease number (done ++ y ∷ []) (record { parts = went p number k.client []; keeper = k })) (sym same) (record {
+          subst (λ k. Cast cell rows terms number (done ++ y ∷ []) (record { parts = went p number k.client []; keeper = k })) (sym same) (record {
             before = c.before;
             shows = c.shows;
             seen = behind c.before old.client [] p y life c.seen;
             ahead = behind old.client old.client (late_tells old.late) p y life c.ahead;
           })
 
-      falls_late : FallsLate keep old new (unless_last old.client old.views step) → Cast cell rows lease number (done ++ y ∷ []) (record { parts = went p number new.client []; keeper = new })
+      falls_late : FallsLate keep old new (unless_last old.client old.views step) → Cast cell rows terms number (done ++ y ∷ []) (record { parts = went p number new.client []; keeper = new })
       falls_late (answer, is, kept, views) =
-          let ahead : Shaded cell rows lease number done old.client [] p = subst (λ l. Shaded cell rows lease number done old.client (late_tells l) p) on_time c.ahead in
+          let ahead : Shaded cell rows terms number done old.client [] p = subst (λ l. Shaded cell rows terms number done old.client (late_tells l) p) on_time c.ahead in
           let next = leads new.client answer (unless_ok old.client new.client old.views step answer is) [] (tells answer) (λ m h. h) ahead in
           record {
             before = c.before;
             shows = subst (λ v. EndsWith v c.before.cache) (sym views) c.shows;
             seen = behind c.before new.client [] p y life c.seen;
-            ahead = subst (λ l. Shaded cell rows lease number (done ++ y ∷ []) new.client l (went p number new.client [])) (sym (ap late_tells kept ∙ late answer)) next;
+            ahead = subst (λ l. Shaded cell rows terms number (done ++ y ∷ []) new.client l (went p number new.client [])) (sym (ap late_tells kept ∙ late answer)) next;
           }
 
   -- what is shown once an answer that was kept is handed out
-  shown_then : (late : Option Kept) (views : List CacheState) (client before : ClientState) (p : Parts) (new : KeeperState) (y : Entry) → begins_life y.deed ≡ false → IsShown late views client.cache new.views → EndsWith views before.cache → Shaded cell rows lease number done before [] p
-      → Shaded cell rows lease number (done ++ y ∷ []) client [] (went p number client (late_tells late))
-      → (b : ClientState) × EndsWith new.views b.cache × Shaded cell rows lease number (done ++ y ∷ []) b [] (went p number client (late_tells late))
+  shown_then : (late : Option Kept) (views : List CacheState) (client before : ClientState) (p : Parts) (new : KeeperState) (y : Entry) → begins_life y.deed ≡ false → IsShown late views client.cache new.views → EndsWith views before.cache → Shaded cell rows terms number done before [] p
+      → Shaded cell rows terms number (done ++ y ∷ []) client [] (went p number client (late_tells late))
+      → (b : ClientState) × EndsWith new.views b.cache × Shaded cell rows terms number (done ++ y ∷ []) b [] (went p number client (late_tells late))
   shown_then None views client before p new y life shown last seen ahead = (before, subst (λ v. EndsWith v before.cache) (sym shown) last, behind before client [] p y life seen)
   shown_then (Some kept) views client before p new y life shown last seen ahead = (client, ends views client.cache new.views shown, ahead)
 
-  resumes_on : (k new : KeptParts) (y : Entry) → begins_life y.deed ≡ false → ResumesBy number k new → Cast cell rows lease number done k → Cast cell rows lease number (done ++ y ∷ []) new
+  resumes_on : (k new : KeptParts) (y : Entry) → begins_life y.deed ≡ false → ResumesBy number k new → Cast cell rows terms number done k → Cast cell rows terms number (done ++ y ∷ []) new
   resumes_on k new y life t c =
       let p = k.parts in
       let client = k.keeper.client in
       let tells = late_tells k.keeper.late in
       let d = drops client tells p y life c.ahead in
-      let ahead : Shaded cell rows lease number (done ++ y ∷ []) client [] (went p number client tells) = record {
+      let ahead : Shaded cell rows terms number (done ++ y ∷ []) client [] (went p number client tells) = record {
         entries = d.entries;
         printed = d.printed;
         of = d.of;
@@ -586,23 +587,23 @@ module _ (cell : List ℕ) (rows : Rows) (lease number : ℕ) (done : List Entry
       } in
       let next = shown_then k.keeper.late k.keeper.views client c.before p t.keeper y life t.shown c.shows c.seen ahead in
       let same : went p number client tells ≡ went p number t.keeper.client tells = ap (λ q. went p number q tells) (sym t.client) in
-      subst (Cast cell rows lease number (done ++ y ∷ [])) (sym t.left) (record {
+      subst (Cast cell rows terms number (done ++ y ∷ [])) (sym t.left) (record {
         before = next.0;
         shows = next.1;
-        seen = subst (Shaded cell rows lease number (done ++ y ∷ []) next.0 []) same next.2;
-        ahead = subst (λ l. Shaded cell rows lease number (done ++ y ∷ []) t.keeper.client (late_tells l) (went p number t.keeper.client tells)) (sym t.on_time)
-            (subst (λ q. Shaded cell rows lease number (done ++ y ∷ []) q [] (went p number q tells)) (sym t.client) ahead);
+        seen = subst (Shaded cell rows terms number (done ++ y ∷ []) next.0 []) same next.2;
+        ahead = subst (λ l. Shaded cell rows terms number (done ++ y ∷ []) t.keeper.client (late_tells l) (went p number t.keeper.client tells)) (sym t.on_time)
+            (subst (λ q. Shaded cell rows terms number (done ++ y ∷ []) q [] (went p number q tells)) (sym t.client) ahead);
       })
 
   -- a keeper that isn't late lends its client, whose message was told before
-  again_on : (p : Parts) (keeper : KeeperState) (client : ClientState) (request : Request) (y : Entry) → begins_life y.deed ≡ false → lease ≤ longest_lease → AreFair done → Lends keeper (Some client) → option_map (λ call. call.request) client.outstanding ≡ Some request
-      → Cast cell rows lease number done (record { parts = p; keeper = keeper }) → Cast cell rows lease number (done ++ y ∷ []) (record { parts = record p { told = p.told ++ ToMaster request ∷ [] }; keeper = keeper })
+  again_on : (p : Parts) (keeper : KeeperState) (client : ClientState) (request : Request) (y : Entry) → begins_life y.deed ≡ false → terms.lease ≤ longest_lease → AreFair done → Lends keeper (Some client) → option_map (λ call. call.request) client.outstanding ≡ Some request
+      → Cast cell rows terms number done (record { parts = p; keeper = keeper }) → Cast cell rows terms number (done ++ y ∷ []) (record { parts = record p { told = p.told ++ ToMaster request ∷ [] }; keeper = keeper })
   again_on p keeper client request y life range fair (none, is, last) again c =
-      let s : Shaded cell rows lease number done client [] p = subst (λ l. Shaded cell rows lease number done client (late_tells l) p) none (subst (λ q. Shaded cell rows lease number done q (late_tells keeper.late) p) (sym is) c.ahead) in
+      let s : Shaded cell rows terms number done client [] p = subst (λ l. Shaded cell rows terms number done client (late_tells l) p) none (subst (λ q. Shaded cell rows terms number done q (late_tells keeper.late) p) (sym is) c.ahead) in
       let call = its_call client.outstanding request again in
-      let asked = was_asked cell rows lease s.entries s.printed (shade p s.of s.sent) number client call.0 range s.history (fair_thin s.entries done s.thins fair) s.shades.own call.1 in
+      let asked = was_asked cell rows terms s.entries s.printed (shade p s.of s.sent) number client call.0 range s.history (fair_thin s.entries done s.thins fair) s.shades.own call.1 in
       let told : Among (ToMaster request) s.sent = subst (λ r. Among (ToMaster r) s.sent) (sym asked.is_call ∙ call.2) (called_among s.sent client.number asked.message.number asked.message asked.found) in
-      let next : Shaded cell rows lease number (done ++ y ∷ []) client [] (record p { told = p.told ++ ToMaster request ∷ [] }) = record {
+      let next : Shaded cell rows terms number (done ++ y ∷ []) client [] (record p { told = p.told ++ ToMaster request ∷ [] }) = record {
         entries = s.entries;
         printed = s.printed;
         of = s.of;
@@ -622,16 +623,16 @@ module _ (cell : List ℕ) (rows : Rows) (lease number : ℕ) (done : List Entry
         before = client;
         shows = last;
         seen = next;
-        ahead = subst (λ l. Shaded cell rows lease number (done ++ y ∷ []) keeper.client (late_tells l) (record p { told = p.told ++ ToMaster request ∷ [] })) (sym none)
-            (subst (λ q. Shaded cell rows lease number (done ++ y ∷ []) q [] (record p { told = p.told ++ ToMaster request ∷ [] })) is next);
+        ahead = subst (λ l. Shaded cell rows terms number (done ++ y ∷ []) keeper.client (late_tells l) (record p { told = p.told ++ ToMaster request ∷ [] })) (sym none)
+            (subst (λ q. Shaded cell rows terms number (done ++ y ∷ []) q [] (record p { told = p.told ++ ToMaster request ∷ [] })) is next);
       }
 
   -- each entry
-  step_on : (k new : KeptParts) (clocks : Clocks) (deed : KeptDeed) → lease ≤ longest_lease → AreFair done → DoesKept number k clocks deed new → Cast cell rows lease number done k
-      → Cast cell rows lease number (done ++ as_entry (record { clocks = clocks; deed = deed }) ∷ []) new
+  step_on : (k new : KeptParts) (clocks : Clocks) (deed : KeptDeed) → terms.lease ≤ longest_lease → AreFair done → DoesKept number k clocks deed new → Cast cell rows terms number done k
+      → Cast cell rows terms number (done ++ as_entry (record { clocks = clocks; deed = deed }) ∷ []) new
   step_on k new clocks (Others deed) range fair t c =
       let y : Entry = record { clocks = clocks; deed = deed } in
-      subst (Cast cell rows lease number (done ++ y ∷ [])) (sym t.left) (record {
+      subst (Cast cell rows terms number (done ++ y ∷ [])) (sym t.left) (record {
         before = c.before;
         shows = c.shows;
         seen = others_on c.before [] k.parts t.parts y t.printed t.others t.does c.seen;
@@ -639,35 +640,35 @@ module _ (cell : List ℕ) (rows : Rows) (lease number : ℕ) (done : List Entry
       })
   step_on k new clocks (KeeperAsks ask) range fair t c =
       let y : Entry = record { clocks = clocks; deed = Goes } in
-      subst (Cast cell rows lease number (done ++ y ∷ [])) (sym t.left)
+      subst (Cast cell rows terms number (done ++ y ∷ [])) (sym t.left)
       (keeper_on kepts.Asked asked_tells k.keeper t.keeper t.result (ask_step k.keeper.client (clocks.client number) ask) k.parts y refl (λ answer. refl) t.on_time t.publishes
       (λ next answer step out rest fit s. asks_on k.keeper.client next k.parts y ask answer refl step out rest fit s) c)
   step_on k new clocks KeeperBeats range fair t c =
       let y : Entry = record { clocks = clocks; deed = Goes } in
-      subst (Cast cell rows lease number (done ++ y ∷ [])) (sym t.left)
+      subst (Cast cell rows terms number (done ++ y ∷ [])) (sym t.left)
       (keeper_on kepts.Beaten beaten_tells k.keeper t.keeper t.result (beat_step k.keeper.client (clocks.client number)) k.parts y refl (λ answer. refl) t.on_time t.publishes
       (λ next answer step out rest fit s. beats_on k.keeper.client next k.parts y answer refl step out rest fit s) c)
   step_on k new clocks (KeeperHears at) range fair t c =
       let y : Entry = record { clocks = clocks; deed = Goes } in
-      subst (Cast cell rows lease number (done ++ y ∷ [])) (sym t.left)
+      subst (Cast cell rows terms number (done ++ y ∷ [])) (sym t.left)
       (keeper_on kepts.Given given_tells k.keeper t.keeper t.result (give_step k.keeper.client (clocks.client number) t.out) k.parts y refl (λ answer. refl) t.on_time t.publishes
       (λ next answer step out rest fit s. hears_on k.keeper.client next k.parts y at t.out answer refl t.was_told t.own step out rest fit s) c)
   step_on k new clocks Resumes range fair t c = resumes_on k new (record { clocks = clocks; deed = Goes }) refl t c
   step_on k new clocks SendsAgain range fair t c =
       let y : Entry = record { clocks = clocks; deed = Goes } in
-      subst (Cast cell rows lease number (done ++ y ∷ [])) (sym t.left) (again_on k.parts k.keeper t.client t.request y refl range fair t.lends t.again c)
+      subst (Cast cell rows terms number (done ++ y ∷ [])) (sym t.left) (again_on k.parts k.keeper t.client t.request y refl range fair t.lends t.again c)
 
-walk_on : (cell : List ℕ) (rows : Rows) (lease number : ℕ) (done : List Entry) (k here : KeptParts) (rest : List KeptEntry) → lease ≤ longest_lease → AreFair (done ++ map as_entry rest) → KeptHistory number k rest here → Cast cell rows lease number done k → Cast cell rows lease number (done ++ map as_entry rest) here
-walk_on cell rows lease number done k here [] range fair h c = subst (λ l. Cast cell rows lease number l here) (sym (append-nil done)) (subst (Cast cell rows lease number done) (sym h) c)
-walk_on cell rows lease number done k here (e ∷ rest) range fair h c =
+walk_on : (cell : List ℕ) (rows : Rows) (terms : MasterTerms) (number : ℕ) (done : List Entry) (k here : KeptParts) (rest : List KeptEntry) → terms.lease ≤ longest_lease → AreFair (done ++ map as_entry rest) → KeptHistory number k rest here → Cast cell rows terms number done k → Cast cell rows terms number (done ++ map as_entry rest) here
+walk_on cell rows terms number done k here [] range fair h c = subst (λ l. Cast cell rows terms number l here) (sym (append-nil done)) (subst (Cast cell rows terms number done) (sym h) c)
+walk_on cell rows terms number done k here (e ∷ rest) range fair h c =
     let y = as_entry e in
     let assoc : (done ++ y ∷ []) ++ map as_entry rest ≡ done ++ y ∷ map as_entry rest = append_assoc done (y ∷ []) (map as_entry rest) in
-    let next = step_on cell rows lease number done k h.0 e.clocks e.deed range (fair_before done (y ∷ map as_entry rest) fair) h.1 c in
-    subst (λ l. Cast cell rows lease number l here) assoc (walk_on cell rows lease number (done ++ y ∷ []) h.0 here rest range (subst AreFair (sym assoc) fair) h.2 next)
+    let next = step_on cell rows terms number done k h.0 e.clocks e.deed range (fair_before done (y ∷ map as_entry rest) fair) h.1 c in
+    subst (λ l. Cast cell rows terms number l here) assoc (walk_on cell rows terms number (done ++ y ∷ []) h.0 here rest range (subst AreFair (sym assoc) fair) h.2 next)
 
 pub views_answer : ViewsAnswerTheRows
-views_answer cell rows lease entries printed begun number client kept here now shown name entry range h there fresh does fair last is =
-    let first : Shaded cell rows lease number entries client [] begun = record {
+views_answer cell rows terms entries printed begun number client kept here now shown name entry range h there fresh does fair last is =
+    let first : Shaded cell rows terms number entries client [] begun = record {
       entries = entries;
       printed = printed;
       of = begun.clients;
@@ -676,11 +677,11 @@ views_answer cell rows lease entries printed begun number client kept here now s
       thins = thins_itself entries;
       shades = record { others = λ n apart. refl; own = there; told = λ m a. none_more m begun.told a };
     } in
-    let start : Cast cell rows lease number entries (record { parts = begun; keeper = new_keeper client }) = record { before = client; shows = ([], ap (λ c. c ∷ []) (sym fresh)); seen = first; ahead = first } in
+    let start : Cast cell rows terms number entries (record { parts = begun; keeper = new_keeper client }) = record { before = client; shows = ([], ap (λ c. c ∷ []) (sym fresh)); seen = first; ahead = first } in
     let all = entries ++ map as_entry kept in
     let later : Entry = record { clocks = now; deed = Goes } in
-    let end = walk_on cell rows lease number entries (record { parts = begun; keeper = new_keeper client }) here kept range (fair_before all (later ∷ []) fair) does start in
+    let end = walk_on cell rows terms number entries (record { parts = begun; keeper = new_keeper client }) here kept range (fair_before all (later ∷ []) fair) does start in
     let s = end.seen in
     let same : shown ≡ end.before.cache = one_last here.keeper.views shown end.before.cache last end.shows in
     let fair_there : AreFair (s.entries ++ later ∷ []) = fair_thin (s.entries ++ later ∷ []) (all ++ later ∷ []) (thins_keep s.entries all later later refl refl s.thins) fair in
-    caches_answer cell rows lease s.entries s.printed (shade here.parts s.of s.sent) now number end.before name entry range s.history fair_there s.shades.own (ap (λ (c : CacheState). answer c (now.client number) name) (sym same) ∙ is)
+    caches_answer cell rows terms s.entries s.printed (shade here.parts s.of s.sent) now number end.before name entry range s.history fair_there s.shades.own (ap (λ (c : CacheState). answer c (now.client number) name) (sym same) ∙ is)

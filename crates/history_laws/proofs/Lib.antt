@@ -6,4 +6,5 @@ mod Histories
 mod Tried
 mod Example
 mod Hosted
+mod Grouped
 mod Kept

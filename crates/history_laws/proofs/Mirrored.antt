@@ -32,7 +32,7 @@ pub record Mirrors (p : Parts) (w : WorldState) : Type 0 where
   pub master : w.master ≡ p.master
   pub clients : (n : ℕ) → client_at w.clients n ≡ p.clients n
   pub messages : w.messages ≡ p.told
-  pub lease : w.lease ≡ p.lease
+  pub terms : w.terms ≡ p.terms
 
 -- the client that is found
 pub found_client : (o : Option WorldClient) (client : ClientState) → option_map (λ (m : WorldClient). m.client) o ≡ Some client → (member : WorldClient) × (o ≡ Some member) × (member.client ≡ client)
@@ -60,7 +60,7 @@ ticked_mirrors p w ticks h = record {
   master = h.master;
   clients = λ n. clients_stay (moved w.master w ticks) (moved_client w.master w ticks) w.clients n ∙ h.clients n;
   messages = h.messages;
-  lease = h.lease;
+  terms = h.terms;
 }
 
 -- ---- one client in the place of what it was

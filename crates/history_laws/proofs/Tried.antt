@@ -102,7 +102,7 @@ module _ (p : Parts) (clocks : Clocks) where
   comes None false r = None
   comes (Some s) b r = None
 
-  comes_so : (m : Option MasterState) (b : Bool) (r : Result MasterState Fault) → p.master ≡ m → rows_in_order p.rows ≡ b → up_step p.cell p.rows p.lease clocks.master ≡ r → Finds p clocks ComesUp (comes m b r)
+  comes_so : (m : Option MasterState) (b : Bool) (r : Result MasterState Fault) → p.master ≡ m → rows_in_order p.rows ≡ b → up_step p.cell p.rows p.terms clocks.master ≡ r → Finds p clocks ComesUp (comes m b r)
   comes_so None true (Ok master) none order step x h =
       that_one (λ y. Does p clocks ComesUp y.0 y.1) (at_up master) x h (record { master = master; none = none; ordered = are_in_order p.rows order; step = step; left = refl; prints = refl })
   comes_so None true (Err fault) none order step x h = cc
@@ -219,7 +219,7 @@ module _ (p : Parts) (clocks : Clocks) where
   hears_so at None told = λ x h. cc
 
   abbrev tried : Deed → Option Behind
-  tried ComesUp = comes p.master (rows_in_order p.rows) (up_step p.cell p.rows p.lease clocks.master)
+  tried ComesUp = comes p.master (rows_in_order p.rows) (up_step p.cell p.rows p.terms clocks.master)
   tried (Takes at) = takes p.master (request_at p.told at)
   tried Sweeps = sweeps p.master
   tried Goes = goes p.master
@@ -229,7 +229,7 @@ module _ (p : Parts) (clocks : Clocks) where
   tried deed = None
 
   tried_so : (deed : Deed) → Finds p clocks deed (tried deed)
-  tried_so ComesUp = comes_so p.master (rows_in_order p.rows) (up_step p.cell p.rows p.lease clocks.master) refl refl refl
+  tried_so ComesUp = comes_so p.master (rows_in_order p.rows) (up_step p.cell p.rows p.terms clocks.master) refl refl refl
   tried_so (Takes at) = takes_so at p.master (request_at p.told at) refl refl
   tried_so Sweeps = sweeps_so p.master refl
   tried_so Goes = goes_so p.master refl

@@ -1,7 +1,7 @@
 -- A history with two programs, and one that can't be.
 use Rattle.std.specs.Prelude.{◌≡◌, ℕ, List, [], ◌∷◌, ◌++◌, map, codes, Option, None, replicate}
 use Rattle.node_core.specs.declared.lines.Line.{Line}
-use Rattle.rows_cell.specs.Settings.{Settled}
+use Rattle.rows_cell.specs.Settings.{Settled, terms_of, no_limits}
 use Rattle.rows_cell.specs.Opening.{opening}
 use Rattle.world_steps.specs.Messages.{request_at, out_at}
 use Rattle.history_laws.specs.Parts.{Parts, nothing_yet, Deed, ComesUp, Takes, Sweeps, Goes, Begins, Beats, Hears}
@@ -11,11 +11,11 @@ use Rattle.history_laws.specs.Histories.{Clocks, Entry, Does, History, AreFair}
 pub record IsPossible (settings : Settled) (entries : List Entry) : Type 0 where
   pub printed : List Line
   pub end : Parts
-  pub history : History (nothing_yet settings.cell (opening settings) settings.lease) entries printed end
+  pub history : History (nothing_yet settings.cell (opening settings) (terms_of settings)) entries printed end
   pub fair : AreFair entries
 
 abbrev pub a_cell : Settled
-a_cell = record { cell = codes "ls"; lease = 12000; base = codes "ann" ++ 10 ∷ codes "bob" ++ 10 ∷ []; secret = replicate 32 7 }
+a_cell = record { cell = codes "ls"; lease = 12000; base = codes "ann" ++ 10 ∷ codes "bob" ++ 10 ∷ []; secret = replicate 32 7; limits = no_limits }
 
 -- all at one moment
 abbrev pub at_once : Deed → Entry

@@ -2,6 +2,7 @@
 use Rattle.std.specs.Prelude.{◌≡◌, ℕ, true, List, [], ◌∷◌, ◌++◌, map, Option, Some, None, Result, Ok, Err}
 use Rattle.node_core.specs.declared.lines.Line.{Line}
 use Rattle.node_core.specs.declared.lines.Line.TheVariants as lines
+use Rattle.rows_cell.specs.declared.settings.MasterTerms.{MasterTerms}
 use Rattle.tags_cell.specs.Numbers.{is_client_number}
 use Rattle.tags_cell.specs.Messages.{request_client}
 use Rattle.tags_cell.specs.declared.messages.outs.Out.{Out}
@@ -22,13 +23,19 @@ use Rattle.hosting.specs.declared.answers.Answered.{Answered}
 use Rattle.hosting.specs.declared.answers.Answered.TheVariants as answers
 use Rattle.hosting.specs.declared.seats.Reply.{Reply}
 use Rattle.hosting.specs.declared.seats.Reply.TheVariants as replies
+use Rattle.hosting.specs.declared.pieces.GroupLimits.{GroupLimits}
 use Rattle.hosting.specs.Seats.{Hosted, Does as DoesFrame}
+use Rattle.hosting.specs.Streams.{Answer, Turns}
+use Rattle.hosting.specs.Groups.{KeptGroup}
 use Rattle.watch_cell.specs.declared.events.Event.{Event}
 use Rattle.watch_cell.specs.declared.events.Event.TheVariants as events
 use Rattle.watch_cell.specs.Views.{WatchedState}
 use Rattle.watch_cell.specs.Trail.{step_of}
 use Rattle.history_laws.specs.Parts.{Parts, Deed}
 use Rattle.history_laws.specs.Histories.{Clocks, Entry, Does, History}
+
+abbrev Known : Type 0
+Known = Option (List ℕ)
 
 -- ---- what is told of a frame
 
@@ -94,8 +101,40 @@ behind_frame p host outs = record p { rows = host.store.rows; master = host.mast
 abbrev pub FramesAreDeeds : Type 0
 FramesAreDeeds =
     (p : Parts) (clocks : Clocks) (sent : Result Frame WireFault) (old new : Hosted) (reply : Reply)
-    → IsHostedIn p old → IsPossibleFrame p sent → IsAtMoment clocks sent → new.store.doubt ≡ 0 → DoesFrame p.lease sent old reply new
+    → IsHostedIn p old → IsPossibleFrame p sent → IsAtMoment clocks sent → new.store.doubt ≡ 0 → DoesFrame p.terms sent old reply new
     → ((deeds : List Deed) × History p (at_moment clocks deeds) (reply_lines reply) (behind_frame p new (reply_outs reply))) × IsHostedIn (behind_frame p new (reply_outs reply)) new
+
+-- ---- groups of frames
+
+-- what the frames are answered: the lines, and the messages
+abbrev pub answers_lines : List Answer → List Line
+answers_lines [] = []
+answers_lines (answer ∷ answers) = reply_lines answer.reply ++ answers_lines answers
+
+abbrev pub answers_outs : List Answer → List Out
+answers_outs [] = []
+answers_outs (answer ∷ answers) = reply_outs answer.reply ++ answers_outs answers
+
+-- these clocks belong to the frames, one to each, in their order: each frame is possible when its turn comes, and says the moment that the master's clock shows
+abbrev pub ComeAt : Parts → List Clocks → (terms : MasterTerms) (text : Known) (old : Hosted) (answers : List Answer) (new : Hosted) (rest : Known) → Turns terms text old answers new rest → Type 0
+ComeAt p clocks terms text old [] new rest turns = clocks ≡ []
+ComeAt p [] terms text old (answer ∷ answers) new rest turns = ⊥
+ComeAt p (now ∷ clocks) terms text old (answer ∷ answers) new rest turns =
+    IsPossibleFrame p turns.2.done.sent × IsAtMoment now turns.2.done.sent × ComeAt (behind_frame p turns.0 (reply_outs answer.reply)) clocks terms turns.1 turns.0 answers new rest turns.3
+
+-- deeds at these clocks, in their order
+abbrev pub AreAtClocks : List Clocks → List Entry → Type 0
+AreAtClocks [] entries = entries ≡ []
+AreAtClocks (now ∷ clocks) entries = (deeds : List Deed) × (rest : List Entry) × (entries ≡ at_moment now deeds ++ rest) × AreAtClocks clocks rest
+
+-- the frames of a group, done one after the other over changes that are held back, committed together and only then told, are deeds of the master at the frames' moments, which print and tell
+-- just what the frames are answered
+abbrev pub GroupsAreDeeds : Type 0
+GroupsAreDeeds =
+    (p : Parts) (clocks : List Clocks) (limits : GroupLimits) (text : Known) (old : Hosted) (answers : List Answer) (new : Hosted) (rest : Known)
+    → (group : KeptGroup (record { master = p.terms; limits = limits }) text old answers new rest)
+    → IsHostedIn p old → ComeAt p clocks p.terms text old answers group.done rest group.turns → new.store.doubt ≡ 0
+    → ((entries : List Entry) × AreAtClocks clocks entries × History p entries (answers_lines answers) (behind_frame p new (answers_outs answers))) × IsHostedIn (behind_frame p new (answers_outs answers)) new
 
 -- ---- bytes
 

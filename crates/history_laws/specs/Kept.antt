@@ -6,6 +6,7 @@ use Rattle.node_core.specs.declared.lines.Line.{Line}
 use Rattle.node_core.specs.declared.refusals.Fault.{Fault}
 use Rattle.node_core.specs.declared.views.View.{View}
 use Rattle.node_core.specs.Nodes.{view_at}
+use Rattle.rows_cell.specs.declared.settings.MasterTerms.{MasterTerms}
 use Rattle.rows_cell.specs.declared.tables.Rows.{Rows}
 use Rattle.rows_cell.specs.Rows.{map_of}
 use Rattle.tags_cell.specs.declared.messages.requests.Request.{Request}
@@ -173,8 +174,8 @@ new_keeper client = record { client = client; late = None; views = opening }
 -- Whatever the view that was published last would answer, at any moment by the client's clock, is what the rows hold of that name then: also while the keeper is late
 abbrev pub ViewsAnswerTheRows : Type 0
 ViewsAnswerTheRows =
-    (cell : List ℕ) (rows : Rows) (lease : ℕ) (entries : List Entry) (printed : List Line) (begun : Parts) (number : ℕ) (client : ClientState)
+    (cell : List ℕ) (rows : Rows) (terms : MasterTerms) (entries : List Entry) (printed : List Line) (begun : Parts) (number : ℕ) (client : ClientState)
     (kept : List KeptEntry) (here : KeptParts) (now : Clocks) (shown : CacheState) (name : List ℕ) (entry : Option View)
-    → lease ≤ longest_lease → History (nothing_yet cell rows lease) entries printed begun → begun.clients number ≡ Some client → client.cache ≡ new_cache
+    → terms.lease ≤ longest_lease → History (nothing_yet cell rows terms) entries printed begun → begun.clients number ≡ Some client → client.cache ≡ new_cache
     → KeptHistory number (record { parts = begun; keeper = new_keeper client }) kept here → GoOnTo (entries ++ map as_entry kept) now
     → EndsWith here.keeper.views shown → answer shown (now.client number) name ≡ Some entry → entry ≡ view_at (map_of here.parts.rows) name

@@ -2,6 +2,7 @@
 use Rattle.std.specs.Prelude.{◌≡◌, ℕ, ◌==◌, true, List, [], ◌∷◌, ◌++◌, map, filter, Option, Some, None, Ok, if◌then◌else◌}
 use Rattle.node_core.specs.declared.lines.Line.{Line}
 use Rattle.node_core.specs.declared.lines.Line.TheVariants as lines
+use Rattle.rows_cell.specs.declared.settings.MasterTerms.{MasterTerms}
 use Rattle.rows_cell.specs.declared.tables.Rows.{Rows}
 use Rattle.rows_cell.specs.Rows.{changed_rows}
 use Rattle.tags_cell.specs.Numbers.{is_client_number}
@@ -30,18 +31,18 @@ use Rattle.world_steps.specs.Messages.{request_at, out_at}
 use Rattle.world_steps.specs.World.{with_refusal, given_lines, is_of_commit}
 use Rattle.world_steps.specs.Made.{AreInOrder}
 
--- cell: its name, by the settings of its store. rows: those that stand. clients: by number. told: all messages that were told, in order; each may come late, more than once, or never. lease: in milliseconds
+-- cell: its name, by the settings of its store. rows: those that stand. clients: by number. told: all messages that were told, in order; each may come late, more than once, or never. terms: what each master goes by
 pub record Parts : Type 0 where
   pub cell : List ℕ
   pub rows : Rows
   pub master : Option MasterState
   pub clients : ℕ → Option ClientState
   pub told : List Message
-  pub lease : ℕ
+  pub terms : MasterTerms
 
 -- rows over which no master was up yet, no client has begun, nothing was told
-abbrev pub nothing_yet : List ℕ → Rows → ℕ → Parts
-nothing_yet cell rows lease = record { cell = cell; rows = rows; master = None; clients = λ number. None; told = []; lease = lease }
+abbrev pub nothing_yet : List ℕ → Rows → MasterTerms → Parts
+nothing_yet cell rows terms = record { cell = cell; rows = rows; master = None; clients = λ number. None; told = []; terms = terms }
 
 -- what a part does, or what becomes of one. A message comes by its place among those that were told, from 1
 pub data Deed : Type 0 where
@@ -73,14 +74,14 @@ pub record ComesUpBy (p : Parts) (now : ℕ) (new : Parts) (printed : List Line)
   pub master : MasterState
   pub none : p.master ≡ None
   pub ordered : AreInOrder p.rows
-  pub step : up_step p.cell p.rows p.lease now ≡ Ok master
+  pub step : up_step p.cell p.rows p.terms now ≡ Ok master
   pub left : new ≡ record p { rows = changed_rows p.rows (up_edits p.rows); master = Some master }
   pub prints : printed ≡ lines.Up master.epoch ∷ []
 
 pub record FallsComingUpBy (p : Parts) (now : ℕ) (new : Parts) (printed : List Line) : Type 0 where
   pub master : MasterState
   pub none : p.master ≡ None
-  pub step : up_step p.cell p.rows p.lease now ≡ Ok master
+  pub step : up_step p.cell p.rows p.terms now ≡ Ok master
   pub left : new ≡ record p { rows = changed_rows p.rows (up_edits p.rows) }
   pub prints : printed ≡ lines.Up master.epoch ∷ lines.Down ∷ []
 

@@ -1,6 +1,6 @@
 //! Parts that run apart are a world.
 ghost use Rattle.history_laws.specs.Laws.{HistoriesAreRuns, HistoriesHold, CachesShowTheRows, CachesAnswerTheRows};
-ghost use Rattle.history_laws.specs.Hosted.{FramesAreDeeds, BytesCarryMessages, TrailsAreDeeds};
+ghost use Rattle.history_laws.specs.Hosted.{FramesAreDeeds, GroupsAreDeeds, BytesCarryMessages, TrailsAreDeeds};
 ghost use Rattle.history_laws.specs.Kept.{ViewsAnswerTheRows};
 ghost use Rattle.history_laws.specs.Example.{TwoProgramsArePossible, NothingComesOfNobody};
 
@@ -34,6 +34,12 @@ pub fn nothing_comes_of_nobody()
 /// moment that the frame says, and they print and tell just what the frame is answered.
 pub fn frames_are_deeds()
     ensures { FramesAreDeeds }
+{}
+
+/// What a hosted master does by the frames of a group are its deeds too: each frame is done over changes that are held back, all are
+/// committed together, and only then it is told of them.
+pub fn groups_are_deeds()
+    ensures { GroupsAreDeeds }
 {}
 
 /// Where messages travel as bytes, whoever reads the bytes of one takes the message that was told.

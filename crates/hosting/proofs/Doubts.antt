@@ -1,6 +1,7 @@
 -- What is served over a store never makes less of the doubt in it.
 use Rattle.std.proofs.Common.{◌≡◌, inl, inr, ℕ, ◌≤◌, Bool, true, false, List, [], ◌∷◌, Option, None, Some, Result, Ok, Err, sym, ap, subst, le_refl, arith}
 use Rattle.node_core.specs.declared.refusals.Fault.{Fault}
+use Rattle.rows_cell.specs.declared.settings.MasterTerms.{MasterTerms}
 use Rattle.rows_cell.specs.Stores.{Store}
 use Rattle.tags_cell.specs.declared.messages.requests.Request.{Request}
 use Rattle.over_core.specs.declared.swept.Swept.{Swept}
@@ -93,27 +94,27 @@ answers_grow now request a (answers.Taken taken settled) b p =
 
 -- ---- a frame
 
-down_grows : (lease now : ℕ) (fault : Fault) (a b : Store) → StaysDown lease now fault a b → Grows a b
-down_grows lease now fault a b (inl p) = stays a b p.2
-down_grows lease now fault a b (inr (past, inl unread)) = unread.doubted
-down_grows lease now fault a b (inr (past, inr kept)) =
+down_grows : (terms : MasterTerms) (now : ℕ) (fault : Fault) (a b : Store) → StaysDown terms now fault a b → Grows a b
+down_grows terms now fault a b (inl p) = stays a b p.2
+down_grows terms now fault a b (inr (past, inl unread)) = unread.doubted
+down_grows terms now fault a b (inr (past, inr kept)) =
     chain a.doubt kept.read.doubt b.doubt kept.was_read.doubted (elim kept.why [ inl p ↦ stays kept.read b p.1 | inr r ↦ r.doubted ])
 
-comes_grow : (lease now : ℕ) (a : Store) (reply : Reply) (b : Hosted) → ComesIn lease now a reply b → Grows a b.store
-comes_grow lease now a (replies.Came epoch settled) b p =
+comes_grow : (terms : MasterTerms) (now : ℕ) (a : Store) (reply : Reply) (b : Hosted) → ComesIn terms now a reply b → Grows a b.store
+comes_grow terms now a (replies.Came epoch settled) b p =
     host_at a b p.after p.up
     (chain a.doubt p.cell.store.doubt p.after.store.doubt (chain a.doubt p.came.read.doubt p.cell.store.doubt p.came.was_read.doubted p.came.committed.doubted)
     (settles_grow now p.cell settled p.after p.swept))
-comes_grow lease now a (replies.Refused fault) b p = down_grows lease now fault a b.store p.0
-comes_grow lease now a (replies.Bad fault) b p = absurd p
-comes_grow lease now a (replies.Answered answered) b p = absurd p
-comes_grow lease now a (replies.Swept settled) b p = absurd p
-comes_grow lease now a replies.Gone b p = absurd p
-comes_grow lease now a (replies.Stands standing) b p = absurd p
+comes_grow terms now a (replies.Refused fault) b p = down_grows terms now fault a b.store p.0
+comes_grow terms now a (replies.Bad fault) b p = absurd p
+comes_grow terms now a (replies.Answered answered) b p = absurd p
+comes_grow terms now a (replies.Swept settled) b p = absurd p
+comes_grow terms now a replies.Gone b p = absurd p
+comes_grow terms now a (replies.Stands standing) b p = absurd p
 
-arrives_grow : (lease now : ℕ) (master : Option MasterState) (a : Store) (reply : Reply) (b : Hosted) → Arrives lease now master a reply b → Grows a b.store
-arrives_grow lease now None a reply b p = comes_grow lease now a reply b p
-arrives_grow lease now (Some master) a reply b p = host_stays (with_master (cell_of master a)) b p.1
+arrives_grow : (terms : MasterTerms) (now : ℕ) (master : Option MasterState) (a : Store) (reply : Reply) (b : Hosted) → Arrives terms now master a reply b → Grows a b.store
+arrives_grow terms now None a reply b p = comes_grow terms now a reply b p
+arrives_grow terms now (Some master) a reply b p = host_stays (with_master (cell_of master a)) b p.1
 
 listens_grow : (now : ℕ) (message : Request) (master : Option MasterState) (a : Store) (reply : Reply) (b : Hosted) → Listens now message master a reply b → Grows a b.store
 listens_grow now message None a reply b p = host_stays (without_master a) b p.1
@@ -143,24 +144,24 @@ stands_grow : (master : Option MasterState) (a : Store) (reply : Reply) (b : Hos
 stands_grow None a reply b p = host_stays (without_master a) b p.1
 stands_grow (Some master) a reply b p = host_stays (with_master (cell_of master a)) b p.1
 
-pub does_grow : (lease : ℕ) (sent : Result Frame WireFault) (a : Hosted) (reply : Reply) (b : Hosted) → Does lease sent a reply b → Grows a.store b.store
-does_grow lease (Ok (frames.Up now)) a reply b p = arrives_grow lease now a.master a.store reply b p
-does_grow lease (Ok (frames.Message now message)) a reply b p = listens_grow now message a.master a.store reply b p
-does_grow lease (Ok (frames.Tick now)) a reply b p = ticks_grow now a.master a.store reply b p
-does_grow lease (Ok frames.Down) a reply b p = leaves_grow a.master a.store reply b p
-does_grow lease (Ok frames.State) a reply b p = stands_grow a.master a.store reply b p
-does_grow lease (Err fault) a reply b p = host_stays a b p.1
+pub does_grow : (terms : MasterTerms) (sent : Result Frame WireFault) (a : Hosted) (reply : Reply) (b : Hosted) → Does terms sent a reply b → Grows a.store b.store
+does_grow terms (Ok (frames.Up now)) a reply b p = arrives_grow terms now a.master a.store reply b p
+does_grow terms (Ok (frames.Message now message)) a reply b p = listens_grow now message a.master a.store reply b p
+does_grow terms (Ok (frames.Tick now)) a reply b p = ticks_grow now a.master a.store reply b p
+does_grow terms (Ok frames.Down) a reply b p = leaves_grow a.master a.store reply b p
+does_grow terms (Ok frames.State) a reply b p = stands_grow a.master a.store reply b p
+does_grow terms (Err fault) a reply b p = host_stays a b p.1
 
 -- ---- frames and groups of them
 
-turns_grow : (lease : ℕ) (text : Known) (a : Hosted) (given : List Answer) (b : Hosted) (rest : Known) → Turns lease text a given b rest → Grows a.store b.store
-turns_grow lease text a [] b rest t = host_stays a b t.0
-turns_grow lease text a (answer ∷ given) b rest t =
-    let turn : Turn lease text a answer t.0 t.1 = t.2 in
-    chain a.store.doubt t.0.store.doubt b.store.doubt (does_grow lease turn.done.sent a answer.reply t.0 turn.done.does) (turns_grow lease t.1 t.0 given b rest t.3)
+pub turns_grow : (terms : MasterTerms) (text : Known) (a : Hosted) (given : List Answer) (b : Hosted) (rest : Known) → Turns terms text a given b rest → Grows a.store b.store
+turns_grow terms text a [] b rest t = host_stays a b t.0
+turns_grow terms text a (answer ∷ given) b rest t =
+    let turn : Turn terms text a answer t.0 t.1 = t.2 in
+    chain a.store.doubt t.0.store.doubt b.store.doubt (does_grow terms turn.done.sent a answer.reply t.0 turn.done.does) (turns_grow terms t.1 t.0 given b rest t.3)
 
 takes_grow : (terms : GroupTerms) (text : Known) (a : Hosted) (given : List Answer) (b : Hosted) (rest : Known) → TakesGroup terms text a given b rest → Grows a.store b.store
-takes_grow terms text a given b rest (inl t) = turns_grow terms.lease text a given b rest t
+takes_grow terms text a given b rest (inl t) = turns_grow terms.master text a given b rest t
 takes_grow terms text a given b rest (inr k) = (each_committed k.pieces a.store b.store k.committed).doubted
 
 groups_grow : (terms : GroupTerms) (text : Known) (a : Hosted) (groups : List (List Answer)) (b : Hosted) (rest : Known) → Groups terms text a groups b rest → Grows a.store b.store
@@ -172,9 +173,9 @@ lost_grows : (a b : Hosted) → MaybeLost a b → Grows a.store b.store
 lost_grows a b (inl e) = host_stays a b e
 lost_grows a b (inr e) = host_stays (without_master a.store) b e
 
-one_grows : (lease : ℕ) (text : Known) (a b : Hosted) → MaybeOne lease text a b → Grows a.store b.store
-one_grows lease text a b (inl e) = host_stays a b e
-one_grows lease text a b (inr (reply, rest, done)) = does_grow lease done.sent a reply b done.does
+one_grows : (terms : MasterTerms) (text : Known) (a b : Hosted) → MaybeOne terms text a b → Grows a.store b.store
+one_grows terms text a b (inl e) = host_stays a b e
+one_grows terms text a b (inr (reply, rest, done)) = does_grow terms done.sent a reply b done.does
 
 -- however groups of frames ended
 pub ends_groups_grow : (terms : GroupTerms) (text : Known) (a : Hosted) (ended : Result (Unit {0}) GroupStop) (b : Hosted) (before after : Known) → EndsGroups terms text a ended b before after
@@ -184,7 +185,7 @@ ends_groups_grow terms text a (Err (Stopped Unread)) b before after e =
     chain a.store.doubt e.0.store.doubt b.store.doubt (groups_grow terms text a e.2.groups e.0 e.1 e.2.done) (lost_grows e.0 b e.3)
 ends_groups_grow terms text a (Err (Stopped NoMemory)) b before after e =
     chain a.store.doubt e.0.store.doubt b.store.doubt (groups_grow terms text a e.2.groups e.0 e.1 e.2.done)
-    (elim e.3 [ inl one ↦ one_grows terms.lease e.1 e.0 b one | inr lost ↦ lost_grows e.0 b lost ])
+    (elim e.3 [ inl one ↦ one_grows terms.master e.1 e.0 b one | inr lost ↦ lost_grows e.0 b lost ])
 ends_groups_grow terms text a (Err (Stopped Unwritten)) b before after e =
     chain a.store.doubt e.0.store.doubt b.store.doubt (groups_grow terms text a e.4.groups e.0 e.1 e.4.done)
     (takes_grow terms e.1 e.0 e.5.0 b e.2 e.5.2)

@@ -16,6 +16,7 @@ use Rattle.hosting.specs.declared.gathers.Tried.{Tried}
 use Rattle.hosting.specs.declared.gathers.Tried.TheVariants as tries
 use Rattle.hosting.specs.Streams.{FrameIs}
 use Rattle.hosting.specs.Groups.{together, HeldTurn, DoesHeld, PutsTold, PutsReply, Tries, StandsBehind, NextThere, Gathered, Gathers, GathersOn, GathersBy, GathersOnBy, Goes, GoesBy, Keeps, ServesBehind}
+use Rattle.rows_cell.specs.declared.settings.MasterTerms.{MasterTerms}
 use Rattle.rows_cell.specs.Stores.{Store}
 use Rattle.hosting.specs.declared.stops.GroupStop.TheVariants.{Stopped}
 use Rattle.hosting.specs.declared.groups.Course.{Course}
@@ -26,15 +27,15 @@ use Rattle.hosting.proofs.Grouped.{turns_behind, answers_behind, kept_goes, behi
 abbrev Known : Type 0
 Known = Option (List ℕ)
 
-gathered_none : (lease : ℕ) (text : Known) (group : GroupState) (told : List ℕ) → Gathered lease text group group text told told
-gathered_none lease text group told = record { answers = []; bytes = []; turns = (refl, refl); told = refl; behind = sym (append-nil told); store = refl }
+gathered_none : (terms : MasterTerms) (text : Known) (group : GroupState) (told : List ℕ) → Gathered terms text group group text told told
+gathered_none terms text group told = record { answers = []; bytes = []; turns = (refl, refl); told = refl; behind = sym (append-nil told); store = refl }
 
-gathered_then : (lease : ℕ) (text there rest : Known) (old mid new : GroupState) (before between after : List ℕ) → Gathered lease text old mid there before between
-    → Gathered lease there mid new rest between after → Gathered lease text old new rest before after
-gathered_then lease text there rest old mid new before between after g h = record {
+gathered_then : (terms : MasterTerms) (text there rest : Known) (old mid new : GroupState) (before between after : List ℕ) → Gathered terms text old mid there before between
+    → Gathered terms there mid new rest between after → Gathered terms text old new rest before after
+gathered_then terms text there rest old mid new before between after g h = record {
   answers = g.answers ++ h.answers;
   bytes = g.bytes ++ h.bytes;
-  turns = turns_behind lease text there rest (together old) (together mid) (together new) g.answers h.answers g.turns h.turns;
+  turns = turns_behind terms text there rest (together old) (together mid) (together new) g.answers h.answers g.turns h.turns;
   told = answers_behind g.answers h.answers g.bytes h.bytes g.told h.told;
   behind = h.behind ∙ ap (λ (u : List ℕ). u ++ h.bytes) g.behind ∙ append_assoc before g.bytes h.bytes;
   store = h.store ∙ g.store;
@@ -42,46 +43,46 @@ gathered_then lease text there rest old mid new before between after g h = recor
 
 -- ---- one frame
 
-gathered_one : (lease : ℕ) (sent : Result Frame WireFault) (text here : Known) (old new : GroupState) (before after : List ℕ) → FrameIs text sent here → HeldTurn sent old new before after
-    → Gathered lease text old new here before after
-gathered_one lease sent text here old new before after f h = record {
+gathered_one : (terms : MasterTerms) (sent : Result Frame WireFault) (text here : Known) (old new : GroupState) (before after : List ℕ) → FrameIs text sent here → HeldTurn sent old new before after
+    → Gathered terms text old new here before after
+gathered_one terms sent text here old new before after f h = record {
   answers = h.answer ∷ [];
   bytes = h.bytes;
-  turns = (together new, here, record { done = record { sent = sent; next = f; does = h.does lease }; due = h.due }, (refl, refl));
+  turns = (together new, here, record { done = record { sent = sent; next = f; does = h.does terms }; due = h.due }, (refl, refl));
   told = (h.bytes, [], h.blocks, refl, sym (append-nil h.bytes));
   behind = h.told;
   store = h.store;
 }
 
 -- what stands behind what was done
-gathers_to : (behind : Behind) (lease : ℕ) (text there rest : Known) (old new : GroupState) (before after : List ℕ) → Gathered lease text old new there before after → StandsBehind behind there rest
-    → Gathers lease text old behind new rest before after
-gathers_to behinds.Nothing lease text there rest old new before after g s = (there, g, s)
-gathers_to (behinds.Found found) lease text there rest old new before after g s = (there, g, s)
-gathers_to (behinds.Lost stop) lease text there rest old new before after g s = (s, g.store)
+gathers_to : (behind : Behind) (terms : MasterTerms) (text there rest : Known) (old new : GroupState) (before after : List ℕ) → Gathered terms text old new there before after → StandsBehind behind there rest
+    → Gathers terms text old behind new rest before after
+gathers_to behinds.Nothing terms text there rest old new before after g s = (there, g, s)
+gathers_to (behinds.Found found) terms text there rest old new before after g s = (there, g, s)
+gathers_to (behinds.Lost stop) terms text there rest old new before after g s = (s, g.store)
 
 pub done_on : (onward : Onward) (tried : Tried) (sent : Result Frame WireFault) (here rest : Known) (old new : GroupState) (before after : List ℕ) → tried ≡ tries.Done
     → Tries sent old tried new before after → NextThere onward here rest → GathersOnBy sent here old onward new rest before after
-done_on onward tried sent here rest old new before after is t n lease text f =
+done_on onward tried sent here rest old new before after is t n terms text f =
     let P : Tried → Type 0 = λ u. Tries sent old u new before after in
-    by_next onward (gathered_one lease sent text here old new before after f (subst P is t)) n
+    by_next onward (gathered_one terms sent text here old new before after f (subst P is t)) n
   where
-    by_next : (onward : Onward) → Gathered lease text old new here before after → NextThere onward here rest → GathersOn lease text old onward new rest before after
+    by_next : (onward : Onward) → Gathered terms text old new here before after → NextThere onward here rest → GathersOn terms text old onward new rest before after
     by_next (onwards.Next next) g n = (here, g, n)
-    by_next (onwards.Ends behind) g n = gathers_to behind lease text here rest old new before after g n
+    by_next (onwards.Ends behind) g n = gathers_to behind terms text here rest old new before after g n
 
 pub alone_on : (tried : Tried) (sent : Result Frame WireFault) (here : Known) (old new : GroupState) (before after : List ℕ) → tried ≡ tries.Alone → Tries sent old tried new before after
     → GathersOnBy sent here old (onwards.Ends (behinds.Found (Some sent))) new here before after
-alone_on tried sent here old new before after is t lease text f =
+alone_on tried sent here old new before after is t terms text f =
     let P : Tried → Type 0 = λ u. Tries sent old u new before after in
     let same = subst P is t in
-    let Q : GroupState → Type 0 = λ g. Gathered lease text old g text before after in
-    let W : List ℕ → Type 0 = λ u. Gathered lease text old old text before u in
-    (text, subst Q (sym same.0) (subst W (sym same.1) (gathered_none lease text old before)), f)
+    let Q : GroupState → Type 0 = λ g. Gathered terms text old g text before after in
+    let W : List ℕ → Type 0 = λ u. Gathered terms text old old text before u in
+    (text, subst Q (sym same.0) (subst W (sym same.1) (gathered_none terms text old before)), f)
 
 pub stopped_on : (tried : Tried) (stop : Stop) (sent : Result Frame WireFault) (here : Known) (old new : GroupState) (before after : List ℕ) → tried ≡ tries.Stopped stop → Tries sent old tried new before after
     → GathersOnBy sent here old (onwards.Ends (behinds.Lost stop)) new here before after
-stopped_on tried stop sent here old new before after is t lease text f =
+stopped_on tried stop sent here old new before after is t terms text f =
     let P : Tried → Type 0 = λ u. Tries sent old u new before after in
     subst P is t
 
@@ -92,34 +93,34 @@ abbrev pub SoFar : Result Frame WireFault → Known → GroupState → Result Fr
 SoFar begun here old sent new rest before after = GathersOnBy begun here old (onwards.Next sent) new rest before after
 
 pub so_far_none : (begun : Result Frame WireFault) (here : Known) (group : GroupState) (told : List ℕ) → SoFar begun here group begun group here told told
-so_far_none begun here group told lease text f = (text, gathered_none lease text group told, f)
+so_far_none begun here group told terms text f = (text, gathered_none terms text group told, f)
 
 pub so_far_on : (onward : Onward) (begun sent next : Result Frame WireFault) (here there rest : Known) (old mid new : GroupState) (before between after : List ℕ) → onward ≡ onwards.Next next
     → SoFar begun here old sent mid there before between → GathersOnBy sent there mid onward new rest between after → SoFar begun here old next new rest before after
-so_far_on onward begun sent next here there rest old mid new before between after is s g lease text f =
+so_far_on onward begun sent next here there rest old mid new before between after is s g terms text f =
     let P : Onward → Type 0 = λ u. GathersOnBy sent there mid u new rest between after in
-    let front = s lease text f in
-    let back = subst P is g lease front.0 front.2 in
-    (back.0, gathered_then lease text front.0 back.0 old mid new before between after front.1 back.1, back.2)
+    let front = s terms text f in
+    let back = subst P is g terms front.0 front.2 in
+    (back.0, gathered_then terms text front.0 back.0 old mid new before between after front.1 back.1, back.2)
 
-then_gathers : (behind : Behind) (lease : ℕ) (text there rest : Known) (old mid new : GroupState) (before between after : List ℕ) → Gathered lease text old mid there before between
-    → Gathers lease there mid behind new rest between after → Gathers lease text old behind new rest before after
-then_gathers behinds.Nothing lease text there rest old mid new before between after g h =
-    (h.0, gathered_then lease text there h.0 old mid new before between after g h.1, h.2)
-then_gathers (behinds.Found found) lease text there rest old mid new before between after g h =
-    (h.0, gathered_then lease text there h.0 old mid new before between after g h.1, h.2)
-then_gathers (behinds.Lost stop) lease text there rest old mid new before between after g h = (h.0, h.1 ∙ g.store)
+then_gathers : (behind : Behind) (terms : MasterTerms) (text there rest : Known) (old mid new : GroupState) (before between after : List ℕ) → Gathered terms text old mid there before between
+    → Gathers terms there mid behind new rest between after → Gathers terms text old behind new rest before after
+then_gathers behinds.Nothing terms text there rest old mid new before between after g h =
+    (h.0, gathered_then terms text there h.0 old mid new before between after g h.1, h.2)
+then_gathers (behinds.Found found) terms text there rest old mid new before between after g h =
+    (h.0, gathered_then terms text there h.0 old mid new before between after g h.1, h.2)
+then_gathers (behinds.Lost stop) terms text there rest old mid new before between after g h = (h.0, h.1 ∙ g.store)
 
 pub so_far_ends : (onward : Onward) (behind : Behind) (begun sent : Result Frame WireFault) (here there rest : Known) (old mid new : GroupState) (before between after : List ℕ) → onward ≡ onwards.Ends behind
     → SoFar begun here old sent mid there before between → GathersOnBy sent there mid onward new rest between after → GathersBy begun here old behind new rest before after
-so_far_ends onward behind begun sent here there rest old mid new before between after is s g lease text f =
+so_far_ends onward behind begun sent here there rest old mid new before between after is s g terms text f =
     let P : Onward → Type 0 = λ u. GathersOnBy sent there mid u new rest between after in
-    let front = s lease text f in
-    then_gathers behind lease text front.0 rest old mid new before between after front.1 (subst P is g lease front.0 front.2)
+    let front = s terms text f in
+    then_gathers behind terms text front.0 rest old mid new before between after front.1 (subst P is g terms front.0 front.2)
 
 pub so_far_full : (begun sent : Result Frame WireFault) (here rest : Known) (old new : GroupState) (before after : List ℕ) → SoFar begun here old sent new rest before after
     → GathersBy begun here old (behinds.Found (Some sent)) new rest before after
-so_far_full begun sent here rest old new before after s lease text f = s lease text f
+so_far_full begun sent here rest old new before after s terms text f = s terms text f
 
 -- ---- what is told of a frame
 
@@ -169,7 +170,7 @@ pub together_nothing : (behind : Behind) (course : Course) (terms : GroupTerms) 
     → GoesBy terms (Some begun) here (together first) course new rest before after
 together_nothing behind course terms begun here rest before after first group t0 told slice new is empty same none g k text f =
     let P : Behind → Type 0 = λ u. GathersBy begun here first u group rest [] told in
-    let done = subst P is (from_none t0 told begun here rest first group behind empty g) terms.lease text f in
+    let done = subst P is (from_none t0 told begun here rest first group behind empty g) terms.master text f in
     let Q : List ℕ → Type 0 = λ u. Keeps group u course new before after in
     let W : Known → Type 0 = λ u. Goes terms text (together first) course new u before after in
     subst W (sym done.2) (kept_goes course terms text done.0 before after first group told new none done.1 (subst Q same k))
@@ -180,7 +181,7 @@ pub together_found : (behind : Behind) (found : Option (Result Frame WireFault))
     → ((there : Known) → ServesBehind terms kept found there mid course new between after) → GoesBy terms (Some begun) here (together first) course new rest before after
 together_found behind found kept course terms begun here rest before between after first group t0 told slice mid new is empty same none g k s text f =
     let P : Behind → Type 0 = λ u. GathersBy begun here first u group rest [] told in
-    let done = subst P is (from_none t0 told begun here rest first group behind empty g) terms.lease text f in
+    let done = subst P is (from_none t0 told begun here rest first group behind empty g) terms.master text f in
     let Q : List ℕ → Type 0 = λ u. Keeps group u kept mid before between in
     behind_goes kept course terms found text done.0 rest before between after (together first) mid new
     (kept_goes kept terms text done.0 before between first group told mid none done.1 (subst Q same k)) (s rest) done.2
@@ -190,5 +191,5 @@ pub together_lost : (behind : Behind) (stop : Stop) (terms : GroupTerms) (begun 
     → GoesBy terms (Some begun) here (together first) (courses.Ends (Stopped stop)) (without_master store) rest before before
 together_lost behind stop terms begun here rest before first group t0 told store is none g kept text f =
     let P : Behind → Type 0 = λ u. GathersBy begun here first u group rest t0 told in
-    let done = subst P is g terms.lease text f in
+    let done = subst P is g terms.master text f in
     lost_goes stop terms text rest before first group store none done.0 done.1 kept

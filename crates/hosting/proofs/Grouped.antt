@@ -3,6 +3,7 @@ use Rattle.std.proofs.Common.{◌≡◌, inl, inr, ℕ, List, [], ◌∷◌, ◌
 use Rattle.std.specs.Io.KnownBytes.{Appends}
 use Rattle.std.proofs.KnownBytes.{Appends-nil, Appends-trans}
 use Rattle.node_core.specs.declared.refusals.Fault.{Fault}
+use Rattle.rows_cell.specs.declared.settings.MasterTerms.{MasterTerms}
 use Rattle.rows_cell.specs.Stores.{Store}
 use Rattle.codec.specs.declared.faults.WireFault.{WireFault}
 use Rattle.output.specs.Fronts.{AppendsFront}
@@ -37,13 +38,13 @@ groups_behind terms text there rest old mid new [] back p q =
     subst Q p.1 (subst P p.0 q)
 groups_behind terms text there rest old mid new (group ∷ front) back p q = (p.0, p.1, p.2, groups_behind terms p.1 there rest p.0 mid new front back p.3 q)
 
-pub turns_behind : (lease : ℕ) (text there rest : Known) (old mid new : Hosted) (front back : List Answer) → Turns lease text old front mid there → Turns lease there mid back new rest
-    → Turns lease text old (front ++ back) new rest
-turns_behind lease text there rest old mid new [] back p q =
-    let P : Hosted → Type 0 = λ h. Turns lease there h back new rest in
-    let Q : Known → Type 0 = λ u. Turns lease u old back new rest in
+pub turns_behind : (terms : MasterTerms) (text there rest : Known) (old mid new : Hosted) (front back : List Answer) → Turns terms text old front mid there → Turns terms there mid back new rest
+    → Turns terms text old (front ++ back) new rest
+turns_behind terms text there rest old mid new [] back p q =
+    let P : Hosted → Type 0 = λ h. Turns terms there h back new rest in
+    let Q : Known → Type 0 = λ u. Turns terms u old back new rest in
     subst Q p.1 (subst P p.0 q)
-turns_behind lease text there rest old mid new (answer ∷ front) back p q = (p.0, p.1, p.2, turns_behind lease p.1 there rest p.0 mid new front back p.3 q)
+turns_behind terms text there rest old mid new (answer ∷ front) back p q = (p.0, p.1, p.2, turns_behind terms p.1 there rest p.0 mid new front back p.3 q)
 
 pub answers_behind : (front back : List Answer) (xs ys : List ℕ) → AreAnswers front xs → AreAnswers back ys → AreAnswers (front ++ back) (xs ++ ys)
 answers_behind [] back xs ys p q = let P : List ℕ → Type 0 = λ u. AreAnswers back (u ++ ys) in subst P (sym p) q
@@ -122,7 +123,7 @@ ends_roomless terms text old before = (old, text, served_none terms text old bef
 
 -- ---- a frame by itself
 
-turn_goes : (turned : Turned) (terms : GroupTerms) (text rest before after : Known) (old new : Hosted) → TakesTurn terms.lease text old turned new rest before after
+turn_goes : (turned : Turned) (terms : GroupTerms) (text rest before after : Known) (old new : Hosted) → TakesTurn terms.master text old turned new rest before after
     → Goes terms text old (course_of turned) new rest before after
 turn_goes turned_as.On terms text rest before after old new t = record {
   groups = (t.0 ∷ []) ∷ [];
@@ -143,10 +144,10 @@ turn_goes (turned_as.Stopped Unwritten) terms text rest before after old new t =
     (old, text, rest, before, served_none terms text old before, (t.0 ∷ [], t.1, group, told, t.4))
 
 pub alone_goes : (terms : GroupTerms) (found : Option (Result Frame WireFault)) (turned : Turned) (course : Course) (here before after : Known) (old new : Hosted) → course ≡ course_of turned
-    → DoesFound terms.lease found old turned new before after → GoesBy terms found here old course new here before after
+    → DoesFound terms.master found old turned new before after → GoesBy terms found here old course new here before after
 alone_goes terms found turned course here before after old new is does text f =
     let P : Course → Type 0 = λ u. Goes terms text old u new here before after in
-    subst P (sym is) (turn_goes turned terms text here before after old new (found_turn found turned terms.lease text here before after old new f does))
+    subst P (sym is) (turn_goes turned terms text here before after old new (found_turn found turned terms.master text here before after old new f does))
 
 pub unread_goes : (stop : Stop) (terms : GroupTerms) (text rest before : Known) (old : Hosted) → stop ≡ Unread → Goes terms text old (courses.Ends (Stopped stop)) old rest before before
 unread_goes stop terms text rest before old is =
@@ -165,7 +166,7 @@ from_first limits first group none same = ap (λ (g : Store × GroupLimits). g.0
 limits_kept : (limits : GroupLimits) (first group : GroupState) → first.held ≡ no_pieces limits → ground group ≡ ground first → group.held.limits ≡ limits
 limits_kept limits first group none same = ap (λ (g : Store × GroupLimits). g.1) same ∙ ap (λ (h : HeldPieces). h.limits) none
 
-kept_group : (terms : GroupTerms) (text there : Known) (first group : GroupState) (told : List ℕ) (new : Hosted) → first.held ≡ no_pieces terms.limits → (g : Gathered terms.lease text first group there [] told) → IsKeptAs group new
+kept_group : (terms : GroupTerms) (text there : Known) (first group : GroupState) (told : List ℕ) (new : Hosted) → first.held ≡ no_pieces terms.limits → (g : Gathered terms.master text first group there [] told) → IsKeptAs group new
     → KeptGroup terms text (together first) g.answers new there
 kept_group terms text there first group told new none g k =
     let same = from_first terms.limits first group none g.store in
@@ -182,11 +183,11 @@ kept_group terms text there first group told new none g k =
       master = k.master;
     }
 
-kept_groups : (terms : GroupTerms) (text there : Known) (first group : GroupState) (told : List ℕ) (new : Hosted) → first.held ≡ no_pieces terms.limits → (g : Gathered terms.lease text first group there [] told) → IsKeptAs group new
+kept_groups : (terms : GroupTerms) (text there : Known) (first group : GroupState) (told : List ℕ) (new : Hosted) → first.held ≡ no_pieces terms.limits → (g : Gathered terms.master text first group there [] told) → IsKeptAs group new
     → Groups terms text (together first) (g.answers ∷ []) new there
 kept_groups terms text there first group told new none g k = (new, there, inr (kept_group terms text there first group told new none g k), (refl, refl))
 
-lost_group : (fault : Fault) (terms : GroupTerms) (text there : Known) (first group : GroupState) (told : List ℕ) (new : Hosted) → first.held ≡ no_pieces terms.limits → Gathered terms.lease text first group there [] told → IsLostAs fault group new
+lost_group : (fault : Fault) (terms : GroupTerms) (text there : Known) (first group : GroupState) (told : List ℕ) (new : Hosted) → first.held ≡ no_pieces terms.limits → Gathered terms.master text first group there [] told → IsLostAs fault group new
     → LostGroup terms text (together first) fault new
 lost_group fault terms text there first group told new none g k =
     let same = from_first terms.limits first group none g.store in
@@ -206,7 +207,7 @@ lost_group fault terms text there first group told new none g k =
     }
 
 pub kept_goes : (course : Course) (terms : GroupTerms) (text there before after : Known) (first group : GroupState) (told : List ℕ) (new : Hosted) → first.held ≡ no_pieces terms.limits
-    → Gathered terms.lease text first group there [] told → Keeps group told course new before after → Goes terms text (together first) course new there before after
+    → Gathered terms.master text first group there [] told → Keeps group told course new before after → Goes terms text (together first) course new there before after
 kept_goes courses.On terms text there before after first group told new none g k =
     let P : List ℕ → Type 0 = λ u. Appends before after u in
     let Q : List Answer → Type 0 = λ u. AreAnswers u g.bytes in

@@ -3,6 +3,7 @@
 use Rattle.std.specs.Prelude.{◌≡◌, ◌⊎◌, ⊤, ℕ, List, [], ◌∷◌, ◌++◌, Option, Some, None, Result, Ok, Err}
 use Rattle.std.specs.Io.KnownBytes.{Appends, IsAtEnd}
 use Rattle.node_core.specs.declared.refusals.Fault.{Fault}
+use Rattle.rows_cell.specs.declared.settings.MasterTerms.{MasterTerms}
 use Rattle.rows_cell.specs.declared.tables.Edit.{Edit}
 use Rattle.master_state.specs.State.{MasterState}
 use Rattle.codec.specs.declared.faults.WireFault.{WireFault}
@@ -39,7 +40,7 @@ Known = Option (List ℕ)
 -- committed, piece by piece
 pub record KeptGroup (terms : GroupTerms) (text : Known) (old : Hosted) (answers : List Answer) (new : Hosted) (rest : Known) : Type 0 where
   pub done : Hosted
-  pub turns : Turns terms.lease text old answers done rest
+  pub turns : Turns terms.master text old answers done rest
   pub pieces : List (List Edit)
   pub taken : AreTaken terms.limits pieces
   pub held : done.store ≡ store_behind old.store (joined pieces)
@@ -52,7 +53,7 @@ pub record LostGroup (terms : GroupTerms) (text : Known) (old : Hosted) (fault :
   pub done : Hosted
   pub answers : List Answer
   pub rest : Known
-  pub turns : Turns terms.lease text old answers done rest
+  pub turns : Turns terms.master text old answers done rest
   pub pieces : List (List Edit)
   pub taken : AreTaken terms.limits pieces
   pub held : done.store ≡ store_behind old.store (joined pieces)
@@ -61,7 +62,7 @@ pub record LostGroup (terms : GroupTerms) (text : Known) (old : Hosted) (fault :
 
 -- frames were done by themselves, one behind the other; or as a group
 abbrev pub TakesGroup : GroupTerms → Known → Hosted → List Answer → Hosted → Known → Type 0
-TakesGroup terms text old answers new rest = Turns terms.lease text old answers new rest ⊎ KeptGroup terms text old answers new rest
+TakesGroup terms text old answers new rest = Turns terms.master text old answers new rest ⊎ KeptGroup terms text old answers new rest
 
 -- groups, one behind the other
 abbrev pub Groups : GroupTerms → Known → Hosted → List (List Answer) → Hosted → Known → Type 0
@@ -97,7 +98,7 @@ EndsGroups terms text old (Ok x) new before after = (rest : Known) × ServedGrou
 EndsGroups terms text old (Err (Stopped Unread)) new before after =
     (mid : Hosted) × (rest : Known) × ServedGroups terms text old mid rest before after × MaybeLost mid new
 EndsGroups terms text old (Err (Stopped NoMemory)) new before after =
-    (mid : Hosted) × (rest : Known) × ServedGroups terms text old mid rest before after × (MaybeOne terms.lease rest mid new ⊎ MaybeLost mid new)
+    (mid : Hosted) × (rest : Known) × ServedGroups terms text old mid rest before after × (MaybeOne terms.master rest mid new ⊎ MaybeLost mid new)
 EndsGroups terms text old (Err (Stopped Unwritten)) new before after =
     (mid : Hosted) × (rest : Known) × (behind : Known) × (between : Known)
     × ServedGroups terms text old mid rest before between × BreaksGroup terms rest mid new behind between after
@@ -135,7 +136,7 @@ together group = with_master (seen group)
 pub record HeldTurn (sent : Result Frame WireFault) (old new : GroupState) (before after : List ℕ) : Type 0 where
   pub answer : Answer
   pub bytes : List ℕ
-  pub does : (lease : ℕ) → Does lease sent (together old) answer.reply (together new)
+  pub does : (terms : MasterTerms) → Does terms sent (together old) answer.reply (together new)
   pub due : IsDue (Some new.master) answer.deadline
   pub blocks : AreBlocks (all_told answer.reply answer.deadline) bytes
   pub told : after ≡ before ++ bytes
@@ -143,7 +144,7 @@ pub record HeldTurn (sent : Result Frame WireFault) (old new : GroupState) (befo
 
 -- a frame was done so, or it is none that is done in a group
 abbrev pub DoesHeld : Result Frame WireFault → GroupState → Option Reply → GroupState → Type 0
-DoesHeld sent old (Some reply) new = ((lease : ℕ) → Does lease sent (together old) reply (together new)) × (ground new ≡ ground old)
+DoesHeld sent old (Some reply) new = ((terms : MasterTerms) → Does terms sent (together old) reply (together new)) × (ground new ≡ ground old)
 DoesHeld sent old None new = new ≡ old
 
 -- why a group is lost before it is committed
@@ -178,31 +179,31 @@ NextThere (onwards.Next sent) before after = FrameIs before sent after
 NextThere (onwards.Ends behind) before after = StandsBehind behind before after
 
 -- frames were done, one behind the other, what they changed is held back, and what is told of them stands in a list
-pub record Gathered (lease : ℕ) (text : Known) (old new : GroupState) (rest : Known) (before after : List ℕ) : Type 0 where
+pub record Gathered (terms : MasterTerms) (text : Known) (old new : GroupState) (rest : Known) (before after : List ℕ) : Type 0 where
   pub answers : List Answer
   pub bytes : List ℕ
-  pub turns : Turns lease text (together old) answers (together new) rest
+  pub turns : Turns terms text (together old) answers (together new) rest
   pub told : AreAnswers answers bytes
   pub behind : after ≡ before ++ bytes
   pub store : ground new ≡ ground old
 
 -- and what stands behind them was looked for
-abbrev pub Gathers : ℕ → Known → GroupState → Behind → GroupState → Known → List ℕ → List ℕ → Type 0
-Gathers lease text old (behinds.Lost stop) new rest before after = IsLosing stop × (ground new ≡ ground old)
-Gathers lease text old behind new rest before after = (there : Known) × Gathered lease text old new there before after × StandsBehind behind there rest
+abbrev pub Gathers : MasterTerms → Known → GroupState → Behind → GroupState → Known → List ℕ → List ℕ → Type 0
+Gathers terms text old (behinds.Lost stop) new rest before after = IsLosing stop × (ground new ≡ ground old)
+Gathers terms text old behind new rest before after = (there : Known) × Gathered terms text old new there before after × StandsBehind behind there rest
 
-abbrev pub GathersOn : ℕ → Known → GroupState → Onward → GroupState → Known → List ℕ → List ℕ → Type 0
-GathersOn lease text old (onwards.Next sent) new rest before after = (there : Known) × Gathered lease text old new there before after × FrameIs there sent rest
-GathersOn lease text old (onwards.Ends behind) new rest before after = Gathers lease text old behind new rest before after
+abbrev pub GathersOn : MasterTerms → Known → GroupState → Onward → GroupState → Known → List ℕ → List ℕ → Type 0
+GathersOn terms text old (onwards.Next sent) new rest before after = (there : Known) × Gathered terms text old new there before after × FrameIs there sent rest
+GathersOn terms text old (onwards.Ends behind) new rest before after = Gathers terms text old behind new rest before after
 
 -- the same, from a frame on that was read
 abbrev pub GathersBy : Result Frame WireFault → Known → GroupState → Behind → GroupState → Known → List ℕ → List ℕ → Type 0
 GathersBy begun here old behind new rest before after =
-    (lease : ℕ) → (text : Known) → FrameIs text begun here → Gathers lease text old behind new rest before after
+    (terms : MasterTerms) → (text : Known) → FrameIs text begun here → Gathers terms text old behind new rest before after
 
 abbrev pub GathersOnBy : Result Frame WireFault → Known → GroupState → Onward → GroupState → Known → List ℕ → List ℕ → Type 0
 GathersOnBy begun here old onward new rest before after =
-    (lease : ℕ) → (text : Known) → FrameIs text begun here → GathersOn lease text old onward new rest before after
+    (terms : MasterTerms) → (text : Known) → FrameIs text begun here → GathersOn terms text old onward new rest before after
 
 -- ---- the commit
 

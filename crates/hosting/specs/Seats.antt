@@ -1,6 +1,7 @@
 -- A master that a program hosts, and what it does by a frame.
 use Rattle.std.specs.Prelude.{◌≡◌, ℕ, Option, Some, None, Result, Ok, Err}
 use Rattle.node_core.specs.declared.refusals.Fault.TheVariants.{NoMemory, MasterDown, MasterUp}
+use Rattle.rows_cell.specs.declared.settings.MasterTerms.{MasterTerms}
 use Rattle.rows_cell.specs.Stores.{Store}
 use Rattle.tags_cell.specs.declared.messages.requests.Request.{Request}
 use Rattle.master_state.specs.State.{MasterState}
@@ -52,19 +53,19 @@ abbrev pub IsTurnedAway : Hosted → Reply → Reply → Hosted → Type 0
 IsTurnedAway old wanted reply new = (reply ≡ wanted) × (new ≡ old)
 
 -- the master came up, committed its epoch, and did what there was to do
-pub record CameUp (lease now : ℕ) (old : Store) (epoch : ℕ) (settled : Settled) (new : Hosted) : Type 0 where
+pub record CameUp (terms : MasterTerms) (now : ℕ) (old : Store) (epoch : ℕ) (settled : Settled) (new : Hosted) : Type 0 where
   pub cell : CellState
-  pub came : ComesUp lease now cell.master old cell.store
+  pub came : ComesUp terms now cell.master old cell.store
   pub told : epoch ≡ cell.master.epoch
   pub after : CellState
   pub swept : Settles now cell settled after
   pub up : new ≡ with_master after
 
 -- one comes up, or it is told why none does
-abbrev pub ComesIn : ℕ → ℕ → Store → Reply → Hosted → Type 0
-ComesIn lease now old (replies.Came epoch settled) new = CameUp lease now old epoch settled new
-ComesIn lease now old (replies.Refused fault) new = StaysDown lease now fault old new.store × (new.master ≡ None)
-ComesIn lease now old _ new = ⊥
+abbrev pub ComesIn : MasterTerms → ℕ → Store → Reply → Hosted → Type 0
+ComesIn terms now old (replies.Came epoch settled) new = CameUp terms now old epoch settled new
+ComesIn terms now old (replies.Refused fault) new = StaysDown terms now fault old new.store × (new.master ≡ None)
+ComesIn terms now old _ new = ⊥
 
 -- a message comes to the master
 abbrev pub Hears : ℕ → Request → CellState → Reply → Hosted → Type 0
@@ -78,9 +79,9 @@ Sweeps now old _ new = ⊥
 
 -- ---- with a master, or without one
 
-abbrev pub Arrives : ℕ → ℕ → Option MasterState → Store → Reply → Hosted → Type 0
-Arrives lease now None store reply new = ComesIn lease now store reply new
-Arrives lease now (Some master) store reply new = IsTurnedAway (with_master (cell_of master store)) (replies.Refused MasterUp) reply new
+abbrev pub Arrives : MasterTerms → ℕ → Option MasterState → Store → Reply → Hosted → Type 0
+Arrives terms now None store reply new = ComesIn terms now store reply new
+Arrives terms now (Some master) store reply new = IsTurnedAway (with_master (cell_of master store)) (replies.Refused MasterUp) reply new
 
 abbrev pub Listens : ℕ → Request → Option MasterState → Store → Reply → Hosted → Type 0
 Listens now message None store reply new = IsTurnedAway (without_master store) (replies.Refused MasterDown) reply new
@@ -106,14 +107,14 @@ abbrev pub Stands : Option MasterState → Store → Reply → Hosted → Type 0
 Stands None store reply new = IsTurnedAway (without_master store) (replies.Refused MasterDown) reply new
 Stands (Some master) store reply new = Shows (standing_of master) reply × (new ≡ with_master (cell_of master store))
 
-abbrev pub DoesFrame : ℕ → Frame → Hosted → Reply → Hosted → Type 0
-DoesFrame lease (frames.Up now) old reply new = Arrives lease now old.master old.store reply new
-DoesFrame lease (frames.Message now message) old reply new = Listens now message old.master old.store reply new
-DoesFrame lease (frames.Tick now) old reply new = Ticks now old.master old.store reply new
-DoesFrame lease frames.Down old reply new = Leaves old.master old.store reply new
-DoesFrame lease frames.State old reply new = Stands old.master old.store reply new
+abbrev pub DoesFrame : MasterTerms → Frame → Hosted → Reply → Hosted → Type 0
+DoesFrame terms (frames.Up now) old reply new = Arrives terms now old.master old.store reply new
+DoesFrame terms (frames.Message now message) old reply new = Listens now message old.master old.store reply new
+DoesFrame terms (frames.Tick now) old reply new = Ticks now old.master old.store reply new
+DoesFrame terms frames.Down old reply new = Leaves old.master old.store reply new
+DoesFrame terms frames.State old reply new = Stands old.master old.store reply new
 
 -- what was sent is a frame, and is done; or it is none, which is told, and nothing changes
-abbrev pub Does : ℕ → Result Frame WireFault → Hosted → Reply → Hosted → Type 0
-Does lease (Ok frame) old reply new = DoesFrame lease frame old reply new
-Does lease (Err fault) old reply new = (reply ≡ replies.Bad fault) × (new ≡ old)
+abbrev pub Does : MasterTerms → Result Frame WireFault → Hosted → Reply → Hosted → Type 0
+Does terms (Ok frame) old reply new = DoesFrame terms frame old reply new
+Does terms (Err fault) old reply new = (reply ≡ replies.Bad fault) × (new ≡ old)

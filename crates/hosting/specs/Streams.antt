@@ -1,4 +1,5 @@
 -- Frames that come one behind the other in a stream, and the answers in another.
+use Rattle.rows_cell.specs.declared.settings.MasterTerms.{MasterTerms}
 use Rattle.std.specs.Prelude.{◌≡◌, ◌⊎◌, ◌≤◌, ⊤, ℕ, List, [], ◌∷◌, ◌++◌, length, take, drop, Option, Some, None, Result, Ok, Err}
 use Rattle.std.specs.Io.KnownBytes.{Appends, IsAtEnd}
 use Rattle.collections.specs.Results.{Gives}
@@ -81,21 +82,21 @@ abbrev pub answer_told : Answer → List Told
 answer_told answer = all_told answer.reply answer.deadline
 
 -- a frame was read, done, and answered so
-pub record Done (lease : ℕ) (text : Option (List ℕ)) (old : Hosted) (reply : Reply) (new : Hosted) (rest : Option (List ℕ)) : Type 0 where
+pub record Done (terms : MasterTerms) (text : Option (List ℕ)) (old : Hosted) (reply : Reply) (new : Hosted) (rest : Option (List ℕ)) : Type 0 where
   pub sent : Result Frame WireFault
   pub next : FrameIs text sent rest
-  pub does : Does lease sent old reply new
+  pub does : Does terms sent old reply new
 
 -- the same, with the deadline that there is behind it
-pub record Turn (lease : ℕ) (text : Option (List ℕ)) (old : Hosted) (answer : Answer) (new : Hosted) (rest : Option (List ℕ)) : Type 0 where
-  pub done : Done lease text old answer.reply new rest
+pub record Turn (terms : MasterTerms) (text : Option (List ℕ)) (old : Hosted) (answer : Answer) (new : Hosted) (rest : Option (List ℕ)) : Type 0 where
+  pub done : Done terms text old answer.reply new rest
   pub due : IsDue new.master answer.deadline
 
 -- frames of a text were read and done, one behind the other, and answered so
-abbrev pub Turns : ℕ → Option (List ℕ) → Hosted → List Answer → Hosted → Option (List ℕ) → Type 0
-Turns lease text old [] new rest = (new ≡ old) × (rest ≡ text)
-Turns lease text old (answer ∷ answers) new rest =
-    (mid : Hosted) × (behind : Option (List ℕ)) × Turn lease text old answer mid behind × Turns lease behind mid answers new rest
+abbrev pub Turns : MasterTerms → Option (List ℕ) → Hosted → List Answer → Hosted → Option (List ℕ) → Type 0
+Turns terms text old [] new rest = (new ≡ old) × (rest ≡ text)
+Turns terms text old (answer ∷ answers) new rest =
+    (mid : Hosted) × (behind : Option (List ℕ)) × Turn terms text old answer mid behind × Turns terms behind mid answers new rest
 
 -- all that is told of them, in their order
 abbrev pub AreAnswers : List Answer → List ℕ → Type 0
@@ -103,41 +104,41 @@ AreAnswers [] bytes = bytes ≡ []
 AreAnswers (answer ∷ rest) bytes = (here : List ℕ) × (later : List ℕ) × AreBlocks (answer_told answer) here × AreAnswers rest later × (bytes ≡ here ++ later)
 
 -- frames were read and done, and all that is told of them was written
-pub record Served (lease : ℕ) (text : Option (List ℕ)) (old new : Hosted) (rest before after : Option (List ℕ)) : Type 0 where
+pub record Served (terms : MasterTerms) (text : Option (List ℕ)) (old new : Hosted) (rest before after : Option (List ℕ)) : Type 0 where
   pub answers : List Answer
   pub bytes : List ℕ
-  pub turns : Turns lease text old answers new rest
+  pub turns : Turns terms text old answers new rest
   pub told : AreAnswers answers bytes
   pub written : Appends before after bytes
 
 -- one frame more was done, or none
-abbrev pub MaybeOne : ℕ → Option (List ℕ) → Hosted → Hosted → Type 0
-MaybeOne lease text old new = (new ≡ old) ⊎ ((reply : Reply) × (rest : Option (List ℕ)) × Done lease text old reply new rest)
+abbrev pub MaybeOne : MasterTerms → Option (List ℕ) → Hosted → Hosted → Type 0
+MaybeOne terms text old new = (new ≡ old) ⊎ ((reply : Reply) × (rest : Option (List ℕ)) × Done terms text old reply new rest)
 
 -- a frame was read and done, and a front of all that is told of it was written
-abbrev pub BreaksOff : ℕ → Option (List ℕ) → Hosted → Hosted → Option (List ℕ) → Option (List ℕ) → Option (List ℕ) → Type 0
-BreaksOff lease text old new rest before after =
-    (answer : Answer) × (bytes : List ℕ) × Turn lease text old answer new rest × AreBlocks (answer_told answer) bytes × AppendsFront before after bytes
+abbrev pub BreaksOff : MasterTerms → Option (List ℕ) → Hosted → Hosted → Option (List ℕ) → Option (List ℕ) → Option (List ℕ) → Type 0
+BreaksOff terms text old new rest before after =
+    (answer : Answer) × (bytes : List ℕ) × Turn terms text old answer new rest × AreBlocks (answer_told answer) bytes × AppendsFront before after bytes
 
 -- all frames of a text were done and answered; or those before one that couldn't be read; or those before one that may
 -- be done, whose answer found no memory; or those before one that was done, of whose answer a front alone was written
-abbrev pub Ends : ℕ → Option (List ℕ) → Hosted → Result (Unit {0}) Stop → Hosted → Option (List ℕ) → Option (List ℕ) → Type 0
-Ends lease text old (Ok x) new before after = (rest : Option (List ℕ)) × Served lease text old new rest before after × IsAtEnd rest
-Ends lease text old (Err Unread) new before after = (rest : Option (List ℕ)) × Served lease text old new rest before after
-Ends lease text old (Err NoMemory) new before after =
-    (mid : Hosted) × (rest : Option (List ℕ)) × Served lease text old mid rest before after × MaybeOne lease rest mid new
-Ends lease text old (Err Unwritten) new before after =
+abbrev pub Ends : MasterTerms → Option (List ℕ) → Hosted → Result (Unit {0}) Stop → Hosted → Option (List ℕ) → Option (List ℕ) → Type 0
+Ends terms text old (Ok x) new before after = (rest : Option (List ℕ)) × Served terms text old new rest before after × IsAtEnd rest
+Ends terms text old (Err Unread) new before after = (rest : Option (List ℕ)) × Served terms text old new rest before after
+Ends terms text old (Err NoMemory) new before after =
+    (mid : Hosted) × (rest : Option (List ℕ)) × Served terms text old mid rest before after × MaybeOne terms rest mid new
+Ends terms text old (Err Unwritten) new before after =
     (mid : Hosted) × (rest : Option (List ℕ)) × (behind : Option (List ℕ)) × (between : Option (List ℕ))
-    × Served lease text old mid rest before between × BreaksOff lease rest mid new behind between after
+    × Served terms text old mid rest before between × BreaksOff terms rest mid new behind between after
 
 -- what one turn did: a frame was answered, or none is left; or it stopped so
-abbrev pub TakesTurn : ℕ → Option (List ℕ) → Hosted → Turned → Hosted → Option (List ℕ) → Option (List ℕ) → Option (List ℕ) → Type 0
-TakesTurn lease text old On new rest before after =
-    (answer : Answer) × (bytes : List ℕ) × Turn lease text old answer new rest × AreBlocks (answer_told answer) bytes × Appends before after bytes
-TakesTurn lease text old Over new rest before after = IsAtEnd text × (new ≡ old) × (after ≡ before)
-TakesTurn lease text old (Stopped Unread) new rest before after = (new ≡ old) × (after ≡ before)
-TakesTurn lease text old (Stopped NoMemory) new rest before after = MaybeOne lease text old new × (after ≡ before)
-TakesTurn lease text old (Stopped Unwritten) new rest before after = BreaksOff lease text old new rest before after
+abbrev pub TakesTurn : MasterTerms → Option (List ℕ) → Hosted → Turned → Hosted → Option (List ℕ) → Option (List ℕ) → Option (List ℕ) → Type 0
+TakesTurn terms text old On new rest before after =
+    (answer : Answer) × (bytes : List ℕ) × Turn terms text old answer new rest × AreBlocks (answer_told answer) bytes × Appends before after bytes
+TakesTurn terms text old Over new rest before after = IsAtEnd text × (new ≡ old) × (after ≡ before)
+TakesTurn terms text old (Stopped Unread) new rest before after = (new ≡ old) × (after ≡ before)
+TakesTurn terms text old (Stopped NoMemory) new rest before after = MaybeOne terms text old new × (after ≡ before)
+TakesTurn terms text old (Stopped Unwritten) new rest before after = BreaksOff terms text old new rest before after
 
 -- all that is told of a frame, with a deadline, was written; or there is no memory for it, or a front of it alone was written
 abbrev pub IsWritten : Turned → Reply → Option ℕ → Option (List ℕ) → Option (List ℕ) → Type 0
@@ -156,6 +157,6 @@ IsTold (Stopped Unwritten) master reply before after = (deadline : Option ℕ) �
 IsTold (Stopped Unread) master reply before after = ⊥
 
 -- what was found was done, and told of so; or nothing was found
-abbrev pub DoesFound : ℕ → Option (Result Frame WireFault) → Hosted → Turned → Hosted → Option (List ℕ) → Option (List ℕ) → Type 0
-DoesFound lease None old turned new before after = (turned ≡ Over) × (new ≡ old) × (after ≡ before)
-DoesFound lease (Some sent) old turned new before after = (reply : Reply) × Does lease sent old reply new × IsTold turned new.master reply before after
+abbrev pub DoesFound : MasterTerms → Option (Result Frame WireFault) → Hosted → Turned → Hosted → Option (List ℕ) → Option (List ℕ) → Type 0
+DoesFound terms None old turned new before after = (turned ≡ Over) × (new ≡ old) × (after ≡ before)
+DoesFound terms (Some sent) old turned new before after = (reply : Reply) × Does terms sent old reply new × IsTold turned new.master reply before after

@@ -43,7 +43,7 @@ pub fn serve_groups<R: Records, I: Read, W: Write>(
     reader: &mut BufReader<I>,
     writer: &mut W,
 ) -> (Seat<R>, Result<(), GroupStop>)
-    requires { (1000 ≤ terms.lease) × (terms.lease ≤ 60000) }
+    requires { (1000 ≤ terms.master.lease) × (terms.master.lease ≤ 60000) }
     ensures { EndsGroups terms (reader_remaining I.remaining reader.old) (hosted R.store seat) result.1 (hosted R.store result.0) (W.contents writer.old) (W.contents writer.new) }
 {
     match block_room(alloc) {
@@ -60,7 +60,7 @@ fn serve_all<R: Records, I: Read, W: Write>(
     buffer: &mut [u8],
     writer: &mut W,
 ) -> (Seat<R>, Result<(), GroupStop>)
-    requires lease { (1000 ≤ terms.lease) × (terms.lease ≤ 60000) }
+    requires lease { (1000 ≤ terms.master.lease) × (terms.master.lease ≤ 60000) }
     requires room { length buffer.old ≡ 1048576 }
     ensures { EndsGroups terms (reader_remaining I.remaining reader.old) (hosted R.store first) result.1 (hosted R.store result.0) (W.contents writer.old) (W.contents writer.new) }
 {
@@ -86,7 +86,7 @@ fn serve_some<R: Records, I: Read, W: Write>(
     buffer: &mut [u8],
     writer: &mut W,
 ) -> (Seat<R>, Course)
-    requires lease { (1000 ≤ terms.lease) × (terms.lease ≤ 60000) }
+    requires lease { (1000 ≤ terms.master.lease) × (terms.master.lease ≤ 60000) }
     requires room { length buffer.old ≡ 1048576 }
     ensures { Goes terms (reader_remaining I.remaining reader.old) (hosted R.store seat) result.1 (hosted R.store result.0) (reader_remaining I.remaining reader.new) (W.contents writer.old) (W.contents writer.new) }
 {
@@ -106,7 +106,7 @@ fn serve_from<R: Records, I: Read, W: Write>(
     buffer: &mut [u8],
     writer: &mut W,
 ) -> (Seat<R>, Course)
-    requires lease { (1000 ≤ terms.lease) × (terms.lease ≤ 60000) }
+    requires lease { (1000 ≤ terms.master.lease) × (terms.master.lease ≤ 60000) }
     requires room { length buffer.old ≡ 1048576 }
     ensures { GoesBy terms found (reader_remaining I.remaining reader.old) (hosted R.store seat) result.1 (hosted R.store result.0) (reader_remaining I.remaining reader.new) (W.contents writer.old) (W.contents writer.new) }
 {
@@ -129,7 +129,7 @@ fn serve_sent<R: Records, I: Read, W: Write>(
     buffer: &mut [u8],
     writer: &mut W,
 ) -> (Seat<R>, Course)
-    requires lease { (1000 ≤ terms.lease) × (terms.lease ≤ 60000) }
+    requires lease { (1000 ≤ terms.master.lease) × (terms.master.lease ≤ 60000) }
     requires room { length buffer.old ≡ 1048576 }
     ensures { GoesBy terms (Some sent) (reader_remaining I.remaining reader.old) (hosted R.store seat) result.1 (hosted R.store result.0) (reader_remaining I.remaining reader.new) (W.contents writer.old) (W.contents writer.new) }
 {
@@ -149,7 +149,7 @@ fn serve_up<R: Records, I: Read, W: Write>(
     buffer: &mut [u8],
     writer: &mut W,
 ) -> (Seat<R>, Course)
-    requires lease { (1000 ≤ terms.lease) × (terms.lease ≤ 60000) }
+    requires lease { (1000 ≤ terms.master.lease) × (terms.master.lease ≤ 60000) }
     requires room { length buffer.old ≡ 1048576 }
     ensures { GoesBy terms (Some sent) (reader_remaining I.remaining reader.old) (with_master cell) result.1 (hosted R.store result.0) (reader_remaining I.remaining reader.new) (W.contents writer.old) (W.contents writer.new) }
 {
@@ -169,10 +169,10 @@ fn serve_alone<R: Records, W: Write>(
     found: Option<Result<Frame, WireFault>>,
     writer: &mut W,
 ) -> (Seat<R>, Course)
-    requires { (1000 ≤ terms.lease) × (terms.lease ≤ 60000) }
+    requires { (1000 ≤ terms.master.lease) × (terms.master.lease ≤ 60000) }
     ensures { (here : Option (List ℕ)) → GoesBy terms found here (hosted R.store seat) result.1 (hosted R.store result.0) here (W.contents writer.old) (W.contents writer.new) }
 {
-    let (next, turned) = serve_found(alloc, terms.lease, seat, found, writer);
+    let (next, turned) = serve_found(alloc, terms.master, seat, found, writer);
     (next, course_of(turned))
 }
 
@@ -196,7 +196,7 @@ fn serve_together<R: Records, I: Read, W: Write>(
     buffer: &mut [u8],
     writer: &mut W,
 ) -> (Seat<R>, Course)
-    requires lease { (1000 ≤ terms.lease) × (terms.lease ≤ 60000) }
+    requires lease { (1000 ≤ terms.master.lease) × (terms.master.lease ≤ 60000) }
     requires room { length buffer.old ≡ 1048576 }
     requires none { first.held ≡ no_pieces terms.limits }
     ensures { GoesBy terms (Some begun) (reader_remaining I.remaining reader.old) (together first) result.1 (hosted R.store result.0) (reader_remaining I.remaining reader.new) (W.contents writer.old) (W.contents writer.new) }
@@ -225,7 +225,7 @@ fn serve_behind<R: Records, W: Write>(
     found: Option<Result<Frame, WireFault>>,
     writer: &mut W,
 ) -> (Seat<R>, Course)
-    requires { (1000 ≤ terms.lease) × (terms.lease ≤ 60000) }
+    requires { (1000 ≤ terms.master.lease) × (terms.master.lease ≤ 60000) }
     ensures { (here : Option (List ℕ)) → ServesBehind terms course found here (hosted R.store seat) result.1 (hosted R.store result.0) (W.contents writer.old) (W.contents writer.new) }
 {
     match course {

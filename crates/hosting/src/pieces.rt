@@ -7,7 +7,7 @@ ghost use Rattle.hosting.specs.Pieces.{AreSound, CommitsEach, IsCutShort, all_pi
 
 use collections::Items;
 use node_core::Fault;
-use rows_cell::{Edit, Records};
+use rows_cell::{Edit, MasterTerms, Records};
 use std::alloc::{AllocError, Global};
 use std::marker::Model;
 use std::mem;
@@ -35,10 +35,10 @@ impl GroupLimits {
     }
 }
 
-/// How groups are served: by this lease, in milliseconds, and these limits for one change of the store.
+/// How groups are served: by a master of these terms, and these limits for one change of the store.
 #[derive(Clone, Copy)]
 pub struct GroupTerms {
-    pub lease: u64,
+    pub master: MasterTerms,
     pub limits: GroupLimits,
 }
 

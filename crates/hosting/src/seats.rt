@@ -11,7 +11,7 @@ use codec::WireFault;
 use master_state::Master;
 use node_core::Fault;
 use over_core::Cell;
-use rows_cell::Records;
+use rows_cell::{MasterTerms, Records};
 use std::alloc::{AllocError, Global};
 use tags_cell::Request;
 
@@ -49,18 +49,18 @@ impl<R: Records> Seat<R> {
         }
     }
 
-    /// Does what was sent: a frame, or what is wrong with one. The lease is in milliseconds.
+    /// Does what was sent: a frame, or what is wrong with one. The master goes by these terms.
     pub fn take(
         self,
         alloc: Global,
-        lease: u64,
+        terms: MasterTerms,
         sent: &Result<Frame, WireFault>,
     ) -> (Seat<R>, Reply)
-        requires { (1000 ≤ lease) × (lease ≤ 60000) }
-        ensures { Does lease sent.now (hosted R.store self) result.1 (hosted R.store result.0) }
+        requires { (1000 ≤ terms.lease) × (terms.lease ≤ 60000) }
+        ensures { Does terms sent.now (hosted R.store self) result.1 (hosted R.store result.0) }
     {
         match sent {
-            Ok(frame) => self.do_frame(alloc, lease, frame),
+            Ok(frame) => self.do_frame(alloc, terms, frame),
             Err(fault) => (self, Reply::Bad(*fault)),
         }
     }
@@ -77,12 +77,12 @@ impl<R: Records> Seat<R> {
         }
     }
 
-    fn do_frame(self, alloc: Global, lease: u64, frame: &Frame) -> (Seat<R>, Reply)
-        requires { (1000 ≤ lease) × (lease ≤ 60000) }
-        ensures { DoesFrame lease frame.now (hosted R.store self) result.1 (hosted R.store result.0) }
+    fn do_frame(self, alloc: Global, terms: MasterTerms, frame: &Frame) -> (Seat<R>, Reply)
+        requires { (1000 ≤ terms.lease) × (terms.lease ≤ 60000) }
+        ensures { DoesFrame terms frame.now (hosted R.store self) result.1 (hosted R.store result.0) }
     {
         match frame {
-            Frame::Up(now) => self.come_up(alloc, lease, *now),
+            Frame::Up(now) => self.come_up(alloc, terms, *now),
             Frame::Message(now, request) => self.hear(alloc, *now, request),
             Frame::Tick(now) => self.sweep(alloc, *now),
             Frame::Down => self.go(),
@@ -90,13 +90,13 @@ impl<R: Records> Seat<R> {
         }
     }
 
-    fn come_up(self, alloc: Global, lease: u64, now: u64) -> (Seat<R>, Reply)
-        requires { (1000 ≤ lease) × (lease ≤ 60000) }
-        ensures { Arrives lease now (hosted R.store self).master (hosted R.store self).store result.1 (hosted R.store result.0) }
+    fn come_up(self, alloc: Global, terms: MasterTerms, now: u64) -> (Seat<R>, Reply)
+        requires { (1000 ≤ terms.lease) × (terms.lease ≤ 60000) }
+        ensures { Arrives terms now (hosted R.store self).master (hosted R.store self).store result.1 (hosted R.store result.0) }
     {
         match self {
             Seat::Up(cell) => (Seat::Up(cell), Reply::Refused(Fault::MasterUp)),
-            Seat::Down(records) => match Cell::up(alloc, records, lease, now) {
+            Seat::Down(records) => match Cell::up(alloc, records, terms, now) {
                 Ok(mut cell) => {
                     let epoch = cell.epoch();
                     let settled = settle(alloc, &mut cell, now);

@@ -11,7 +11,7 @@ use crate::seats::{Reply, Seat};
 use crate::stops::Stop;
 use codec::WireFault;
 use output::write_bytes;
-use rows_cell::Records;
+use rows_cell::{MasterTerms, Records};
 use std::alloc::{AllocError, Global};
 use std::io::{Read, Write};
 
@@ -27,19 +27,19 @@ pub enum Turned {
 
 /// Answers the frames of a stream, one behind the other, to its end: each is done, all that it changes is committed, and
 /// then all that is told of it is written and flushed, before more is read. What is no frame is told of, and changes
-/// nothing. The lease is in milliseconds.
+/// nothing. The master goes by these terms.
 pub fn serve_on<R: Records, I: Read, W: Write>(
     alloc: Global,
-    lease: u64,
+    terms: MasterTerms,
     seat: Seat<R>,
     reader: &mut I,
     writer: &mut W,
 ) -> (Seat<R>, Result<(), Stop>)
-    requires { (1000 ≤ lease) × (lease ≤ 60000) }
-    ensures { Ends lease (I.remaining reader.old) (hosted R.store seat) result.1 (hosted R.store result.0) (W.contents writer.old) (W.contents writer.new) }
+    requires { (1000 ≤ terms.lease) × (terms.lease ≤ 60000) }
+    ensures { Ends terms (I.remaining reader.old) (hosted R.store seat) result.1 (hosted R.store result.0) (W.contents writer.old) (W.contents writer.new) }
 {
     match block_room(alloc) {
-        Ok(mut room) => serve_frames(alloc, lease, seat, reader, room.as_mut_slice(), writer),
+        Ok(mut room) => serve_frames(alloc, terms, seat, reader, room.as_mut_slice(), writer),
         Err(_) => (seat, Err(Stop::NoMemory)),
     }
 }
@@ -55,19 +55,19 @@ pub(crate) fn block_room(alloc: Global) -> Result<Vec<u8>, AllocError>
 
 fn serve_frames<R: Records, I: Read, W: Write>(
     alloc: Global,
-    lease: u64,
+    terms: MasterTerms,
     first: Seat<R>,
     reader: &mut I,
     buffer: &mut [u8],
     writer: &mut W,
 ) -> (Seat<R>, Result<(), Stop>)
-    requires lease { (1000 ≤ lease) × (lease ≤ 60000) }
+    requires lease { (1000 ≤ terms.lease) × (terms.lease ≤ 60000) }
     requires room { length buffer.old ≡ 1048576 }
-    ensures { Ends lease (I.remaining reader.old) (hosted R.store first) result.1 (hosted R.store result.0) (W.contents writer.old) (W.contents writer.new) }
+    ensures { Ends terms (I.remaining reader.old) (hosted R.store first) result.1 (hosted R.store result.0) (W.contents writer.old) (W.contents writer.new) }
 {
     let mut seat = first;
     for _turn in 0..u64::MAX {
-        let (next, turned) = serve_frame(alloc, lease, seat, reader, buffer, writer);
+        let (next, turned) = serve_frame(alloc, terms, seat, reader, buffer, writer);
         seat = next;
         match turned {
             Turned::On => {}
@@ -81,18 +81,18 @@ fn serve_frames<R: Records, I: Read, W: Write>(
 // One frame.
 fn serve_frame<R: Records, I: Read, W: Write>(
     alloc: Global,
-    lease: u64,
+    terms: MasterTerms,
     seat: Seat<R>,
     reader: &mut I,
     buffer: &mut [u8],
     writer: &mut W,
 ) -> (Seat<R>, Turned)
-    requires lease { (1000 ≤ lease) × (lease ≤ 60000) }
+    requires lease { (1000 ≤ terms.lease) × (terms.lease ≤ 60000) }
     requires room { length buffer.old ≡ 1048576 }
-    ensures { TakesTurn lease (I.remaining reader.old) (hosted R.store seat) result.1 (hosted R.store result.0) (I.remaining reader.new) (W.contents writer.old) (W.contents writer.new) }
+    ensures { TakesTurn terms (I.remaining reader.old) (hosted R.store seat) result.1 (hosted R.store result.0) (I.remaining reader.new) (W.contents writer.old) (W.contents writer.new) }
 {
     match next_frame(alloc, reader, buffer) {
-        Ok(found) => serve_found(alloc, lease, seat, found, writer),
+        Ok(found) => serve_found(alloc, terms, seat, found, writer),
         Err(stop) => (seat, Turned::Stopped(stop)),
     }
 }
@@ -100,17 +100,17 @@ fn serve_frame<R: Records, I: Read, W: Write>(
 // Does what was found in a stream, and tells of it.
 pub(crate) fn serve_found<R: Records, W: Write>(
     alloc: Global,
-    lease: u64,
+    terms: MasterTerms,
     seat: Seat<R>,
     found: Option<Result<Frame, WireFault>>,
     writer: &mut W,
 ) -> (Seat<R>, Turned)
-    requires { (1000 ≤ lease) × (lease ≤ 60000) }
-    ensures { DoesFound lease found (hosted R.store seat) result.1 (hosted R.store result.0) (W.contents writer.old) (W.contents writer.new) }
+    requires { (1000 ≤ terms.lease) × (terms.lease ≤ 60000) }
+    ensures { DoesFound terms found (hosted R.store seat) result.1 (hosted R.store result.0) (W.contents writer.old) (W.contents writer.new) }
 {
     match found {
         Some(sent) => {
-            let (mut next, reply) = seat.take(alloc, lease, &sent);
+            let (mut next, reply) = seat.take(alloc, terms, &sent);
             drop(sent);
             let turned = tell(alloc, &mut next, &reply, writer);
             drop(reply);

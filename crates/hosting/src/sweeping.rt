@@ -4,28 +4,21 @@ ghost use Rattle.std.specs.Vec.{vec_len, vec_capacity};
 ghost use Rattle.gate_core.specs.Gate.{push_answer};
 ghost use Rattle.master_state.specs.Updates.{BeginsNew, edits_of, done};
 ghost use Rattle.cell_core.specs.Ephemerals.{is_ok, tidied};
-ghost use Rattle.over_core.specs.Plans.{tellings_of, first_action, plan_of};
+ghost use Rattle.over_core.specs.Plans.{first_action, plan_of};
 ghost use Rattle.hosting.specs.Pieces.{held_with};
-ghost use Rattle.over_core.specs.Sweep.{is_quiet, done_and_told, swept, action_edits, is_over, sweep_edits, sweep_step};
+ghost use Rattle.over_core.specs.Sweep.{is_quiet, done_and_told, swept, action_edits, sweep_edits, sweep_step};
 
 use crate::pieces::Pieces;
 use cell_core::Cell;
 use collections::Items;
-use lease_core::MOMENT_LIMIT;
-use master_parts::{Idle, Taken, Telling};
-use master_state::{Grown, Master, Update, edits_of};
+use master_parts::Idle;
+use master_state::{Grown, Update, edits_of};
 use node_core::Fault;
-use over_core::{Action, Plan, Swept, first_action, plan_of, tellings_of};
+use over_core::{
+    Action, PlannedSweep, Swept, first_action, is_over, is_quiet, note_if_quiet, planned_sweep,
+};
 use rows_cell::Edit;
 use std::alloc::AllocError;
-
-// What is planned for an action, what it commits, and what the clients of open handles are told of it.
-struct Prepared {
-    update: Update,
-    taken: Taken,
-    tellings: Items<Telling>,
-    edits: Items<Edit>,
-}
 
 /// A sweep at a moment, in milliseconds, as `sweep` of `over_core` does it; but what it would commit is put behind what is
 /// held. Room for one item is made in a list of the caller's. A refusal leaves the master and what is held as they were.
@@ -55,13 +48,6 @@ pub(crate) fn sweep_held<T>(
             Err(Fault::NoMemory)
         }
     }
-}
-
-// A moment past the end of moments, or a session whose count of events is at its end.
-fn is_over(master: &Master, now: u64) -> bool
-    ensures { result ≡ is_over master.now now }
-{
-    now >= MOMENT_LIMIT || master.sessions().has_spent_events()
 }
 
 // Does the first action that there is, and holds back what it commits.
@@ -98,13 +84,12 @@ fn act(cell: &mut Cell, held: &mut Pieces, action: &Action) -> Result<Swept, All
     ensures err { OnErr result ((cell.new ≡ cell.old) × (held.new ≡ held.old)) }
 {
     note_if_quiet(cell, action);
-    let Prepared {
+    let PlannedSweep {
         update,
         taken,
         tellings,
-        edits,
-    } = planned(cell, action)?;
-    match hold(cell, held, update, edits) {
+    } = planned_sweep(cell, action)?;
+    match hold_edits(cell, held, update) {
         Ok(()) => {
             cell.tell(tellings);
             Ok(Swept::of(taken, is_quiet(action)))
@@ -117,57 +102,17 @@ fn act(cell: &mut Cell, held: &mut Pieces, action: &Action) -> Result<Swept, All
     }
 }
 
-// Where there is nothing to do, until when that is so is noted. The master stays as it is.
-fn note_if_quiet(cell: &mut Cell, action: &Action)
-    ensures { cell.new ≡ cell.old }
+// The update is done, and what it commits is held back.
+fn hold_edits(cell: &mut Cell, held: &mut Pieces, update: Update) -> Result<(), AllocError>
+    requires { BeginsNew cell.old update.session }
+    ensures ok { OnOk result (cell.new ≡ done cell.old update) }
+    ensures held { OnOk result (held.new ≡ held_with held.old (edits_of cell.old update)) }
+    ensures err { OnErr result ((cell.new ≡ cell.old) × (held.new ≡ held.old)) }
 {
-    if is_quiet(action) {
-        cell.note_quiet();
-    }
-}
-
-fn is_quiet(action: &Action) -> bool
-    ensures { result ≡ is_quiet action.now }
-{
-    matches!(action, Action::Quiet)
-}
-
-// What is planned for an action.
-fn planned(cell: &Cell, action: &Action) -> Result<Prepared, AllocError>
-    ensures update { IfOk result (λ prepared. prepared.update ≡ (plan_of cell.now action.now).update) }
-    ensures begins { IfOk result (λ prepared. BeginsNew cell.now prepared.update.session) }
-    ensures taken { IfOk result (λ prepared. prepared.taken ≡ (plan_of cell.now action.now).taken) }
-    ensures told { IfOk result (λ prepared. prepared.tellings ≡ tellings_of cell.now (plan_of cell.now action.now)) }
-    ensures edits { IfOk result (λ prepared. prepared.edits ≡ action_edits cell.now action.now) }
-{
-    let plan = plan_of(cell, action)?;
-    match with_changes(cell.master(), &plan) {
-        Ok((tellings, edits)) => {
-            let Plan { update, taken, .. } = plan;
-            Ok(Prepared {
-                update,
-                taken,
-                tellings,
-                edits,
-            })
-        }
+    match edits_of(cell.master(), &update) {
+        Ok(edits) => hold(cell, held, update, edits),
         Err(error) => {
-            drop(plan);
-            Err(error)
-        }
-    }
-}
-
-// What the clients of open handles are told of a plan, and what it commits.
-fn with_changes(master: &Master, plan: &Plan) -> Result<(Items<Telling>, Items<Edit>), AllocError>
-    ensures told { IfOk result (λ changes. changes.0 ≡ tellings_of master.now plan.now) }
-    ensures edits { IfOk result (λ changes. changes.1 ≡ edits_of master.now plan.now.update) }
-{
-    let tellings = tellings_of(master, plan)?;
-    match edits_of(master, &plan.update) {
-        Ok(edits) => Ok((tellings, edits)),
-        Err(error) => {
-            drop(tellings);
+            drop(update);
             Err(error)
         }
     }

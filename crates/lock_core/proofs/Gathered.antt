@@ -1,8 +1,8 @@
--- What becomes of some locks is what becomes of all that concern a client, where each of these is among them.
-use Rattle.std.proofs.Common.{◌≡◌, ℕ, nat_eq, ◌<◌, ◌≤◌, List, [], ◌∷◌, ◌++◌, Bool, true, false, cond, Option, Some, None, Ordering, Less, refl, sym, ap, subst, ◌∙◌, arith, append_assoc, map}
+-- What is made of some locks is what is made of all that concern a client, where each of these is among them.
+use Rattle.std.proofs.Common.{◌≡◌, ℕ, nat_eq, ◌<◌, ◌≤◌, List, [], ◌∷◌, ◌++◌, Bool, true, false, cond, Option, Some, None, Less, refl, sym, ap, subst, ◌∙◌, arith, map}
 use Rattle.std.specs.Prelude.{◌||◌, nat_lt, filter, unwrap_or, IfSome}
 use Rattle.std.specs.Option.{option_map_or}
-use Rattle.std.specs.List.{AllByRecursion, list_any}
+use Rattle.std.specs.List.{AllByRecursion}
 use Rattle.std.specs.List.Sorted.{IsStrictlySortedBy}
 use Rattle.std.specs.Map.{keys_of, lookup}
 use Rattle.std.specs.Ordering.{nat_cmp}
@@ -11,7 +11,6 @@ use Rattle.std.proofs.lemmas.Bool.Decides.{nat_tests}
 use Rattle.collections.proofs.Keys.{below, at_itself, same_key, apart}
 use Rattle.collections.specs.Timers.{has_key}
 use Rattle.lock_core.specs.declared.partings.Parting.{Parting}
-use Rattle.lock_core.specs.declared.turns.Lapse.{Lapse}
 use Rattle.lock_core.specs.State.{LockState, lock_of}
 use Rattle.lock_core.specs.Turns.{lapsed, concerns}
 use Rattle.lock_core.specs.Locks.{LockTable, lock_at, lapses}
@@ -69,21 +68,22 @@ passes_none client (e ∷ es) sorted h =
 
 -- ---- of which locks it is asked
 
-module _ (parting : Parting) (client now : ℕ) where
-  abbrev made : ℕ × LockState → Lapse
-  made e = lapsed parting e.0 e.1 client now
+module _ {X : Type 0} (client : ℕ) (made : ℕ → LockState → X) where
+  abbrev made_of : ℕ × LockState → X
+  made_of e = made e.0 e.1
 
-  abbrev at_key : LockTable → ℕ → List Lapse
-  at_key locks k = lapses_at parting locks client now k
+  abbrev pub at_key : LockTable → ℕ → List X
+  at_key locks k = option_map_or (λ lock. cond (concerns client lock) (made k lock ∷ []) []) (lookup (is_at (nat_cmp k)) locks) []
 
-  abbrev among : LockTable → List ℕ → List Lapse
-  among locks ks = lapses_among parting locks client now ks
+  abbrev pub among : LockTable → List ℕ → List X
+  among locks [] = []
+  among locks (k ∷ ks) = at_key locks k ++ among locks ks
 
-  abbrev out : LockTable → List Lapse
-  out locks = lapses parting locks client now
+  abbrev pub out : LockTable → List X
+  out locks = map made_of (filter (λ e. concerns client e.1) locks)
 
   at_none : (locks : LockTable) (k : ℕ) → lookup (is_at (nat_cmp k)) locks ≡ None → at_key locks k ≡ []
-  at_none locks k h = ap (λ (o : Option LockState). option_map_or (λ lock. cond (concerns client lock) (lapsed parting k lock client now ∷ []) []) o []) h
+  at_none locks k h = ap (λ (o : Option LockState). option_map_or (λ lock. cond (concerns client lock) (made k lock ∷ []) []) o []) h
 
   nothing : (ks : List ℕ) → among [] ks ≡ []
   nothing [] = refl
@@ -95,7 +95,7 @@ module _ (parting : Parting) (client now : ℕ) where
   skipped e es (k ∷ ks) h =
       let lt : e.0 < k = below e.0 k h.0 in
       let differs : is_at (nat_cmp k) e.0 ≡ false = apart k e.0 (λ same. absurd (omega arith)) in
-      ap (λ b. option_map_or (λ lock. cond (concerns client lock) (lapsed parting k lock client now ∷ []) []) (cond b (Some e.1) (lookup (is_at (nat_cmp k)) es)) [] ++ among (e ∷ es) ks) differs
+      ap (λ b. option_map_or (λ lock. cond (concerns client lock) (made k lock ∷ []) []) (cond b (Some e.1) (lookup (is_at (nat_cmp k)) es)) [] ++ among (e ∷ es) ks) differs
       ∙ ap (λ l. at_key es k ++ l) (skipped e es ks h.1)
 
   abbrev Gathers : LockTable → Type 0
@@ -103,13 +103,13 @@ module _ (parting : Parting) (client now : ℕ) where
 
   -- the first lock, where the keys to ask of begin above it
   first_left_out : (e : ℕ × LockState) (es : LockTable) (ks : List ℕ) → concerns client e.1 ≡ false → out (e ∷ es) ≡ out es
-  first_left_out e es ks fails = ap (λ b. map made (cond b (e ∷ filter (λ d. concerns client d.1) es) (filter (λ d. concerns client d.1) es))) fails
+  first_left_out e es ks fails = ap (λ b. map made_of (cond b (e ∷ filter (λ d. concerns client d.1) es) (filter (λ d. concerns client d.1) es))) fails
 
   -- and where they begin with it
   first_put : (e : ℕ × LockState) (es : LockTable) → at_key (e ∷ es) e.0 ++ out es ≡ out (e ∷ es)
   first_put e es =
-      ap (λ (o : Option LockState). option_map_or (λ lock. cond (concerns client lock) (lapsed parting e.0 lock client now ∷ []) []) o [] ++ out es) (own_first e es)
-      ∙ elim (concerns client e.1) as (λ b. cond b (made e ∷ []) [] ++ out es ≡ map made (cond b (e ∷ filter (λ d. concerns client d.1) es) (filter (λ d. concerns client d.1) es))) [
+      ap (λ (o : Option LockState). option_map_or (λ lock. cond (concerns client lock) (made e.0 lock ∷ []) []) o [] ++ out es) (own_first e es)
+      ∙ elim (concerns client e.1) as (λ b. cond b (made_of e ∷ []) [] ++ out es ≡ map made_of (cond b (e ∷ filter (λ d. concerns client d.1) es) (filter (λ d. concerns client d.1) es))) [
         | true ↦ refl
         | false ↦ refl
       ]
@@ -120,7 +120,7 @@ module _ (parting : Parting) (client now : ℕ) where
   -- one lock more
   one_more : (e : ℕ × LockState) (es : LockTable) → IsStrictlySortedBy nat_cmp (keys_of (e ∷ es)) → AllByRecursion (λ y. nat_cmp e.0 y ≡ Less) (keys_of es) → Gathers es → (ks : List ℕ) → IsStrictlySortedBy nat_cmp ks → AreAmong (e ∷ es) client ks → among (e ∷ es) ks ≡ out (e ∷ es)
   unfolding IsStrictlySortedBy
-  one_more e es sorted behind rest [] ordered all = sym (ap (map made) (passes_none client (e ∷ es) sorted nobody))
+  one_more e es sorted behind rest [] ordered all = sym (ap (map made_of) (passes_none client (e ∷ es) sorted nobody))
     where
       nobody : (q : ℕ) → concerns client (lock_at (e ∷ es) q) ≡ false
       nobody q =
@@ -169,16 +169,22 @@ module _ (parting : Parting) (client now : ℕ) where
           let others : AreAmong es client (k ∷ ks) = λ q h. all q (behind_first client e es behind q h) in
           skipped e es (k ∷ ks) over ∙ (rest (k ∷ ks) ordered others ∙ sym (first_left_out e es ks fails))
 
-  gathered : (locks : LockTable) → IsStrictlySortedBy nat_cmp (keys_of locks) → Gathers locks
+  pub gathered : (locks : LockTable) → IsStrictlySortedBy nat_cmp (keys_of locks) → Gathers locks
   unfolding IsStrictlySortedBy
   gathered [] sorted = λ ks ordered all. nothing ks
   gathered (e ∷ es) sorted = λ ks ordered all. one_more e es sorted sorted.0 (gathered es sorted.1) ks ordered all
+
+-- what becomes of the locks that concern a client, of these instances
+lapses_are : (parting : Parting) (client now : ℕ) (locks : LockTable) (keys : List ℕ) → lapses_among parting locks client now keys ≡ among client (λ instance lock. lapsed parting instance lock client now) locks keys
+lapses_are parting client now locks [] = refl
+lapses_are parting client now locks (k ∷ ks) = ap (λ l. lapses_at parting locks client now k ++ l) (lapses_are parting client now locks ks)
 
 -- where each lock that may concern the client is among these, what becomes of them is what becomes of all
 pub all_gathered : (parting : Parting) (client now : ℕ) (view locks : LockTable) (claimants : ClaimantState) (keys : List ℕ) → view ≡ locks → AreListed claimants view → IsStrictlySortedBy nat_cmp (keys_of view) → IsStrictlySortedBy nat_cmp keys → ((i : ℕ) → has claimants client i ≡ true → has_key keys i ≡ true) → lapses_among parting locks client now keys ≡ lapses parting locks client now
 all_gathered parting client now view locks claimants keys same listed sorted ordered found =
     let P : LockTable → Type 0 = λ l. lapses_among parting l client now keys ≡ lapses parting l client now in
-    subst P same (gathered parting client now view sorted keys ordered (λ q h. found q (listed.each client q h)))
+    subst P same
+    (lapses_are parting client now view keys ∙ gathered client (λ instance lock. lapsed parting instance lock client now) view sorted keys ordered (λ q h. found q (listed.each client q h)))
 
 pub some_of : {X : Type 0} (o : Option X) (x : X) (P : X → Type 0) → o ≡ Some x → IfSome o P → P x
 some_of {X} o x P is h = let Q : Option X → Type 0 = λ found. IfSome found P in subst Q is h

@@ -3,6 +3,7 @@
 
 mod claimants;
 mod claims;
+mod counted;
 mod laws;
 mod leavers;
 mod moments;

@@ -1,5 +1,5 @@
 -- When its turn comes an Open that makes a node gives a handle only where the client may make it, or may find it there.
-use Rattle.std.proofs.Common.{◌≡◌, ◌≤◌, ◌<◌, ℕ, List, Bool, true, false, cond, Option, Some, None, Err, refl, sym, ap, subst, ◌∙◌, inl, inr, ⊎_elim, arith}
+use Rattle.std.proofs.Common.{◌≡◌, ◌≤◌, ◌<◌, ℕ, List, Bool, true, false, cond, Option, Some, None, Result, Ok, Err, refl, sym, ap, subst, ◌∙◌, inl, inr, ⊎_elim, arith}
 use Rattle.std.specs.Prelude.{◌⊎◌, nat_lt, nat_le, length}
 use Rattle.std.proofs.lemmas.Bool.Decides.{nat_tests}
 use Rattle.std.specs.Option.{option_map_or}
@@ -28,7 +28,7 @@ use Rattle.master_state.specs.State.{MasterState}
 use Rattle.master_state.specs.Lookups.{may, missing_right, is_of_cell, sequencer_fault, new_handle, open_present, plain_open}
 use Rattle.master_parts.specs.Calls.{is_too_long, create_fault}
 use Rattle.cell_core.specs.declared.effects.Effect.{Effect}
-use Rattle.cell_core.specs.Effect.{answered, refused, content_of, is_last, opened_effect, new_node, acls_of, create_made, create_numbered, create_permitted, create_in, create_under, create_new, create_over, create_effect, create_tested, create_under_sequencer, create_here, open_effect, effect}
+use Rattle.cell_core.specs.Effect.{answered, refused, content_of, is_last, new_node_fault, opened_effect, new_node, acls_of, create_put, create_made, create_numbered, create_permitted, create_in, create_under, create_new, create_over, create_effect, create_tested, create_under_sequencer, create_here, open_effect, effect}
 use Rattle.master_laws.specs.Opens.{AreCarried}
 use Rattle.master_laws.specs.Makes.{IsWithinLimits, MayMake, MayFind, MayMakeOrFind, MakesOnlyWherePermitted, MakesWherePermitted}
 use Rattle.master_laws.proofs.PlainOpens.{within, not_beyond, permitted_by, none_missing, opened_where, opened}
@@ -90,6 +90,11 @@ module _ (s : MasterState) (client number : ℕ) (opening : Open) (create : Crea
   abbrev Q : Type 0
   Q = MayMake s client opening create ⊎ MayFind s client opening create
 
+  -- the limits leave room
+  with_room : (P : Type 0) (view : Node) (r : Result Handle Fault) → (new_node_fault (name_space s) view ≡ None → P) → Gives P (create_made (name_space s) opening view r)
+  with_room P view (Ok handle) h = by_option P (new_node_fault (name_space s) view) (λ fault. refused fault) (create_put (name_space s) opening view handle) (λ fault full. of_fault P fault) (λ room given is. h room)
+  with_room P view (Err fault) h = of_fault P fault
+
   -- ---- none of the name is there
 
   module _ (absent : get_node s.nodes opening.name ≡ None) (parent : List ℕ) (is_parent : parent_of opening.name ≡ Some parent) (above : Node) (there : get_node s.nodes parent ≡ Some above) where
@@ -99,7 +104,9 @@ module _ (s : MasterState) (client number : ℕ) (opening : Open) (create : Crea
         by_option Q (missing_right (name_space s) (caller s client) opening.mode view) (λ right. refused (faults.Denied right)) (create_numbered (name_space s) (caller s client) number opening view) (λ right is. of_fault Q (faults.Denied right))
         (λ none.
         either Q (is_last s.next_instance) (refused faults.Exhausted) (create_made (name_space s) opening view (new_handle (name_space s) (caller s client) number opening view)) (λ last. of_fault Q faults.Exhausted)
-        (λ left handle h.
+        (λ left.
+        with_room Q view (new_handle (name_space s) (caller s client) number opening view)
+        (λ room.
         inl (record {
           absent = absent;
           parent = parent;
@@ -110,7 +117,8 @@ module _ (s : MasterState) (client number : ℕ) (opening : Open) (create : Crea
           write = write;
           permitted = permitted_by s client opening.mode view none;
           left = not_last number_limit s.next_instance left;
-        })))
+          room = room;
+        }))))
 
     by_kind : (kind : Kind) → above.kind ≡ kind → Gives Q (create_in (name_space s) (caller s client) number opening create above kind)
     by_kind File is = of_fault Q (faults.WrongKind File)
@@ -189,7 +197,7 @@ module _ (s : MasterState) (client number : ℕ) (opening : Open) (create : Crea
       let view : Node = new_node s.next_instance create.node create.life (acls_of m.above create.acls) in
       let none : missing_right (name_space s) (caller s client) opening.mode view ≡ None = none_missing s client opening.mode view m.permitted in
       let left : is_last s.next_instance ≡ false = below_last number_limit s.next_instance m.left in
-      (given_of view, rw (fits, m.absent, m.is_parent, m.there, m.directory, m.write, none, left, short, carried.epoch, ordinal) refl)
+      (given_of view, rw (fits, m.absent, m.is_parent, m.there, m.directory, m.write, none, left, short, carried.epoch, ordinal, m.room) refl)
 
   finds : MayFind s client opening create → IsGiven (create_tested (name_space s) (caller s client) number opening create)
   finds m =

@@ -78,10 +78,10 @@ tended_lasts lease = record {
 
 tended_since : (lease up : ℕ) (steps : List MasterStep) (s : MasterState) → HasComeUp lease up steps s → Tended s
 tended_since lease up steps s h =
-    let first = master_of h.rows lease up in
+    let first = master_of h.rows (record { lease = lease; limits = h.limits }) up in
     let T : MasterState → Type 0 = Lasts lease Nothing Tended Always in
     let all : T s = subst T (sym h.is) (lasts lease no_message Nothing Tended Always (tended_lasts lease) first steps h.of_clients (none_taken steps) (record {
-      reached = up_reached h.cell h.rows lease up h.is_lease h.kept;
+      reached = up_reached h.cell h.rows h.limits lease up h.is_lease h.kept;
       left = up_tended h.rows up;
       each = λ always client session found. tt;
     })) in

@@ -46,3 +46,4 @@ mod Instances
 mod Tended
 mod TendedSteps
 mod FreeLocks
+mod Limited

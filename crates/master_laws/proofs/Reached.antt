@@ -5,6 +5,7 @@ use Rattle.std.specs.List.{list_all}
 use Rattle.std.proofs.lemmas.Bool.{and_parts}
 use Rattle.node_core.specs.Limits.{number_limit}
 use Rattle.lease_core.specs.Lease.{longest_lease}
+use Rattle.rows_cell.specs.declared.settings.Limits.{Limits}
 use Rattle.rows_cell.specs.Rows.{changed_rows}
 use Rattle.rows_cell.specs.declared.tables.Rows.{Rows}
 use Rattle.tags_cell.specs.Messages.{request_client}
@@ -167,9 +168,9 @@ module _ (lease : ℕ) where
 nothing_held : {P : Type 0} → false ≡ true → P
 nothing_held h = absurd (cc)
 
-pub up_reached : (cell : List ℕ) (rows : Rows) (lease up : ℕ) → lease ≤ longest_lease → IsKept cell rows (master_of rows lease up) → IsReached lease (master_of rows lease up)
-up_reached cell rows lease up fits k =
-    let s = master_of rows lease up in
+pub up_reached : (cell : List ℕ) (rows : Rows) (limits : Limits) (lease up : ℕ) → lease ≤ longest_lease → IsKept cell rows (master_of rows (record { lease = lease; limits = limits }) up) → IsReached lease (master_of rows (record { lease = lease; limits = limits }) up)
+up_reached cell rows limits lease up fits k =
+    let s = master_of rows (record { lease = lease; limits = limits }) up in
     record {
       cell = cell;
       rows = rows;
@@ -190,4 +191,4 @@ up_reached cell rows lease up fits k =
 
 pub reached : (lease up : ℕ) (steps : List MasterStep) (s : MasterState) → HasComeUp lease up steps s → IsReached lease s
 reached lease up steps s h =
-    subst (IsReached lease) (sym h.is) (by_steps lease (master_of h.rows lease up) steps h.of_clients (up_reached h.cell h.rows lease up h.is_lease h.kept))
+    subst (IsReached lease) (sym h.is) (by_steps lease (master_of h.rows (record { lease = lease; limits = h.limits }) up) steps h.of_clients (up_reached h.cell h.rows h.limits lease up h.is_lease h.kept))

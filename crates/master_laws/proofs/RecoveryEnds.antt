@@ -226,10 +226,10 @@ over timeout up patient lease now h k l = absurd (omega (arith, h, k, l))
 
 stuck_at : (lease up : ℕ) (steps : List MasterStep) (s : MasterState) → HasComeUp lease up steps s → Lasts lease (Stuck lease up) Always IsRecovering s
 stuck_at lease up steps s h =
-    let first = master_of h.rows lease up in
+    let first = master_of h.rows (record { lease = lease; limits = h.limits }) up in
     let T : MasterState → Type 0 = Lasts lease (Stuck lease up) Always IsRecovering in
     subst T (sym h.is) (lasts lease no_message (Stuck lease up) Always IsRecovering (stuck_lasts lease up) first steps h.of_clients (none_taken steps) (record {
-      reached = up_reached h.cell h.rows lease up h.is_lease h.kept;
+      reached = up_reached h.cell h.rows h.limits lease up h.is_lease h.kept;
       left = tt;
       each = λ recovering client session found. each_taken (Stuck lease up up) up (by_liveness lease up) h.rows.sessions client session found;
     }))

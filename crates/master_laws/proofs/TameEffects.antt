@@ -38,7 +38,7 @@ use Rattle.master_parts.specs.Keys.{key_of}
 use Rattle.master_parts.specs.Notes.{open_note}
 use Rattle.cell_core.specs.declared.effects.Effect.{Effect}
 use Rattle.cell_core.specs.declared.effects.Locking.{Locking}
-use Rattle.cell_core.specs.Effect.{answered, refused, changes_to, is_last, opened_effect, new_node, acls_of, create_made, create_numbered, create_permitted, create_in, create_under, create_new, create_over, create_effect, create_tested, create_under_sequencer, open_effect, acquire_by, try_by, release_by, close_under, generation_fits, with_content, with_acls, put_at, deleted, delete_at, change_at, change_on, effect_on, handle_effect, effect}
+use Rattle.cell_core.specs.Effect.{answered, refused, changes_to, is_last, new_node_fault, content_fault, lock_fault, unless, opened_effect, new_node, acls_of, create_put, create_made, create_numbered, create_permitted, create_in, create_under, create_new, create_over, create_effect, create_tested, create_under_sequencer, open_effect, lock_taken, acquired_by, acquire_by, try_by, release_by, close_under, generation_fits, with_content, with_acls, put_at, deleted, delete_at, change_at, change_on, effect_on, handle_effect, effect}
 use Rattle.master_laws.proofs.OpenedKeys.{IsOfCall, new_key, present_key, plain_key}
 use Rattle.master_laws.proofs.ClosedNotes.{AreFair, closes, is_by_open, none_fair, one_fair}
 
@@ -73,14 +73,17 @@ module _ (s : MasterState) (client number : ℕ) (call : Call) where
 
   -- ---- locks
 
-  of_acquired : (handle : Handle) (claim : Claim) (r : Result Acquired Fault) → Tame (acquire_by handle claim r)
-  of_acquired handle claim (Ok (asked.Held lock)) = record { refuses = λ fault h. absurd cc; notes = none_fair s client number call }
-  of_acquired handle claim (Ok (asked.Waits lock)) = record { refuses = λ fault h. absurd cc; notes = none_fair s client number call }
-  of_acquired handle claim (Err fault) = of_fault fault
+  of_given : (handle : Handle) (claim : Claim) (given : Acquired) → Tame (acquired_by handle claim given)
+  of_given handle claim (asked.Held lock) = record { refuses = λ fault h. absurd cc; notes = none_fair s client number call }
+  of_given handle claim (asked.Waits lock) = record { refuses = λ fault h. absurd cc; notes = none_fair s client number call }
 
-  of_tried : (handle : Handle) (claim : Claim) (r : Result LockState Fault) → Tame (try_by handle claim r)
-  of_tried handle claim (Ok lock) = record { refuses = λ fault h. absurd cc; notes = none_fair s client number call }
-  of_tried handle claim (Err fault) = of_fault fault
+  of_acquired : (handle : Handle) (claim : Claim) (room : Option Fault) (r : Result Acquired Fault) → Tame (acquire_by handle claim room r)
+  of_acquired handle claim room (Ok given) = by_option room (λ fault. refused fault) (acquired_by handle claim given) of_fault (of_given handle claim given)
+  of_acquired handle claim room (Err fault) = of_fault fault
+
+  of_tried : (handle : Handle) (claim : Claim) (room : Option Fault) (r : Result LockState Fault) → Tame (try_by handle claim room r)
+  of_tried handle claim room (Ok lock) = by_option room (λ fault. refused fault) (lock_taken handle claim lock) of_fault (record { refuses = λ fault h. absurd cc; notes = none_fair s client number call })
+  of_tried handle claim room (Err fault) = of_fault fault
 
   of_released : (handle : Handle) (r : Result Turn Fault) → Tame (release_by handle r)
   of_released handle (Ok turn) = record { refuses = λ fault h. absurd cc; notes = none_fair s client number call }
@@ -94,11 +97,12 @@ module _ (s : MasterState) (client number : ℕ) (call : Call) where
 
   -- ---- a change of a node that stands
 
-  of_put : (handle : Handle) (present : ℕ) (wanted : Option ℕ) (view : Node) → Tame (put_at (name_space s) handle present wanted view)
-  of_put handle present wanted view =
-      let written : Effect = changes_to (Put handle.name view) s.next_instance results.Done in
+  of_put : (handle : Handle) (present : ℕ) (wanted : Option ℕ) (room : Option Fault) (view : Node) → Tame (put_at (name_space s) handle present wanted room view)
+  of_put handle present wanted room view =
+      let changed : Effect = changes_to (Put handle.name view) s.next_instance results.Done in
+      let written : Effect = unless room changed in
       either (generation_fits wanted present) (cond (is_last present) (refused faults.Exhausted) written) (refused (faults.WrongGeneration present))
-      (either (is_last present) (refused faults.Exhausted) written (of_fault faults.Exhausted) (of_change (Put handle.name view) s.next_instance))
+      (either (is_last present) (refused faults.Exhausted) written (of_fault faults.Exhausted) (by_option room (λ fault. refused fault) changed of_fault (of_change (Put handle.name view) s.next_instance)))
       (of_fault (faults.WrongGeneration present))
 
   of_deleted : (handle : Handle) → Tame (deleted (name_space s) handle)
@@ -109,11 +113,11 @@ module _ (s : MasterState) (client number : ℕ) (call : Call) where
       either (has_children s.nodes handle.name || is_none (parent_of handle.name)) (refused faults.NotEmpty) (deleted (name_space s) handle) (of_fault faults.NotEmpty) (of_deleted handle)
 
   of_node : (handle : Handle) (on : Call) (view : Node) → Tame (change_at (name_space s) s.clock handle on view)
-  of_node handle (calls.Set bytes content generation) view = of_put handle view.content_generation generation (with_content view content)
-  of_node handle (calls.SetAcl bytes acls generation) view = of_put handle view.acl_generation generation (with_acls view acls)
+  of_node handle (calls.Set bytes content generation) view = of_put handle view.content_generation generation (content_fault (name_space s) view content) (with_content view content)
+  of_node handle (calls.SetAcl bytes acls generation) view = of_put handle view.acl_generation generation None (with_acls view acls)
   of_node handle (calls.Delete bytes) view = of_delete handle
-  of_node handle (calls.Acquire bytes mode) view = of_acquired handle (claim_of handle mode) (acquired (lock_under (name_space s) handle) (claim_of handle mode))
-  of_node handle (calls.TryAcquire bytes mode) view = of_tried handle (claim_of handle mode) (tried (lock_under (name_space s) handle) (claim_of handle mode) s.clock)
+  of_node handle (calls.Acquire bytes mode) view = of_acquired handle (claim_of handle mode) (lock_fault (name_space s) handle.client) (acquired (lock_under (name_space s) handle) (claim_of handle mode))
+  of_node handle (calls.TryAcquire bytes mode) view = of_tried handle (claim_of handle mode) (lock_fault (name_space s) handle.client) (tried (lock_under (name_space s) handle) (claim_of handle mode) s.clock)
   of_node handle (calls.Release bytes) view = of_released handle (released (lock_under (name_space s) handle) (owner_of handle))
   of_node handle _ view = of_fault faults.BadHandle
 
@@ -150,7 +154,9 @@ module _ (s : MasterState) (client number : ℕ) (opening : Open) where
   of_opened (Err fault) own = fault_of fault
 
   of_made : (view : Node) (opened : Result Handle Fault) → ((handle : Handle) → opened ≡ Ok handle → IsOfCall client number handle) → Tamed (create_made (name_space s) opening view opened)
-  of_made view (Ok handle) own = record { refuses = λ fault h. absurd cc; notes = fair_handle handle (own handle refl) }
+  of_made view (Ok handle) own =
+      by_option s client number (calls.Open opening) (new_node_fault (name_space s) view) (λ fault. refused fault) (create_put (name_space s) opening view handle) fault_of
+      (record { refuses = λ fault h. absurd cc; notes = fair_handle handle (own handle refl) })
   of_made view (Err fault) own = fault_of fault
 
   of_numbered : (view : Node) → Tamed (create_numbered (name_space s) (caller s client) number opening view)

@@ -59,7 +59,7 @@ use Rattle.master_state.specs.Updates.{with_note, with_locks}
 use Rattle.master_state.specs.declared.updates.LockPut.{LockPut}
 use Rattle.cell_core.specs.Cases.{TakeCase, taken_by}
 use Rattle.cell_core.specs.Cases.TakeCase.{StartRefused, StartRecovering, StartFull, StartQueued, OldBeat, BeatRefused, BeatParked, OldEpoch, NoSession, LeftBefore, Repeated, OlderCall, Outstanding, Recovering, Answered, Granted, Waits}
-use Rattle.cell_core.specs.Effect.{answered, refused, changes_to, is_last, new_node, acls_of, create_made, create_numbered, create_permitted, create_in, create_under, create_new, create_over, create_effect, create_under_sequencer, open_effect, acquire_by, try_by, release_by, close_by, close_under, generation_fits, with_content, with_acls, put_at, deleted, delete_at, change_at, change_on, effect_on, handle_effect, effect}
+use Rattle.cell_core.specs.Effect.{answered, refused, changes_to, is_last, new_node_fault, content_fault, lock_fault, unless, new_node, acls_of, create_put, create_made, create_numbered, create_permitted, create_in, create_under, create_new, create_over, create_effect, create_under_sequencer, open_effect, acquire_by, try_by, release_by, close_by, close_under, generation_fits, with_content, with_acls, put_at, deleted, delete_at, change_at, change_on, effect_on, handle_effect, effect}
 use Rattle.cell_core.specs.Outcomes.{left_put}
 use Rattle.cell_core.specs.Step.{queued, recorded, names_of, with_call, asking_for}
 use Rattle.cell_core.specs.declared.effects.Effect.{Effect}
@@ -97,7 +97,7 @@ module _ (s : MasterState) (legal : (instance : ℕ) → IsLegal (lock_at s.lock
   Fits effected = Tends s effected.locking
 
   of_made : (opening : Open) (node : Node) (opened : Result Handle Fault) → Fits (create_made (name_space s) opening node opened)
-  of_made opening node (Ok handle) = tt
+  of_made opening node (Ok handle) = by_option Fits (new_node_fault (name_space s) node) (λ fault. refused fault) (create_put (name_space s) opening node handle) (λ fault. tt) tt
   of_made opening node (Err fault) = tt
 
   of_permitted : (client number : ℕ) (opening : Open) (node : Node) → Fits (create_permitted (name_space s) (caller s client) number opening node)
@@ -143,21 +143,24 @@ module _ (s : MasterState) (legal : (instance : ℕ) → IsLegal (lock_at s.lock
   since_under : (handle : Handle) → SinceBy s.clock (under handle)
   since_under handle = let t = h handle.instance in t.since
 
-  of_asked : (handle : Handle) (claim : Claim) (b : Bool) → may_hold (under handle) claim ≡ b → is_exhausted (under handle) ≡ false → Fits (acquire_by handle claim (cond b (Ok (asked.Held (held_by (under handle) claim))) (Ok (asked.Waits (waited_by (under handle) claim)))))
-  of_asked handle claim true may_now spare = held_tended s.clock (under handle) claim (since_under handle)
-  of_asked handle claim false may_now spare = waited_tended s.clock (under handle) claim may_now spare (h handle.instance)
+  of_asked : (handle : Handle) (claim : Claim) (room : Option Fault) (b : Bool) → may_hold (under handle) claim ≡ b → is_exhausted (under handle) ≡ false → Fits (acquire_by handle claim room (cond b (Ok (asked.Held (held_by (under handle) claim))) (Ok (asked.Waits (waited_by (under handle) claim)))))
+  of_asked handle claim (Some fault) true may_now spare = tt
+  of_asked handle claim (Some fault) false may_now spare = tt
+  of_asked handle claim None true may_now spare = held_tended s.clock (under handle) claim (since_under handle)
+  of_asked handle claim None false may_now spare = waited_tended s.clock (under handle) claim may_now spare (h handle.instance)
 
-  of_left : (handle : Handle) (claim : Claim) (b : Bool) → is_exhausted (under handle) ≡ b → Fits (acquire_by handle claim (cond b (Err faults.Exhausted) (cond (may_hold (under handle) claim) (Ok (asked.Held (held_by (under handle) claim))) (Ok (asked.Waits (waited_by (under handle) claim))))))
-  of_left handle claim true spent = tt
-  of_left handle claim false spare = of_asked handle claim (may_hold (under handle) claim) refl spare
+  of_left : (handle : Handle) (claim : Claim) (room : Option Fault) (b : Bool) → is_exhausted (under handle) ≡ b → Fits (acquire_by handle claim room (cond b (Err faults.Exhausted) (cond (may_hold (under handle) claim) (Ok (asked.Held (held_by (under handle) claim))) (Ok (asked.Waits (waited_by (under handle) claim))))))
+  of_left handle claim room true spent = tt
+  of_left handle claim room false spare = of_asked handle claim room (may_hold (under handle) claim) refl spare
 
-  of_acquired : (handle : Handle) (claim : Claim) (o : Option Hold) → Fits (acquire_by handle claim (acquired_by (under handle) claim o))
-  of_acquired handle claim (Some hold) = tt
-  of_acquired handle claim None = of_left handle claim (is_exhausted (under handle)) refl
+  of_acquired : (handle : Handle) (claim : Claim) (room : Option Fault) (o : Option Hold) → Fits (acquire_by handle claim room (acquired_by (under handle) claim o))
+  of_acquired handle claim room (Some hold) = tt
+  of_acquired handle claim room None = of_left handle claim room (is_exhausted (under handle)) refl
 
-  of_tried : (handle : Handle) (claim : Claim) (r : Result LockState Fault) → tried (under handle) claim s.clock ≡ r → Fits (try_by handle claim r)
-  of_tried handle claim (Err fault) is = tt
-  of_tried handle claim (Ok new) is =
+  of_tried : (handle : Handle) (claim : Claim) (room : Option Fault) (r : Result LockState Fault) → tried (under handle) claim s.clock ≡ r → Fits (try_by handle claim room r)
+  of_tried handle claim room (Err fault) is = tt
+  of_tried handle claim (Some fault) (Ok new) is = tt
+  of_tried handle claim None (Ok new) is =
       let t = (try_succeeds (under handle) new claim s.clock (legal handle.instance)).0 is in
       let P : LockState → Type 0 = λ x. IsTended s.clock x in
       subst P (sym t.1) (held_tended s.clock (under handle) claim (since_under handle))
@@ -179,20 +182,22 @@ module _ (s : MasterState) (legal : (instance : ℕ) → IsLegal (lock_at s.lock
 
   -- ---- any call
 
-  of_put : (handle : Handle) (present : ℕ) (wanted : Option ℕ) (node : Node) → Fits (put_at (name_space s) handle present wanted node)
-  of_put handle present wanted node =
-      let written : Effect = changes_to (Put handle.name node) s.next_instance results.Done in
-      either Fits (generation_fits wanted present) (cond (is_last present) (refused faults.Exhausted) written) (refused (faults.WrongGeneration present)) (either Fits (is_last present) (refused faults.Exhausted) written tt tt) tt
+  of_put : (handle : Handle) (present : ℕ) (wanted : Option ℕ) (room : Option Fault) (node : Node) → Fits (put_at (name_space s) handle present wanted room node)
+  of_put handle present wanted room node =
+      let changed : Effect = changes_to (Put handle.name node) s.next_instance results.Done in
+      let written : Effect = unless room changed in
+      either Fits (generation_fits wanted present) (cond (is_last present) (refused faults.Exhausted) written) (refused (faults.WrongGeneration present))
+      (either Fits (is_last present) (refused faults.Exhausted) written tt (by_option Fits room (λ fault. refused fault) changed (λ fault. tt) tt)) tt
 
   of_delete : (handle : Handle) → Fits (delete_at (name_space s) handle)
   of_delete handle = either Fits (has_children s.nodes handle.name || is_none (parent_of handle.name)) (refused faults.NotEmpty) (deleted (name_space s) handle) tt tt
 
   of_node : (handle : Handle) (call : Call) (node : Node) → Fits (change_at (name_space s) s.clock handle call node)
-  of_node handle (calls.Set bytes content generation) node = of_put handle node.content_generation generation (with_content node content)
-  of_node handle (calls.SetAcl bytes acls generation) node = of_put handle node.acl_generation generation (with_acls node acls)
+  of_node handle (calls.Set bytes content generation) node = of_put handle node.content_generation generation (content_fault (name_space s) node content) (with_content node content)
+  of_node handle (calls.SetAcl bytes acls generation) node = of_put handle node.acl_generation generation None (with_acls node acls)
   of_node handle (calls.Delete bytes) node = of_delete handle
-  of_node handle (calls.Acquire bytes mode) node = of_acquired handle (claim_of handle mode) (hold_of (under handle) (owner_of handle))
-  of_node handle (calls.TryAcquire bytes mode) node = of_tried handle (claim_of handle mode) (tried (under handle) (claim_of handle mode) s.clock) refl
+  of_node handle (calls.Acquire bytes mode) node = of_acquired handle (claim_of handle mode) (lock_fault (name_space s) handle.client) (hold_of (under handle) (owner_of handle))
+  of_node handle (calls.TryAcquire bytes mode) node = of_tried handle (claim_of handle mode) (lock_fault (name_space s) handle.client) (tried (under handle) (claim_of handle mode) s.clock) refl
   of_node handle (calls.Release bytes) node = of_released handle (is_some (hold_of (under handle) (owner_of handle)))
   of_node handle (calls.Open opening) node = tt
   of_node handle (calls.Close bytes) node = tt

@@ -6,3 +6,4 @@ pub mod Refused
 pub mod Waits
 pub mod Settling
 pub mod FreeLocks
+pub mod Limits

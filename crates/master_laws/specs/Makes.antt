@@ -17,7 +17,7 @@ use Rattle.tags_cell.specs.declared.messages.outs.NewHandle.{NewHandle}
 use Rattle.master_state.specs.NameSpace.{name_space, caller}
 use Rattle.master_state.specs.State.{MasterState}
 use Rattle.master_state.specs.Lookups.{may, is_of_cell}
-use Rattle.cell_core.specs.Effect.{new_node, acls_of, content_of, effect}
+use Rattle.cell_core.specs.Effect.{new_node_fault, new_node, acls_of, content_of, effect}
 use Rattle.over_core.specs.Kept.{IsKept}
 use Rattle.master_laws.specs.Opens.{ArePermitted, MayOpen, AreCarried}
 
@@ -27,7 +27,7 @@ pub record IsWithinLimits (opening : Open) (create : Create) : Type 0 where
   pub delay : opening.delay ≤ lock_delay_limit
 
 -- a node is made: there is none of its name, the name above is that of a directory on which write is permitted, and each right of the mode is permitted on the new
--- node, by the ACL names that are given, or by those of the directory; and an instance is left for it
+-- node, by the ACL names that are given, or by those of the directory; an instance is left for it, and the limits of the cell leave room for it and its content
 pub record MayMake (s : MasterState) (client : ℕ) (opening : Open) (create : Create) : Type 0 where
   pub absent : get_node s.nodes opening.name ≡ None
   pub parent : List ℕ
@@ -38,6 +38,7 @@ pub record MayMake (s : MasterState) (client : ℕ) (opening : Open) (create : C
   pub write : may (name_space s) (caller s client) above rights.Write ≡ true
   pub permitted : ArePermitted s client opening.mode (new_node s.next_instance create.node create.life (acls_of above create.acls))
   pub left : s.next_instance < number_limit
+  pub room : new_node_fault (name_space s) (new_node s.next_instance create.node create.life (acls_of above create.acls)) ≡ None
 
 -- a node of the name is there and may be, and the client may open it so
 pub record MayFind (s : MasterState) (client : ℕ) (opening : Open) (create : Create) : Type 0 where

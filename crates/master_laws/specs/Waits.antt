@@ -2,6 +2,8 @@
 use Rattle.std.specs.Prelude.{◌≡◌, ◌<◌, ◌≤◌, ◌+◌, ◌==◌, ℕ, Bool, true, false, List, [], ◌∷◌, fold, All, Contains, Some, is_some, max, if◌then◌else◌}
 use Rattle.std.specs.List.{list_all, list_any}
 use Rattle.lease_core.specs.Lease.{longest_lease, recovery_timeout}
+use Rattle.rows_cell.specs.declared.settings.Limits.{Limits}
+use Rattle.rows_cell.specs.Settings.{no_limits}
 use Rattle.rows_cell.specs.declared.tables.Rows.{Rows}
 use Rattle.tags_cell.specs.Messages.{request_client}
 use Rattle.tags_cell.specs.Numbers.{is_client_number}
@@ -35,14 +37,15 @@ is_of_client (Takes now request) = is_client_number (request_client request)
 is_of_client (Sweeps now) = true
 is_of_client (Beats now) = true
 
--- under a lease a master came up at a moment, by rows beside which it is kept, and these are its steps since
+-- under a lease a master came up at a moment, within some limits, by rows beside which it is kept, and these are its steps since
 pub record HasComeUp (lease up : ℕ) (steps : List MasterStep) (s : MasterState) : Type 0 where
   pub cell : List ℕ
   pub rows : Rows
-  pub kept : IsKept cell rows (master_of rows lease up)
+  pub limits : Limits
+  pub kept : IsKept cell rows (master_of rows (record { lease = lease; limits = limits }) up)
   pub is_lease : lease ≤ longest_lease
   pub of_clients : list_all is_of_client steps ≡ true
-  pub is : s ≡ fold master_behind (master_of rows lease up) steps
+  pub is : s ≡ fold master_behind (master_of rows (record { lease = lease; limits = limits }) up) steps
 
 -- ---- a change that waits
 
@@ -180,6 +183,7 @@ waiting_master = record {
   secret = [];
   epoch = 1;
   next_instance = 2;
+  limits = no_limits;
   nodes = [];
   locks = [];
   sessions = record { lease = 12000; sessions = (1, keeping_session) ∷ [] };

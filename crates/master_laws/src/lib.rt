@@ -1,9 +1,10 @@
 //! What a master does for its clients, as laws of its tables: who is given a handle, what a closed handle is still good
-//! for, what a refused call changes, and whom a write waits for.
+//! for, what a refused call changes, whom a write waits for, and what the limits of a cell leave of it.
 #![tactic(auto)]
 
 mod free_locks;
 mod handles;
+mod limits;
 mod opens;
 mod refusals;
 mod settling;
@@ -14,6 +15,7 @@ pub use handles::{
     close_closes, close_closes_for_good, closed_for_good_by_messages, closed_for_good_by_sweeps,
     closed_for_good_forever, closed_handle_is_refused, closed_handle_stays_closed,
 };
+pub use limits::cells_stay_within;
 pub use opens::{
     given_handle_is_open, kept_numbers_are_carried, makes_only_where_permitted,
     makes_where_permitted, opens_where_permitted,

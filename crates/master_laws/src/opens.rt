@@ -15,8 +15,8 @@ pub fn given_handle_is_open()
 {}
 
 /// When its turn comes an Open that makes a node gives a handle only where content and lock-delay are within the limits,
-/// and write is permitted on the directory above and each right of its mode on the new node; or, where a node of the name
-/// is there and may be, each right on that one.
+/// write is permitted on the directory above and each right of its mode on the new node, and the limits of the cell leave
+/// room for the node and its content; or, if a node of the name is there and may be, each right on that one.
 pub fn makes_only_where_permitted()
     ensures { MakesOnlyWherePermitted }
 {}

@@ -2,17 +2,19 @@
 use Rattle.std.specs.Prelude.{ℕ, List, Option}
 use Rattle.std.specs.Option.{option_map}
 use Rattle.node_core.specs.Nodes.{Nodes}
+use Rattle.rows_cell.specs.declared.settings.Limits.{Limits}
 use Rattle.session_core.specs.Sessions.{session_of}
 use Rattle.lock_core.specs.Locks.{LockTable}
 use Rattle.master_state.specs.State.{MasterState}
 
--- name: the cell's. secret and epoch: what check digits are made over, and the master's number, which its handles carry. next_instance: that of the next node. nodes: the map. locks: by
--- instance
+-- name: the cell's. secret and epoch: what check digits are made over, and the master's number, which its handles carry. next_instance: that of the next node. limits: what the cell holds at most. nodes:
+-- the map. locks: by instance
 pub record NameSpace : Type 0 where
   pub name : List ℕ
   pub secret : List ℕ
   pub epoch : ℕ
   pub next_instance : ℕ
+  pub limits : Limits
   pub nodes : Nodes
   pub locks : LockTable
 
@@ -22,7 +24,7 @@ pub record Caller : Type 0 where
   pub principal : Option (List ℕ)
 
 abbrev pub name_space : MasterState → NameSpace
-name_space s = record { name = s.name; secret = s.secret; epoch = s.epoch; next_instance = s.next_instance; nodes = s.nodes; locks = s.locks }
+name_space s = record { name = s.name; secret = s.secret; epoch = s.epoch; next_instance = s.next_instance; limits = s.limits; nodes = s.nodes; locks = s.locks }
 
 abbrev pub caller : MasterState → ℕ → Caller
 caller s client = record { client = client; principal = option_map (λ session. session.principal) (session_of s.sessions client) }

@@ -2,6 +2,8 @@
 use Rattle.std.specs.Prelude.{ℕ, Bool, not, List, [], Option}
 use Rattle.std.specs.Option.{option_map}
 use Rattle.node_core.specs.Nodes.{Nodes}
+use Rattle.rows_cell.specs.declared.settings.Limits.{Limits}
+use Rattle.rows_cell.specs.declared.settings.MasterTerms.{MasterTerms}
 use Rattle.rows_cell.specs.declared.tables.Rows.{Rows}
 use Rattle.rows_cell.specs.Rows.{map_of}
 use Rattle.rights_core.specs.declared.cache_rights.CacheRight.{CacheRight}
@@ -17,7 +19,7 @@ use Rattle.master_parts.specs.Locks.{locks_of}
 use Rattle.master_parts.specs.State.{TableState}
 use Rattle.master_parts.specs.StoredSessions.{sessions_of}
 
--- name: the cell's. secret: what check digits are made over. nodes: the map. locks: by instance. sessions: also those
+-- name: the cell's. secret: what check digits are made over. limits: what the cell holds at most. nodes: the map. locks: by instance. sessions: also those
 -- that have ended, each with the last call of its client and the reply to it. recovering: some session of an earlier master has neither been heard from nor expired. handles: those that
 -- were opened, shown or closed in this epoch. rights: those to cache a name that it granted in this epoch, in order of granting, those that have ended included. gate: the changes that wait, in order of their coming. clock: the last moment that the master was told. serving_from: the moment at which its recovery ended, or at which it came up without one
 pub record MasterState : Type 0 where
@@ -25,6 +27,7 @@ pub record MasterState : Type 0 where
   pub secret : List ℕ
   pub epoch : ℕ
   pub next_instance : ℕ
+  pub limits : Limits
   pub nodes : Nodes
   pub locks : LockTable
   pub sessions : SessionTable Reply
@@ -52,16 +55,17 @@ task_at number waiting = option_map (λ change. change.body) (change_at number w
 -- ---- a master that comes up
 
 -- a master that comes up with these rows: nothing waits, no right is held, and it knows of no call and of no handle. It is in recovery where a session of the rows is live
-abbrev pub master_of : Rows → ℕ → ℕ → MasterState
-master_of rows lease now = record {
+abbrev pub master_of : Rows → MasterTerms → ℕ → MasterState
+master_of rows terms now = record {
   name = rows.cell;
   secret = rows.secret;
   epoch = rows.epoch;
   next_instance = rows.next_instance;
+  limits = terms.limits;
   nodes = map_of rows;
   locks = locks_of rows now;
-  sessions = sessions_of rows lease now;
-  recovering = not (all_heard (sessions_of rows lease now));
+  sessions = sessions_of rows terms.lease now;
+  recovering = not (all_heard (sessions_of rows terms.lease now));
   handles = [];
   rights = [];
   gate = record { waiting = []; pushed = 0 };

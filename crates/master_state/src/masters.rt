@@ -9,6 +9,7 @@ use master_parts::{Handles, Tables, Task};
 use names_cell::Component;
 use node_core::Map;
 use rights_core::Rights;
+use rows_cell::Limits;
 use session_core::Sessions;
 use std::alloc::Global;
 use std::marker::Model;
@@ -24,6 +25,8 @@ pub struct Master {
     pub secret: Secret,
     pub epoch: u64,
     pub next_instance: u64,
+    /// What the cell holds at most.
+    pub limits: Limits,
     /// Its nodes, handles, sessions and rights, and the changes that wait.
     pub tables: Tables,
     pub locks: Locks,
@@ -44,6 +47,7 @@ impl Model for Master {
       secret = c.secret;
       epoch = c.epoch;
       next_instance = c.next_instance;
+      limits = c.limits;
       nodes = c.tables.nodes;
       locks = c.locks;
       sessions = c.tables.sessions;
@@ -75,6 +79,13 @@ impl Master {
         ensures { result ≡ self.now.next_instance }
     {
         self.next_instance
+    }
+
+    /// What the cell holds at most.
+    pub fn limits(&self) -> Limits
+        ensures { result ≡ self.now.limits }
+    {
+        self.limits
     }
 
     /// The sessions, with the lease in milliseconds.

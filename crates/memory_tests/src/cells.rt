@@ -3,7 +3,7 @@ use crate::stops::Stop;
 use collections::Secret;
 use names_cell::Principal;
 use node_core::Fault;
-use rows_cell::{ListRecords, Records, Settings, component, text_of};
+use rows_cell::{Limits, ListRecords, Records, Settings, component, text_of};
 use std::alloc::Global;
 use world_cell::World;
 
@@ -13,7 +13,7 @@ pub(crate) fn settings_of(alloc: Global, lease: u64) -> Result<Settings, Stop> {
     let ann = Principal::parse(alloc, "ann").map_err(|_| Fault::NoMemory)?;
     let bob = Principal::parse(alloc, "bob").map_err(|_| Fault::NoMemory)?;
     let secret = Secret::new([0; 32]);
-    let settings = Settings::new(alloc, cell, lease, &[ann, bob], secret);
+    let settings = Settings::new(alloc, cell, lease, &[ann, bob], secret, Limits::none());
     Ok(settings.map_err(|_| Fault::NoMemory)?)
 }
 

@@ -3,3 +3,4 @@ pub mod Changes
 pub mod Jumps
 pub mod Walks
 pub mod Seen
+pub mod Contents

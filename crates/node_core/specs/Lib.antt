@@ -5,5 +5,6 @@ pub mod Words
 pub mod Refusals
 pub mod Texts
 pub mod Nodes
+pub mod Room
 pub mod Access
 pub mod Laws

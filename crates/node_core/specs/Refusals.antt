@@ -5,7 +5,7 @@ use Rattle.names_cell.specs.declared.faults.NameFault.TheVariants as grammar
 use Rattle.node_core.specs.declared.faults.NodeFault.{NodeFault}
 use Rattle.node_core.specs.declared.faults.NodeFault.TheVariants as small
 use Rattle.node_core.specs.declared.refusals.Fault.{Fault}
-use Rattle.node_core.specs.declared.refusals.Fault.TheVariants.{NoMemory, BadName, OtherCell, BadPrincipal, BadAcl, NotFound, Exists, WrongKind, NotEmpty, Denied, WrongGeneration, TooLarge, Exhausted, StaleInstance, StoreRefused, StoreDamaged, BadHandle, BadSequencer, NoSession, BadAck, Repeat, Busy, Held, Delayed, NotHolder, SequencerStale, DelayTooLong, OldEpoch, Recovering, InJeopardy, SessionExpired, Poisoned, CallOutstanding, Unknown, ProtocolFault, UnfairClock, NoSuchMessage, MasterDown, MasterUp, WatchFull, PassMissing, ReceiptApart}
+use Rattle.node_core.specs.declared.refusals.Fault.TheVariants.{NoMemory, BadName, OtherCell, BadPrincipal, BadAcl, NotFound, Exists, WrongKind, NotEmpty, Denied, WrongGeneration, TooLarge, Exhausted, StaleInstance, StoreRefused, StoreDamaged, BadHandle, BadSequencer, NoSession, BadAck, Repeat, Busy, Held, Delayed, NotHolder, SequencerStale, DelayTooLong, OldEpoch, Recovering, InJeopardy, SessionExpired, Poisoned, CallOutstanding, Unknown, ProtocolFault, UnfairClock, NoSuchMessage, MasterDown, MasterUp, WatchFull, PassMissing, ReceiptApart, NoRoom}
 use Rattle.node_core.specs.Words.{kind_text, right_text, lock_mode_text}
 
 abbrev pub fault_number : Fault → ℕ
@@ -51,6 +51,7 @@ fault_number MasterUp = 39
 fault_number WatchFull = 40
 fault_number (PassMissing x) = 41
 fault_number (ReceiptApart x) = 42
+fault_number (NoRoom x) = 43
 
 abbrev pub fault_name : Fault → List ℕ
 fault_name NoMemory = codes "NoMemory"
@@ -95,6 +96,7 @@ fault_name MasterUp = codes "MasterUp"
 fault_name WatchFull = codes "WatchFull"
 fault_name (PassMissing x) = codes "PassMissing"
 fault_name (ReceiptApart x) = codes "ReceiptApart"
+fault_name (NoRoom x) = codes "NoRoom"
 
 -- the argument of a refusal, behind a space
 abbrev pub argument_text : Fault → List ℕ
@@ -107,6 +109,7 @@ argument_text (Delayed left) = codes " " ++ decimal left
 argument_text (OldEpoch present) = codes " " ++ decimal present
 argument_text (PassMissing pass) = codes " " ++ decimal pass
 argument_text (ReceiptApart place) = codes " " ++ decimal place
+argument_text (NoRoom limit) = codes " " ++ decimal limit
 argument_text _ = []
 
 -- the number, the name, and the argument where there is one

@@ -1,18 +1,20 @@
 //! The map of names to nodes.
-ghost use Rattle.std.specs.Prelude.{◌≡◌, ◌≢◌, [], Some, None, IfOk, IfErr, OnOk, OnErr};
-ghost use Rattle.std.specs.Option.{option_copied};
+ghost use Rattle.std.specs.Prelude.{◌≡◌, ◌≢◌, [], Some, None, IfOk, IfErr, OnOk, OnErr, length, unwrap_or};
+ghost use Rattle.std.specs.Option.{option_copied, option_map};
 ghost use Rattle.std.specs.BTreeMap.{is_at, insert_entry};
-ghost use Rattle.std.specs.Map.{remove_entry};
+ghost use Rattle.std.specs.Map.{remove_entry, set_value};
 ghost use Rattle.std.specs.Cmp.Lexicographic.{slice_cmp};
 ghost use Rattle.std.specs.Ordering.{nat_cmp};
 ghost use Rattle.node_core.specs.Nodes.{HasNamesInOrder, get_node, children, listing, view_of, has_children, misfit, put_misfit, parent_misfit, limit_misfit, present_misfit, gone_misfit, after, name_of, last_sibling_of};
 ghost use Rattle.node_core.specs.Access.{first_name};
+ghost use Rattle.node_core.specs.Room.{content_length, content_bytes, Counts};
 ghost use Rattle.collections.specs.Tables.{with_former};
 
 use crate::faults::NodeFault;
 use crate::kinds::Kind;
 use crate::listings::Listing;
 use crate::nodes::Node;
+use crate::room::Total;
 use crate::views::{Mod, View};
 use collections::{Items, Same, Table};
 use names_cell::{Component, Name};
@@ -40,18 +42,21 @@ pub struct Outcome {
 pub struct Map {
     alloc: Global,
     nodes: Table<Name, Node>,
+    // The bytes of all contents.
+    bytes: Total,
 }
 
 impl Model for Map {
     ghost use Rattle.std.specs.Prelude.{List, ℕ};
     ghost use Rattle.node_core.specs.declared.nodes.Node.{Node};
     ghost use Rattle.node_core.specs.Nodes.{HasNamesInOrder};
+    ghost use Rattle.node_core.specs.Room.{content_bytes, Says};
 
     ghost Value = { List (List ℕ × Node) };
 
     ghost view = { λ m. m.nodes };
 
-    ghost invariant = { λ m. HasNamesInOrder m.nodes };
+    ghost invariant = { λ m. HasNamesInOrder m.nodes × Says m.bytes.sum (content_bytes m.nodes) };
 }
 
 impl Clone for Map {
@@ -61,6 +66,7 @@ impl Clone for Map {
         Ok(Map {
             alloc: self.alloc,
             nodes: self.nodes.clone()?,
+            bytes: self.bytes,
         })
     }
 }
@@ -77,6 +83,7 @@ impl Map {
         Map {
             alloc,
             nodes: Table::new(alloc),
+            bytes: Total::new(),
         }
     }
 
@@ -93,6 +100,34 @@ impl Map {
         ensures ordered { HasNamesInOrder self.now }
     {
         self.nodes.as_map()
+    }
+
+    /// How many nodes there are.
+    pub fn len(&self) -> usize
+        ensures { result ≡ length self.now }
+    {
+        self.nodes.as_map().len()
+    }
+
+    /// How many bytes the contents have in all; None where these are more than `u64::MAX`. The sum is kept: only after it was
+    /// above that once is it counted anew.
+    pub fn content_bytes(&self) -> Option<u64>
+        ensures { Counts result (content_bytes self.now) }
+    {
+        match self.bytes.get() {
+            Some(sum) => Some(sum),
+            None => self.counted_bytes(),
+        }
+    }
+
+    fn counted_bytes(&self) -> Option<u64>
+        ensures { Counts result (content_bytes self.now) }
+    {
+        let mut sum: u64 = 0;
+        for (_, node) in self.as_map() {
+            sum = sum.checked_add(content_length(node))?;
+        }
+        Some(sum)
     }
 
     /// The first of the names, in order of bytes.
@@ -175,14 +210,34 @@ impl Map {
         ensures err { OnErr result (self.new ≡ self.old) }
     {
         let _text = name.as_str();
-        self.nodes.put(name, node)
+        let came = content_length(&node);
+        let former = self.nodes.put(name, node)?;
+        self.bytes.change(length_of(&former), came);
+        Ok(former)
     }
 
     /// Gives a name the node that it had before a `set`, or none where it had none. Takes no memory.
     pub fn restore(&mut self, name: &Name, former: Option<Node>)
         ensures { self.new ≡ with_former (slice_cmp nat_cmp) self.old name.now former }
     {
-        self.nodes.restore(name, former);
+        match former {
+            Some(node) => self.replace(name, node),
+            None => drop(self.unset(name)),
+        }
+    }
+
+    // Puts a node in the place of one that is there, which takes no memory.
+    fn replace(&mut self, name: &Name, node: Node)
+        ensures { self.new ≡ set_value (is_at (slice_cmp nat_cmp name.now)) self.old node }
+    {
+        let came = content_length(&node);
+        match self.nodes.replace(name, node) {
+            Ok(former) => {
+                self.bytes.change(content_length(&former), came);
+                drop(former);
+            }
+            Err(back) => drop(back),
+        }
     }
 
     /// Takes a node away, whether it fits or not. What stood at the name is given back. Takes no memory.
@@ -190,7 +245,9 @@ impl Map {
         ensures after { self.new ≡ remove_entry (is_at (slice_cmp nat_cmp name.now)) self.old }
         ensures former { result ≡ get_node self.old name.now }
     {
-        self.nodes.remove(name)
+        let former = self.nodes.remove(name);
+        self.bytes.change(length_of(&former), 0);
+        former
     }
 
     /// Does a change where it fits, and else gives the first reason why it doesn't; the map is then as it was. A Put
@@ -302,6 +359,22 @@ fn last_sibling(name: &Name) -> Result<Option<Name>, AllocError>
         return Ok(None);
     };
     parent.last_child()
+}
+
+fn content_length(node: &Node) -> u64
+    ensures { result ≡ content_length node.now }
+{
+    node.content.len() as u64
+}
+
+// 0 where there is no node.
+fn length_of(node: &Option<Node>) -> u64
+    ensures { result ≡ unwrap_or (option_map content_length node.now) 0 }
+{
+    match node {
+        Some(node) => content_length(node),
+        None => 0,
+    }
 }
 
 // What is wrong with the node itself.

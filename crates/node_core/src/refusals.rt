@@ -99,6 +99,8 @@ pub enum Fault {
     PassMissing(u64),
     /// The receipt of this place, counted from 1, isn't the trail's.
     ReceiptApart(u64),
+    /// A limit of the cell, which this is, leaves no room.
+    NoRoom(u64),
 }
 
 impl Same for Fault {
@@ -108,7 +110,7 @@ impl Same for Fault {
 impl Error for Fault {}
 
 impl Fault {
-    /// The number, from 1 to 42.
+    /// The number, from 1 to 43.
     pub fn number(&self) -> u64
         ensures { result ≡ fault_number self.now }
     {
@@ -155,6 +157,7 @@ impl Fault {
             Fault::WatchFull => 40,
             Fault::PassMissing(_) => 41,
             Fault::ReceiptApart(_) => 42,
+            Fault::NoRoom(_) => 43,
         }
     }
 
@@ -205,6 +208,7 @@ impl Fault {
             Fault::WatchFull => "WatchFull",
             Fault::PassMissing(_) => "PassMissing",
             Fault::ReceiptApart(_) => "ReceiptApart",
+            Fault::NoRoom(_) => "NoRoom",
         }
     }
 
@@ -222,6 +226,7 @@ impl Fault {
             Fault::OldEpoch(present) => write_number(f, " ", *present),
             Fault::PassMissing(pass) => write_number(f, " ", *pass),
             Fault::ReceiptApart(place) => write_number(f, " ", *place),
+            Fault::NoRoom(limit) => write_number(f, " ", *limit),
             _ => Ok(()),
         }
     }

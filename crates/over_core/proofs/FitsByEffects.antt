@@ -49,7 +49,8 @@ use Rattle.master_state.specs.Lookups.{is_live, may, missing_right, is_of_cell, 
 use Rattle.master_parts.specs.Calls.{content_fault, node_fault, delay_fault, create_fault, write_fault, needing}
 use Rattle.master_parts.specs.EphemeralNames.{is_ephemeral}
 use Rattle.cell_core.specs.Ephemerals.{is_idle_node, is_still_idle}
-use Rattle.cell_core.specs.Effect.{answered, refused, changes_to, is_last, new_node, acls_of, create_made, create_numbered, create_permitted, create_in, create_under, create_new, create_over, create_effect, create_under_sequencer, open_effect, generation_fits, with_content, with_acls, put_at, deleted, delete_at, change_at, close_under, effect_on, handle_effect, effect}
+use Rattle.cell_core.specs.Effect.{answered, refused, changes_to, is_last, new_node_fault, unless, new_node, acls_of, create_put, create_made, create_numbered, create_permitted, create_in, create_under, create_new, create_over, create_effect, create_under_sequencer, open_effect, generation_fits, with_content, with_acls, put_at, deleted, delete_at, change_at, close_under, effect_on, handle_effect, effect}
+use Rattle.cell_core.specs.Effect as effects
 use Rattle.over_core.specs.Kept.{IsKept, IsOwnCall}
 use Rattle.over_core.proofs.LockEffects.{IsOwnHandle, own_handle_read, acquire_fits, try_fits, release_fits, close_fits}
 use Rattle.over_core.specs.SweepCase.{gone_change}
@@ -241,7 +242,8 @@ module _ (cell : List ℕ) (rows : Rows) (s : MasterState) (k : IsKept cell rows
 
   made_fits : (opening : Open) (view : Node) (r : Result Handle Fault) → PutFits rows opening.name view (s.next_instance + 1) → Fits (create_made (name_space s) opening view r)
   made_fits opening view (Err fault) h = tt
-  made_fits opening view (Ok handle) h = record { name = opening.name; view = view; is = refl; fits = h }
+  made_fits opening view (Ok handle) h =
+      unless_fits rows s client (new_node_fault (name_space s) view) (λ fault. refused fault) (create_put (name_space s) opening view handle) (λ fault. tt) (λ none. record { name = opening.name; view = view; is = refl; fits = h })
 
   permitted_fits : (number : ℕ) (opening : Open) (view : Node) → (is_last s.next_instance ≡ false → PutFits rows opening.name view (s.next_instance + 1)) → Fits (create_permitted (name_space s) (caller s client) number opening view)
   permitted_fits number opening view h =
@@ -311,22 +313,25 @@ module _ (cell : List ℕ) (rows : Rows) (s : MasterState) (k : IsKept cell rows
         own = rw found same;
       }
 
-  put_fits : (handle : Handle) (present : ℕ) (wanted : Option ℕ) (view : Node) → (is_last present ≡ false → PutFits rows handle.name view s.next_instance) → Fits (put_at (name_space s) handle present wanted view)
-  put_fits handle present wanted view h =
-      let written : Effect = changes_to (Put handle.name view) s.next_instance results.Done in
+  put_fits : (handle : Handle) (present : ℕ) (wanted : Option ℕ) (full : Option Fault) (view : Node) → (is_last present ≡ false → PutFits rows handle.name view s.next_instance) → Fits (put_at (name_space s) handle present wanted full view)
+  put_fits handle present wanted full view h =
+      let changed : Effect = changes_to (Put handle.name view) s.next_instance results.Done in
+      let written : Effect = unless full changed in
       then_fits rows s client (generation_fits wanted present) (cond (is_last present) (refused faults.Exhausted) written) (refused (faults.WrongGeneration present))
-      (λ fits. else_fits rows s client (is_last present) (refused faults.Exhausted) written tt (λ room. record { name = handle.name; view = view; is = refl; fits = h room })) tt
+      (λ fits. else_fits rows s client (is_last present) (refused faults.Exhausted) written tt
+      (λ room. unless_fits rows s client full (λ fault. refused fault) changed (λ fault. tt) (λ none. record { name = handle.name; view = view; is = refl; fits = h room }))) tt
 
-  set_fits : (handle : Handle) (content : List ℕ) (generation : Option ℕ) (w : StoredNode) → stored_node rows.nodes handle.name ≡ Some w → write_fault w.node.kind content ≡ None → Fits (put_at (name_space s) handle w.node.content_generation generation (with_content w.node content))
+  set_fits : (handle : Handle) (content : List ℕ) (generation : Option ℕ) (w : StoredNode) → stored_node rows.nodes handle.name ≡ Some w → write_fault w.node.kind content ≡ None
+      → Fits (put_at (name_space s) handle w.node.content_generation generation (effects.content_fault (name_space s) w.node content) (with_content w.node content))
   set_fits handle content generation w found h =
       let parts = parts_of_node cell rows handle.name w k.sound_rows found in
-      put_fits handle w.node.content_generation generation (with_content w.node content)
+      put_fits handle w.node.content_generation generation (effects.content_fault (name_space s) w.node content) (with_content w.node content)
       (λ room. again_fits handle.name w (with_content w.node content) found refl refl (next_number w.node.content_generation room) parts.acl (written_content w.node.kind w.node content h))
 
-  acl_fits : (handle : Handle) (acls : AclNames) (generation : Option ℕ) (w : StoredNode) → stored_node rows.nodes handle.name ≡ Some w → Fits (put_at (name_space s) handle w.node.acl_generation generation (with_acls w.node acls))
+  acl_fits : (handle : Handle) (acls : AclNames) (generation : Option ℕ) (w : StoredNode) → stored_node rows.nodes handle.name ≡ Some w → Fits (put_at (name_space s) handle w.node.acl_generation generation None (with_acls w.node acls))
   acl_fits handle acls generation w found =
       let parts = parts_of_node cell rows handle.name w k.sound_rows found in
-      put_fits handle w.node.acl_generation generation (with_acls w.node acls)
+      put_fits handle w.node.acl_generation generation None (with_acls w.node acls)
       (λ room. again_fits handle.name w (with_acls w.node acls) found refl refl parts.written (next_number w.node.acl_generation room) (acl_content w.node.kind w.node acls parts.content))
 
   -- its lock goes with it

@@ -9,6 +9,7 @@ use Rattle.std.specs.BTreeMap.{is_at}
 use Rattle.std.specs.Cmp.Lexicographic.{slice_cmp}
 use Rattle.std.specs.Ordering.{nat_cmp}
 use Rattle.std.proofs.lemmas.List.Elements.{All-nil}
+use Rattle.rows_cell.specs.declared.settings.MasterTerms.{MasterTerms}
 use Rattle.rows_cell.specs.declared.tables.Session as stored
 use Rattle.rows_cell.specs.declared.tables.Rows.{Rows}
 use Rattle.rows_cell.specs.Keys.{lock_order}
@@ -59,8 +60,8 @@ at_most a b none = omega (arith, none)
 
 -- ---- the master
 
-pub up_kept : (cell : List ℕ) (rows : Rows) (lease now : ℕ) → sound cell rows ≡ true → IsStrictlySortedBy nat_cmp (keys_of rows.sessions) → IsStrictlySortedBy lock_order (keys_of rows.locks) → IsStrictlySortedBy (slice_cmp nat_cmp) (keys_of rows.nodes) → IsKept cell rows (master_of rows lease now)
-up_kept cell rows lease now h sessions locks names = record {
+pub up_kept : (cell : List ℕ) (rows : Rows) (terms : MasterTerms) (now : ℕ) → sound cell rows ≡ true → IsStrictlySortedBy nat_cmp (keys_of rows.sessions) → IsStrictlySortedBy lock_order (keys_of rows.locks) → IsStrictlySortedBy (slice_cmp nat_cmp) (keys_of rows.nodes) → IsKept cell rows (master_of rows terms now)
+up_kept cell rows terms now h sessions locks names = record {
   name = refl;
   secret = refl;
   epoch = refl;
@@ -69,8 +70,8 @@ up_kept cell rows lease now h sessions locks names = record {
   sessions = same_rows now rows.sessions;
   sound_rows = h;
   waiting = refl;
-  locks = locks_rebuilt cell rows lease now h locks;
-  one_call = λ client. at_most (sum_by (waits_count client) (values_of (locks_of rows now))) (unanswered (kept_of (sessions_of rows lease now) client)) (nobody_outstanding rows now client);
+  locks = locks_rebuilt cell rows terms now h locks;
+  one_call = λ client. at_most (sum_by (waits_count client) (values_of (locks_of rows now))) (unanswered (kept_of (sessions_of rows terms.lease now) client)) (nobody_outstanding rows now client);
   names_in_order = names;
   sessions_in_order = sessions;
   locks_in_order = locks;
@@ -85,8 +86,8 @@ up_kept cell rows lease now h sessions locks names = record {
 }
 
 -- the same of a store that was read and then commits the epoch
-pub up_stands : (read new : Store) (rows : Rows) (s : MasterState) (lease now : ℕ) → sound read.cell (changed_rows read.rows (up_edits read.rows)) ≡ true → rows ≡ changed_rows read.rows (up_edits read.rows) → IsStrictlySortedBy nat_cmp (keys_of rows.sessions) → IsStrictlySortedBy lock_order (keys_of rows.locks) → IsStrictlySortedBy (slice_cmp nat_cmp) (keys_of rows.nodes) → s ≡ master_of rows lease now → IsCommitted (Epoch rows.epoch ∷ []) read new → IsKept new.cell new.rows s
-up_stands read new rows s lease now h next sessions locks names is committed =
+pub up_stands : (read new : Store) (rows : Rows) (s : MasterState) (terms : MasterTerms) (now : ℕ) → sound read.cell (changed_rows read.rows (up_edits read.rows)) ≡ true → rows ≡ changed_rows read.rows (up_edits read.rows) → IsStrictlySortedBy nat_cmp (keys_of rows.sessions) → IsStrictlySortedBy lock_order (keys_of rows.locks) → IsStrictlySortedBy (slice_cmp nat_cmp) (keys_of rows.nodes) → s ≡ master_of rows terms now → IsCommitted (Epoch rows.epoch ∷ []) read new → IsKept new.cell new.rows s
+up_stands read new rows s terms now h next sessions locks names is committed =
     let epoch : rows.epoch ≡ read.rows.epoch + 1 = ap (λ (r : Rows). r.epoch) next in
     let same : new.rows ≡ rows =
     committed.rows
@@ -96,4 +97,4 @@ up_stands read new rows s lease now h next sessions locks names is committed =
     let C : List ℕ → Type 0 = λ cell. IsKept cell new.rows s in
     let Q : Rows → Type 0 = λ r. IsKept read.cell r s in
     let T : MasterState → Type 0 = IsKept read.cell rows in
-    subst C (sym committed.cell) (subst Q (sym same) (subst T (sym is) (up_kept read.cell rows lease now (subst P (sym next) h) sessions locks names)))
+    subst C (sym committed.cell) (subst Q (sym same) (subst T (sym is) (up_kept read.cell rows terms now (subst P (sym next) h) sessions locks names)))

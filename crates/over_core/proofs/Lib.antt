@@ -32,3 +32,4 @@ pub mod Later
 pub mod BeginsNew
 pub mod KeptThrice
 pub mod Settled
+pub mod Limited

@@ -30,7 +30,7 @@ use Rattle.master_parts.specs.Claims.{owner_of, claim_of}
 use Rattle.master_state.specs.NameSpace.{name_space}
 use Rattle.master_state.specs.State.{MasterState}
 use Rattle.master_state.specs.Lookups.{is_live, lock_under, holds_lock}
-use Rattle.cell_core.specs.Effect.{lock_put, leaving_by, acquire_by, acquire_at, try_by, try_at, release_by, release_at, close_by}
+use Rattle.cell_core.specs.Effect.{lock_fault, lock_put, leaving_by, acquire_by, acquire_at, try_by, try_at, release_by, release_at, close_by}
 use Rattle.over_core.specs.Kept.{IsKept, claim_fits, waiter_fits, claim_count, waits_count}
 use Rattle.over_core.proofs.LockClaims.{IsFit, held_fit, waited_fit, without_fit, settled_fit, held_higher, settled_higher, turn_waiters, settled_waiters}
 use Rattle.over_core.proofs.LockPuts.{IsPut, fit_of}
@@ -131,35 +131,38 @@ module _ (cell : List ℕ) (rows : Rows) (s : MasterState) (k : IsKept cell rows
         let claim : Claim = claim_of handle mode in
         is_put (waited_by lock claim) (waited_fit (claim_fits s.sessions) (waiter_fits s.sessions) lock claim (own_waits mode) fit_under) (at_most_all lock.generation lock.generation refl)
 
-    asked_fits : (mode : LockMode) (b : Bool) → may_hold (lock_under (name_space s) handle) (claim_of handle mode) ≡ b
-        → EffectFits rows s client (acquire_by handle (claim_of handle mode) (cond b (Ok (asked.Held (held_by (lock_under (name_space s) handle) (claim_of handle mode)))) (Ok (asked.Waits (waited_by (lock_under (name_space s) handle) (claim_of handle mode))))))
-    asked_fits mode true may = record { is_put = held_put mode may; same = refl }
-    asked_fits mode false may = record { is_put = waited_put mode; claim = claim_of handle mode; own = shown.own; more = refl }
+    asked_fits : (mode : LockMode) (room : Option Fault) (b : Bool) → may_hold (lock_under (name_space s) handle) (claim_of handle mode) ≡ b
+        → EffectFits rows s client (acquire_by handle (claim_of handle mode) room (cond b (Ok (asked.Held (held_by (lock_under (name_space s) handle) (claim_of handle mode)))) (Ok (asked.Waits (waited_by (lock_under (name_space s) handle) (claim_of handle mode))))))
+    asked_fits mode (Some fault) true may = tt
+    asked_fits mode (Some fault) false may = tt
+    asked_fits mode None true may = record { is_put = held_put mode may; same = refl }
+    asked_fits mode None false may = record { is_put = waited_put mode; claim = claim_of handle mode; own = shown.own; more = refl }
 
-    left_asked_fits : (mode : LockMode) (b : Bool)
+    left_asked_fits : (mode : LockMode) (room : Option Fault) (b : Bool)
         → EffectFits rows s client
-        (acquire_by handle (claim_of handle mode) (cond b (Err faults.Exhausted) (cond (may_hold (lock_under (name_space s) handle) (claim_of handle mode)) (Ok (asked.Held (held_by (lock_under (name_space s) handle) (claim_of handle mode)))) (Ok (asked.Waits (waited_by (lock_under (name_space s) handle) (claim_of handle mode)))))))
-    left_asked_fits mode true = tt
-    left_asked_fits mode false = asked_fits mode (may_hold (lock_under (name_space s) handle) (claim_of handle mode)) refl
+        (acquire_by handle (claim_of handle mode) room (cond b (Err faults.Exhausted) (cond (may_hold (lock_under (name_space s) handle) (claim_of handle mode)) (Ok (asked.Held (held_by (lock_under (name_space s) handle) (claim_of handle mode)))) (Ok (asked.Waits (waited_by (lock_under (name_space s) handle) (claim_of handle mode)))))))
+    left_asked_fits mode room true = tt
+    left_asked_fits mode room false = asked_fits mode room (may_hold (lock_under (name_space s) handle) (claim_of handle mode)) refl
 
-    acquired_fits : (mode : LockMode) (o : Option Hold) → EffectFits rows s client (acquire_by handle (claim_of handle mode) (acquired_by (lock_under (name_space s) handle) (claim_of handle mode) o))
-    acquired_fits mode (Some hold) = tt
-    acquired_fits mode None = left_asked_fits mode (is_exhausted (lock_under (name_space s) handle))
+    acquired_fits : (mode : LockMode) (room : Option Fault) (o : Option Hold) → EffectFits rows s client (acquire_by handle (claim_of handle mode) room (acquired_by (lock_under (name_space s) handle) (claim_of handle mode) o))
+    acquired_fits mode room (Some hold) = tt
+    acquired_fits mode room None = left_asked_fits mode room (is_exhausted (lock_under (name_space s) handle))
 
     pub acquire_fits : (mode : LockMode) → EffectFits rows s client (acquire_at (name_space s) handle mode)
-    acquire_fits mode = acquired_fits mode (hold_of (lock_under (name_space s) handle) (owner_of handle))
+    acquire_fits mode = acquired_fits mode (lock_fault (name_space s) handle.client) (hold_of (lock_under (name_space s) handle) (owner_of handle))
 
-    tried_fits : (mode : LockMode) (r : Result LockState Fault) → tried (lock_under (name_space s) handle) (claim_of handle mode) s.clock ≡ r → EffectFits rows s client (try_by handle (claim_of handle mode) r)
-    tried_fits mode (Err fault) is = tt
-    tried_fits mode (Ok new) is =
+    tried_fits : (mode : LockMode) (room : Option Fault) (r : Result LockState Fault) → tried (lock_under (name_space s) handle) (claim_of handle mode) s.clock ≡ r → EffectFits rows s client (try_by handle (claim_of handle mode) room r)
+    tried_fits mode room (Err fault) is = tt
+    tried_fits mode (Some fault) (Ok new) is = tt
+    tried_fits mode None (Ok new) is =
         let lock : LockState = lock_under (name_space s) handle in
         let claim : Claim = claim_of handle mode in
         let t = (try_succeeds lock new claim s.clock fit_under.legal).0 is in
-        let P : LockState → Type 0 = λ x. EffectFits rows s client (try_by handle claim (Ok x)) in
+        let P : LockState → Type 0 = λ x. EffectFits rows s client (try_by handle claim None (Ok x)) in
         subst P (sym t.1) (record { is_put = held_put mode t.0; same = refl })
 
     pub try_fits : (mode : LockMode) → EffectFits rows s client (try_at (name_space s) s.clock handle mode)
-    try_fits mode = tried_fits mode (tried (lock_under (name_space s) handle) (claim_of handle mode) s.clock) refl
+    try_fits mode = tried_fits mode (lock_fault (name_space s) handle.client) (tried (lock_under (name_space s) handle) (claim_of handle mode) s.clock) refl
 
     -- ---- who leaves it
 

@@ -15,6 +15,7 @@ use Rattle.std.proofs.lemmas.Map.Lookups.{exact_unsigned}
 use Rattle.node_core.specs.Limits.{number_end, number_limit, lock_delay_limit}
 use Rattle.node_core.specs.declared.kinds.LockMode.{LockMode}
 use Rattle.node_core.specs.declared.kinds.LockMode.TheVariants as modes
+use Rattle.rows_cell.specs.declared.settings.MasterTerms.{MasterTerms}
 use Rattle.rows_cell.specs.declared.keys.LockKey.{LockKey}
 use Rattle.rows_cell.specs.declared.tables.StoredNode.{StoredNode}
 use Rattle.rows_cell.specs.declared.tables.LockRow.{LockRow}
@@ -485,7 +486,7 @@ nobody_outstanding rows now client = none_sum client (locks_of rows now) (quiet 
 
 -- ---- the locks of sound rows
 
-module _ (cell : List ℕ) (rows : Rows) (lease now : ℕ) (h : sound cell rows ≡ true) (sorted : IsStrictlySortedBy lock_order (keys_of rows.locks)) where
+module _ (cell : List ℕ) (rows : Rows) (terms : MasterTerms) (now : ℕ) (h : sound cell rows ≡ true) (sorted : IsStrictlySortedBy lock_order (keys_of rows.locks)) where
   numbered : list_all (λ e. is_number e.1.lock_generation) rows.nodes ≡ true
   numbered =
       all_more (node_fits cell rows.next_instance rows.nodes) (λ e. is_number e.1.lock_generation) rows.nodes (λ e k. (numbers_of cell rows.next_instance rows.nodes e k).1) (parts_of cell rows h).nodes
@@ -496,17 +497,17 @@ module _ (cell : List ℕ) (rows : Rows) (lease now : ℕ) (h : sound cell rows 
   lock_is : (n : ℕ) → lock_at (locks_of rows now) n ≡ rebuilt now (lock_of (told_generation rows.nodes n)) (locks_at rows.locks n)
   lock_is n = by_rows now (generations_of rows) rows.locks n ∙ ap (λ lock. rebuilt now lock (locks_at rows.locks n)) (generation_of n)
 
-  live_on : (client : ℕ) → is_live_in rows client ≡ true → is_live (sessions_of rows lease now) client ≡ true
+  live_on : (client : ℕ) → is_live_in rows client ≡ true → is_live (sessions_of rows terms.lease now) client ≡ true
   live_on client live = live_taken now client rows.sessions ∙ live
 
   first_here : (n : ℕ) → has_holder (locks_at rows.locks n) ≡ true → nat_le 1 (told_generation rows.nodes n) ≡ true
   first_here n held = first_told (lock_generation_in rows.nodes n) (held_is rows.nodes n (parts_of cell rows h).distinct ∙ sound_generation cell rows n h held)
 
-  is_rebuilt : (n : ℕ) → IsRebuilt (sessions_of rows lease now) n (told_generation rows.nodes n) (locks_at rows.locks n) (lock_at (locks_of rows now) n)
+  is_rebuilt : (n : ℕ) → IsRebuilt (sessions_of rows terms.lease now) n (told_generation rows.nodes n) (locks_at rows.locks n) (lock_at (locks_of rows now) n)
   is_rebuilt n =
-      let P : LockState → Type 0 = IsRebuilt (sessions_of rows lease now) n (told_generation rows.nodes n) (locks_at rows.locks n) in
+      let P : LockState → Type 0 = IsRebuilt (sessions_of rows terms.lease now) n (told_generation rows.nodes n) (locks_at rows.locks n) in
       subst P (sym (lock_is n))
-      (all_rebuilt rows (sessions_of rows lease now) n now (told_generation rows.nodes n) live_on (numbers_within rows.nodes n numbered) (locks_at rows.locks n) (sound_legal cell rows n h) (first_here n)
+      (all_rebuilt rows (sessions_of rows terms.lease now) n now (told_generation rows.nodes n) live_on (numbers_within rows.nodes n numbered) (locks_at rows.locks n) (sound_legal cell rows n h) (first_here n)
       (sorted_kept lock_order (λ e. e.0.instance == n) rows.locks sorted))
 
   -- where the node isn't there, nothing is told of its lock
@@ -532,10 +533,10 @@ module _ (cell : List ℕ) (rows : Rows) (lease now : ℕ) (h : sound cell rows 
             ap (λ lock. is_idle lock || is_there (map_of rows) n) idle)
       ]) refl
 
-  pub locks_rebuilt : AreLocksKept rows (master_of rows lease now)
+  pub locks_rebuilt : AreLocksKept rows (master_of rows terms now)
   locks_rebuilt = record {
     generations = λ n generation told. ap (λ (o : Option ℕ). unwrap_or o 0) (sym told) ∙ sym (is_rebuilt n).number;
     rows_of_locks = λ n. (is_rebuilt n).rows_are;
     in_order = (quiet rows now).in_order;
-    each = λ n. kept_of_fit (map_of rows) (sessions_of rows lease now) n (lock_at (locks_of rows now) n) (idle_or_there n) (is_rebuilt n).fit;
+    each = λ n. kept_of_fit (map_of rows) (sessions_of rows terms.lease now) n (lock_at (locks_of rows now) n) (idle_or_there n) (is_rebuilt n).fit;
   }

@@ -57,15 +57,15 @@ stored_of : (o : Option StoredNode) (view : Node) → option_map (λ (node : Sto
 stored_of None view h = absurd cc
 stored_of (Some node) view h = let same : node.node ≡ view = cc in (node, refl, same)
 
-in_order : (rows : Rows) (nodes : Nodes) → nodes ≡ map_of rows → IsStrictlySortedBy (slice_cmp nat_cmp) (keys_of rows.nodes) → IsStrictlySortedBy (slice_cmp nat_cmp) (keys_of nodes)
-in_order rows nodes same order =
+pub nodes_in_order : (rows : Rows) (nodes : Nodes) → nodes ≡ map_of rows → IsStrictlySortedBy (slice_cmp nat_cmp) (keys_of rows.nodes) → IsStrictlySortedBy (slice_cmp nat_cmp) (keys_of nodes)
+nodes_in_order rows nodes same order =
     let P : List (List ℕ) → Type 0 = IsStrictlySortedBy (slice_cmp nat_cmp) in
     subst P (sym (ap (λ (ns : Nodes). keys_of ns) same ∙ keys_of_nodes rows.nodes)) order
 
 pub named_node : (rows : Rows) (nodes : Nodes) (instance : ℕ) → nodes ≡ map_of rows → IsStrictlySortedBy (slice_cmp nat_cmp) (keys_of rows.nodes) → is_there nodes instance ≡ true → IsNamed rows nodes instance
 named_node rows nodes instance same order there =
     let t = found_of_any (λ (e : List ℕ × Node). e.1.instance == instance) nodes there in
-    let own = all_of_found (λ (e : List ℕ × Node). lookup (is_at (slice_cmp nat_cmp e.0)) nodes ≡ Some e.1) (λ (e : List ℕ × Node). e.1.instance == instance) nodes t.0 (own_entries (slice_cmp nat_cmp) nat_list_cmp_total nodes (in_order rows nodes same order)) t.1 in
+    let own = all_of_found (λ (e : List ℕ × Node). lookup (is_at (slice_cmp nat_cmp e.0)) nodes ≡ Some e.1) (λ (e : List ℕ × Node). e.1.instance == instance) nodes t.0 (own_entries (slice_cmp nat_cmp) nat_list_cmp_total nodes (nodes_in_order rows nodes same order)) t.1 in
     let stored : option_map (λ (node : StoredNode). node.node) (stored_node rows.nodes t.0.0) ≡ Some t.0.1 =
     sym (nodes_get rows.nodes t.0.0) ∙ ap (λ ns. get_node ns t.0.0) (sym same) ∙ own.0 in
     let u = stored_of (stored_node rows.nodes t.0.0) t.0.1 stored in

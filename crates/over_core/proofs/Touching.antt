@@ -38,7 +38,7 @@ use Rattle.cell_core.specs.declared.asking.Touched.TheVariants.{Alone, WithParen
 use Rattle.cell_core.specs.Step.{touched_by, names_of}
 use Rattle.cell_core.specs.Names.{call_touched}
 use Rattle.cell_core.specs.declared.effects.Effect.{Effect}
-use Rattle.cell_core.specs.Effect.{answered, refused, changes_to, is_last, new_node, acls_of, create_made, create_numbered, create_permitted, create_in, create_under, create_new, create_over, create_effect, create_tested, create_under_sequencer, open_effect, acquire_by, try_by, release_by, generation_fits, with_content, with_acls, put_at, deleted, delete_at, change_at, change_on, effect_on, handle_effect, effect}
+use Rattle.cell_core.specs.Effect.{answered, refused, changes_to, is_last, new_node_fault, content_fault, lock_fault, unless, new_node, acls_of, create_put, create_made, create_numbered, create_permitted, create_in, create_under, create_new, create_over, create_effect, create_tested, create_under_sequencer, open_effect, lock_taken, acquired_by, acquire_by, try_by, release_by, generation_fits, with_content, with_acls, put_at, deleted, delete_at, change_at, change_on, effect_on, handle_effect, effect}
 
 -- a change, if there is one, touches these names of the map
 abbrev IsOn : Nodes → Option Touched → Option Change → Type 0
@@ -82,7 +82,8 @@ module _ (s : MasterState) where
     new = Some (WithParent opening.name)
 
     made_touches : (node : Node) (r : Result Handle Fault) → Touches new (create_made (name_space s) opening node r)
-    made_touches node (Ok handle) = comes opening.name node absent
+    made_touches node (Ok handle) =
+        by_option new (new_node_fault (name_space s) node) (λ fault. refused fault) (create_put (name_space s) opening node handle) (λ fault. tt) (comes opening.name node absent)
     made_touches node (Err fault) = tt
 
     numbered_touches : (client number : ℕ) (node : Node) → Touches new (create_numbered (name_space s) (caller s client) number opening node)
@@ -132,11 +133,12 @@ module _ (s : MasterState) where
 
   -- ---- a change of a node that stands
 
-  put_touches : (handle : Handle) (present : ℕ) (wanted : Option ℕ) (old node : Node) → get_node s.nodes handle.name ≡ Some old → Touches (Some (Alone handle.name)) (put_at (name_space s) handle present wanted node)
-  put_touches handle present wanted old node here =
-      let written : Effect = changes_to (Put handle.name node) s.next_instance results.Done in
+  put_touches : (handle : Handle) (present : ℕ) (wanted : Option ℕ) (room : Option Fault) (old node : Node) → get_node s.nodes handle.name ≡ Some old → Touches (Some (Alone handle.name)) (put_at (name_space s) handle present wanted room node)
+  put_touches handle present wanted room old node here =
+      let changed : Effect = changes_to (Put handle.name node) s.next_instance results.Done in
+      let written : Effect = unless room changed in
       either (Some (Alone handle.name)) (generation_fits wanted present) (cond (is_last present) (refused faults.Exhausted) written) (refused (faults.WrongGeneration present))
-      (either (Some (Alone handle.name)) (is_last present) (refused faults.Exhausted) written tt (changes handle.name old node here)) tt
+      (either (Some (Alone handle.name)) (is_last present) (refused faults.Exhausted) written tt (by_option (Some (Alone handle.name)) room (λ fault. refused fault) changed (λ fault. tt) (changes handle.name old node here))) tt
 
   delete_touches : (handle : Handle) → Touches (Some (WithParent handle.name)) (delete_at (name_space s) handle)
   delete_touches handle =
@@ -144,14 +146,17 @@ module _ (s : MasterState) where
 
   -- ---- a lock
 
-  acquired_touches : (named : Option Touched) (handle : Handle) (claim : Claim) (r : Result Acquired Fault) → Touches named (acquire_by handle claim r)
-  acquired_touches named handle claim (Ok (asked.Held lock)) = tt
-  acquired_touches named handle claim (Ok (asked.Waits lock)) = tt
-  acquired_touches named handle claim (Err fault) = tt
+  asked_touches : (named : Option Touched) (handle : Handle) (claim : Claim) (given : Acquired) → Touches named (acquired_by handle claim given)
+  asked_touches named handle claim (asked.Held lock) = tt
+  asked_touches named handle claim (asked.Waits lock) = tt
 
-  tried_touches : (named : Option Touched) (handle : Handle) (claim : Claim) (r : Result LockState Fault) → Touches named (try_by handle claim r)
-  tried_touches named handle claim (Ok lock) = tt
-  tried_touches named handle claim (Err fault) = tt
+  acquired_touches : (named : Option Touched) (handle : Handle) (claim : Claim) (room : Option Fault) (r : Result Acquired Fault) → Touches named (acquire_by handle claim room r)
+  acquired_touches named handle claim room (Ok given) = by_option named room (λ fault. refused fault) (acquired_by handle claim given) (λ fault. tt) (asked_touches named handle claim given)
+  acquired_touches named handle claim room (Err fault) = tt
+
+  tried_touches : (named : Option Touched) (handle : Handle) (claim : Claim) (room : Option Fault) (r : Result LockState Fault) → Touches named (try_by handle claim room r)
+  tried_touches named handle claim room (Ok lock) = by_option named room (λ fault. refused fault) (lock_taken handle claim lock) (λ fault. tt) tt
+  tried_touches named handle claim room (Err fault) = tt
 
   released_touches : (named : Option Touched) (handle : Handle) (r : Result Turn Fault) → Touches named (release_by handle r)
   released_touches named handle (Ok turn) = tt
@@ -160,11 +165,11 @@ module _ (s : MasterState) where
   -- ---- any call
 
   node_touches : (handle : Handle) (call : Call) (node : Node) → get_node s.nodes handle.name ≡ Some node → Touches (touched_by handle call) (change_at (name_space s) s.clock handle call node)
-  node_touches handle (calls.Set bytes content generation) node here = put_touches handle node.content_generation generation node (with_content node content) here
-  node_touches handle (calls.SetAcl bytes acls generation) node here = put_touches handle node.acl_generation generation node (with_acls node acls) here
+  node_touches handle (calls.Set bytes content generation) node here = put_touches handle node.content_generation generation (content_fault (name_space s) node content) node (with_content node content) here
+  node_touches handle (calls.SetAcl bytes acls generation) node here = put_touches handle node.acl_generation generation None node (with_acls node acls) here
   node_touches handle (calls.Delete bytes) node here = delete_touches handle
-  node_touches handle (calls.Acquire bytes mode) node here = acquired_touches None handle (claim_of handle mode) (acquired (lock_under (name_space s) handle) (claim_of handle mode))
-  node_touches handle (calls.TryAcquire bytes mode) node here = tried_touches None handle (claim_of handle mode) (tried (lock_under (name_space s) handle) (claim_of handle mode) s.clock)
+  node_touches handle (calls.Acquire bytes mode) node here = acquired_touches None handle (claim_of handle mode) (lock_fault (name_space s) handle.client) (acquired (lock_under (name_space s) handle) (claim_of handle mode))
+  node_touches handle (calls.TryAcquire bytes mode) node here = tried_touches None handle (claim_of handle mode) (lock_fault (name_space s) handle.client) (tried (lock_under (name_space s) handle) (claim_of handle mode) s.clock)
   node_touches handle (calls.Release bytes) node here = released_touches None handle (released (lock_under (name_space s) handle) (owner_of handle))
   node_touches handle (calls.Open opening) node here = tt
   node_touches handle (calls.Close bytes) node here = tt

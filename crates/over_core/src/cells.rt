@@ -27,7 +27,7 @@ use master_parts::Taken;
 use master_state::Master;
 use node_core::{Fault, Line, NUMBER_LIMIT};
 use rights_core::Totals;
-use rows_cell::{Edit, Records, Rows};
+use rows_cell::{Edit, MasterTerms, Records, Rows};
 use std::alloc::{AllocError, Global};
 use std::marker::Model;
 use tags_cell::Request;
@@ -52,8 +52,8 @@ impl<R: Records> Model for Cell<R> {
 }
 
 impl<R: Records> Cell<R> {
-    /// A master comes up: it reads the rows and commits the next epoch, before it can send anything. The lease and the
-    /// moment are in milliseconds. Each live session of the rows goes on, with 60,002 ms from the moment: its client may
+    /// A master comes up: it reads the rows and commits the next epoch, before it can send anything. It goes by its terms: its
+    /// lease and what the cell holds at most. The moment is in milliseconds. Each live session of the rows goes on, with 60,002 ms from the moment: its client may
     /// count on a lease that an earlier master gave. To each the master issues its first event, which tells of the
     /// fail-over. While there is one that neither acknowledged it nor expired the master is in recovery (Burrows 2006,
     /// section 2.9: fail-overs), in which it makes no change and begins no session.
@@ -61,12 +61,17 @@ impl<R: Records> Cell<R> {
     /// Refused, in this order: a moment of 2^53 or more as Exhausted; where the store refuses to be read, or its rows
     /// aren't sound; behind the last epoch, 2^63-1, as Exhausted; where the store refuses the commit. The records then
     /// come back, with the rows as they were, or as they were read. They were read as they were where nothing is in doubt.
-    pub fn up(alloc: Global, mut records: R, lease: u64, now: u64) -> Result<Cell<R>, (Fault, R)>
-        requires { (1000 ≤ lease) × (lease ≤ 60000) }
-        ensures ok { IfOk result (λ cell. ComesUp lease now cell.master (R.store records) cell.store) }
-        ensures fault { IfErr result (λ e. StaysDown lease now e.0 (R.store records) (R.store e.1)) }
+    pub fn up(
+        alloc: Global,
+        mut records: R,
+        terms: MasterTerms,
+        now: u64,
+    ) -> Result<Cell<R>, (Fault, R)>
+        requires { (1000 ≤ terms.lease) × (terms.lease ≤ 60000) }
+        ensures ok { IfOk result (λ cell. ComesUp terms now cell.master (R.store records) cell.store) }
+        ensures fault { IfErr result (λ e. StaysDown terms now e.0 (R.store records) (R.store e.1)) }
     {
-        match next_master(alloc, &mut records, lease, now) {
+        match next_master(alloc, &mut records, terms, now) {
             Ok(master) => Ok(Cell {
                 records: Keeping::of(records),
                 master,
@@ -269,21 +274,21 @@ impl<R: Records> Cell<R> {
 fn next_master<R: Records>(
     alloc: Global,
     records: &mut R,
-    lease: u64,
+    terms: MasterTerms,
     now: u64,
 ) -> Result<cell_core::Cell, Fault>
-    requires { (1000 ≤ lease) × (lease ≤ 60000) }
-    ensures ok { IfOk result (λ master. ComesUp lease now master (R.store records.old) (R.store records.new)) }
+    requires { (1000 ≤ terms.lease) × (terms.lease ≤ 60000) }
+    ensures ok { IfOk result (λ master. ComesUp terms now master (R.store records.old) (R.store records.new)) }
     ensures kept { IfOk result (λ master. IsKept (R.store records.new).cell (R.store records.new).rows master) }
     ensures settled { OnOk result (IsSettled (R.store records.new)) }
-    ensures fault { IfErr result (λ e. StaysDown lease now e (R.store records.old) (R.store records.new)) }
+    ensures fault { IfErr result (λ e. StaysDown terms now e (R.store records.old) (R.store records.new)) }
 {
     if now >= MOMENT_LIMIT {
         return Err(Fault::Exhausted);
     }
     let rows = next_rows(records)?;
     let epoch = rows.epoch;
-    let master = cell_core::Cell::of_rows(alloc, rows, lease, now)?;
+    let master = cell_core::Cell::of_rows(alloc, rows, terms, now)?;
     match commit_epoch(alloc, records, epoch) {
         Ok(()) => Ok(master),
         Err(fault) => {

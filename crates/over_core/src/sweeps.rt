@@ -24,7 +24,16 @@ use rows_cell::{Edit, Records};
 use std::alloc::AllocError;
 use tags_cell::Out;
 
-// What is planned for an action, its answer as often as it is wanted, and what the clients of open handles are told of it.
+/// What is planned for an action: the update, what is printed and sent, and what the clients of open handles are told of it. A
+/// sweep commits the edits of the update before it is told; who takes several sweeps together holds them back.
+#[derive(Drop)]
+pub struct PlannedSweep {
+    pub update: Update,
+    pub taken: Taken,
+    pub tellings: Items<Telling>,
+}
+
+// The same, with its answer as often as it is wanted.
 pub(crate) struct Prepared<A: Answers> {
     pub(crate) update: Update,
     pub(crate) answers: A,
@@ -125,8 +134,8 @@ fn sweep_as<R: Records, A: Answers, T>(
     }
 }
 
-// A moment past the end of moments, or a session whose count of events is at its end.
-pub(crate) fn is_over(master: &Master, now: u64) -> bool
+/// Whether no sweep is done any more: a moment past the end of moments, or a session whose count of events is at its end.
+pub fn is_over(master: &Master, now: u64) -> bool
     ensures { result ≡ is_over master.now now }
 {
     now >= MOMENT_LIMIT || master.sessions().has_spent_events()
@@ -241,8 +250,8 @@ fn act<R: Records, A: Answers, T>(
     }
 }
 
-// Where there is nothing to do, until when that is so is noted. The master stays as it is.
-fn note_if_quiet(cell: &mut Cell, action: &Action)
+/// Where there is nothing to do, until when that is so is noted. The master stays as it is.
+pub fn note_if_quiet(cell: &mut Cell, action: &Action)
     ensures { cell.new ≡ cell.old }
 {
     if is_quiet(action) {
@@ -264,9 +273,34 @@ pub(crate) fn planned<A: Answers, T>(
     ensures outs { IfOk result (λ prepared. vec_len room.new + length (A.answer prepared.answers).outs ≤ vec_capacity room.new) }
     ensures lines { IfOk result (λ prepared. vec_len room.new + length (A.answer prepared.answers).lines < vec_capacity room.new) }
 {
+    let sweep = planned_sweep(cell, action)?;
+    match make_room(room, &sweep.taken) {
+        Ok(()) => with_answers(sweep),
+        Err(error) => {
+            drop(sweep);
+            Err(error)
+        }
+    }
+}
+
+/// What is planned for an action, and what the clients of open handles are told of it. Nothing changes; want of memory alone
+/// refuses. It costs what the action changes.
+pub fn planned_sweep(cell: &Cell, action: &Action) -> Result<PlannedSweep, AllocError>
+    ensures update { IfOk result (λ sweep. sweep.update ≡ (plan_of cell.now action.now).update) }
+    ensures begins { IfOk result (λ sweep. BeginsNew cell.now sweep.update.session) }
+    ensures taken { IfOk result (λ sweep. sweep.taken ≡ (plan_of cell.now action.now).taken) }
+    ensures told { IfOk result (λ sweep. sweep.tellings ≡ tellings_of cell.now (plan_of cell.now action.now)) }
+{
     let plan = plan_of(cell, action)?;
-    match with_room(cell.master(), room, &plan) {
-        Ok(told) => with_answers(plan, told),
+    match tellings_of(cell.master(), &plan) {
+        Ok(tellings) => {
+            let Plan { update, taken, .. } = plan;
+            Ok(PlannedSweep {
+                update,
+                taken,
+                tellings,
+            })
+        }
         Err(error) => {
             drop(plan);
             Err(error)
@@ -275,12 +309,16 @@ pub(crate) fn planned<A: Answers, T>(
 }
 
 // A plan with its answer as often as it is wanted.
-fn with_answers<A: Answers>(plan: Plan, told: Items<Telling>) -> Result<Prepared<A>, AllocError>
-    ensures update { IfOk result (λ prepared. prepared.update ≡ plan.update) }
-    ensures answer { IfOk result (λ prepared. A.answer prepared.answers ≡ plan.taken) }
-    ensures told { IfOk result (λ prepared. prepared.tellings ≡ told) }
+fn with_answers<A: Answers>(sweep: PlannedSweep) -> Result<Prepared<A>, AllocError>
+    ensures update { IfOk result (λ prepared. prepared.update ≡ sweep.update) }
+    ensures answer { IfOk result (λ prepared. A.answer prepared.answers ≡ sweep.taken) }
+    ensures told { IfOk result (λ prepared. prepared.tellings ≡ sweep.tellings) }
 {
-    let Plan { update, taken, .. } = plan;
+    let PlannedSweep {
+        update,
+        taken,
+        tellings: told,
+    } = sweep;
     match A::of(taken) {
         Ok(answers) => Ok(Prepared {
             update,
@@ -293,21 +331,6 @@ fn with_answers<A: Answers>(plan: Plan, told: Items<Telling>) -> Result<Prepared
             Err(error)
         }
     }
-}
-
-// What the clients of open handles are told of a plan, with room for what it prints and sends.
-fn with_room<T>(
-    master: &Master,
-    room: &mut Vec<T>,
-    plan: &Plan,
-) -> Result<Items<Telling>, AllocError>
-    ensures told { IfOk result (λ tellings. tellings ≡ tellings_of master.now plan.now) }
-    ensures items { room.new.items ≡ room.old.items }
-    ensures outs { OnOk result (vec_len room.new + length plan.now.taken.outs ≤ vec_capacity room.new) }
-    ensures lines { OnOk result (vec_len room.new + length plan.now.taken.lines < vec_capacity room.new) }
-{
-    make_room(room, &plan.taken)?;
-    tellings_of(master, plan)
 }
 
 // Room for all that is sent, and for all that is printed and one more.
@@ -323,7 +346,8 @@ fn make_room<T>(room: &mut Vec<T>, taken: &Taken) -> Result<(), AllocError>
     room.reserve(lines)
 }
 
-pub(crate) fn is_quiet(action: &Action) -> bool
+/// Whether an action is to find nothing to do.
+pub fn is_quiet(action: &Action) -> bool
     ensures { result ≡ is_quiet action.now }
 {
     matches!(action, Action::Quiet)

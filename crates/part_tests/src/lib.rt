@@ -23,6 +23,8 @@ mod queues;
 #[cfg(test)]
 mod rights;
 #[cfg(test)]
+mod room;
+#[cfg(test)]
 mod rows;
 #[cfg(test)]
 mod sessions;

@@ -231,6 +231,7 @@ const LINES: &[(Shape, &str)] = &[
         Shape::Refused(Fault::ReceiptApart(1)),
         "refused 42 ReceiptApart 1",
     ),
+    (Shape::Refused(Fault::NoRoom(9)), "refused 43 NoRoom 9"),
     (Shape::Up(1), "up 1"),
     (Shape::Down, "down"),
     (Shape::Recovered, "recovered"),
@@ -447,6 +448,8 @@ enum Ask {
     Children(&'static str),
     // Whether the principal may do this with a node whose ACL for writing is `foo`.
     May(&'static str, Right),
+    // How many nodes there are, and how many bytes of contents.
+    Size,
 }
 
 type Asks = &'static [(Ask, &'static str)];
@@ -613,7 +616,32 @@ const EACH_RIGHT: Asks = &[
 ];
 
 // Each begins with the nodes of a new cell.
+// The sum of the contents' lengths, as contents come, change and go.
+const SIZES: Asks = &[
+    (Ask::Size, "3 8"),
+    (
+        Ask::Put("/ls/c/f", (Kind::File, 4, 1, "base", P, ("abc", 1))),
+        "new",
+    ),
+    (Ask::Size, "4 11"),
+    (
+        Ask::Put("/ls/c/f", (Kind::File, 4, 2, "base", P, ("a", 1))),
+        "over 1",
+    ),
+    (Ask::Size, "4 9"),
+    (
+        Ask::Put("/ls/c/f", (Kind::File, 4, 3, "base", P, ("a", 262_145))),
+        "12 TooLarge",
+    ),
+    (Ask::Size, "4 9"),
+    (Ask::Gone("/ls/c/f"), "over 2"),
+    (Ask::Size, "3 8"),
+    (Ask::Gone("/ls/c/f"), "6 NotFound"),
+    (Ask::Size, "3 8"),
+];
+
 const MAPS: &[(&str, Asks)] = &[
+    ("sizes", SIZES),
     ("misfits", MISFITS),
     ("put_again", PUT_AGAIN),
     ("nodes_that_stay", STAY),
@@ -687,11 +715,20 @@ fn may(alloc: Global, map: &Map, principal: &str, right: Right) -> Result<bool, 
     Ok(allowed?)
 }
 
+fn size(alloc: Global, map: &Map) -> Result<String, Fail> {
+    let nodes = map.len();
+    match map.content_bytes() {
+        Some(bytes) => Ok(format!(in alloc; "{nodes} {bytes}")?),
+        None => Ok(format!(in alloc; "{nodes} more")?),
+    }
+}
+
 fn answer(alloc: Global, map: &mut Map, ask: &Ask) -> Result<String, Fail> {
     match ask {
         Ask::Put(at, row) => put(alloc, map, at, row),
         Ask::Gone(at) => gone(alloc, map, at),
         Ask::Children(at) => children(alloc, map, at),
+        Ask::Size => size(alloc, map),
         Ask::May(principal, right) => {
             let text = if may(alloc, map, principal, *right)? {
                 "yes"

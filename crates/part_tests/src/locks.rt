@@ -25,6 +25,8 @@ enum Step {
     Expire(u64, u64),
     Leave(u64, u64),
     Due(u64),
+    // How many locks the client holds or waits for.
+    Claims(u64),
     Reopen,
     NodeEnds,
     Sequencer(u64),
@@ -161,6 +163,10 @@ fn reads(alloc: Global, locks: &Locks, step: Step) -> Result<Answer, Fault> {
             Some(instance) => Answer::Number(instance),
             None => Answer::Nothing,
         }),
+        Step::Claims(client) => Ok(match locks.claim_count(client)? {
+            Some(count) => Answer::Number(count),
+            None => Answer::Nothing,
+        }),
         Step::Sequencer(client) => sequencer_of(alloc, locks, client),
         Step::Check(mode, instance, generation, present) => {
             let shown = sequencer(alloc, mode, instance, generation)?;
@@ -233,6 +239,50 @@ const STALE: Answer = Answer::Refused(Fault::SequencerStale);
 
 // Each begins with a new table of locks.
 const TABLES: &[(&str, &[(Step, Answer)])] = &[
+    (
+        "claims_of_each_client",
+        &[
+            (Step::Claims(1), Answer::Number(0)),
+            (Step::Acquire(1, Shared, 0), Answer::Number(1)),
+            (Step::Acquire(2, Exclusive, 0), Answer::Waits),
+            (Step::Claims(1), Answer::Number(1)),
+            (Step::Claims(2), Answer::Number(1)),
+            (Step::Claims(3), Answer::Number(0)),
+            (Step::Release(1), Answer::Turn(1, 0)),
+            (Step::Claims(1), Answer::Number(0)),
+            (Step::Claims(2), Answer::Number(1)),
+            (Step::Close(2), Answer::Turn(0, 0)),
+            (Step::Claims(2), Answer::Number(0)),
+        ],
+    ),
+    (
+        "claims_on_a_lock_with_many",
+        &[
+            (Step::Acquire(1, Exclusive, 0), Answer::Number(1)),
+            (Step::Acquire(2, Exclusive, 0), Answer::Waits),
+            (Step::Acquire(3, Exclusive, 0), Answer::Waits),
+            (Step::Acquire(4, Exclusive, 0), Answer::Waits),
+            (Step::Acquire(5, Exclusive, 0), Answer::Waits),
+            (Step::Acquire(6, Exclusive, 0), Answer::Waits),
+            (Step::Acquire(7, Exclusive, 0), Answer::Waits),
+            (Step::Acquire(8, Exclusive, 0), Answer::Waits),
+            (Step::Acquire(9, Exclusive, 0), Answer::Waits),
+            (Step::Acquire(10, Exclusive, 0), Answer::Waits),
+            (Step::Acquire(11, Exclusive, 0), Answer::Waits),
+            (Step::Acquire(12, Exclusive, 0), Answer::Waits),
+            (Step::Acquire(13, Exclusive, 0), Answer::Waits),
+            (Step::Acquire(14, Exclusive, 0), Answer::Waits),
+            (Step::Acquire(15, Exclusive, 0), Answer::Waits),
+            (Step::Acquire(16, Exclusive, 0), Answer::Waits),
+            (Step::Acquire(17, Exclusive, 0), Answer::Waits),
+            (Step::Acquire(18, Exclusive, 0), Answer::Waits),
+            (Step::Claims(1), Answer::Number(1)),
+            (Step::Claims(18), Answer::Number(1)),
+            (Step::Claims(19), Answer::Number(0)),
+            (Step::Close(18), Answer::Turn(0, 0)),
+            (Step::Claims(18), Answer::Number(0)),
+        ],
+    ),
     (
         "modes_and_waiters",
         &[

@@ -2,7 +2,7 @@
 use collections::Secret;
 use names_cell::{Component, Name, Principal};
 use node_core::{Listing, View};
-use rows_cell::{ListRecords, Records, Rows, Settings, SettingsFault, StoredNode};
+use rows_cell::{Limits, ListRecords, Records, Rows, Settings, SettingsFault, StoredNode};
 use std::alloc::Global;
 use std::test::Fail;
 
@@ -53,7 +53,8 @@ fn refusal_of(
     principals: &[Principal],
 ) -> Result<Option<SettingsFault>, Fail> {
     let cell = Component::parse(alloc, "c")?;
-    Ok(Settings::new(alloc, cell, lease, principals, Secret::new([0; 32])).err())
+    let secret = Secret::new([0; 32]);
+    Ok(Settings::new(alloc, cell, lease, principals, secret, Limits::none()).err())
 }
 
 fn refusal(alloc: Global, lease: u64, count: usize) -> Result<Option<SettingsFault>, Fail> {

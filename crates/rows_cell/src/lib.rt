@@ -2,7 +2,7 @@
 //!
 //! What outlives a master: the rows of a cell, and who keeps them.
 //!
-//! What a cell is set to: its name, its lease, the principals of its first ACL, and its secret.
+//! What a cell is set to: its name, its lease, the principals of its first ACL, its secret, and what it holds at most.
 #![tactic(auto)]
 
 mod counts;
@@ -21,7 +21,7 @@ pub use failing::FailAt;
 pub use keys::LockKey;
 pub use lists::ListRecords;
 pub use records::{Records, StoreFault};
-pub use settings::{Settings, SettingsFault, component};
+pub use settings::{Limits, MasterTerms, Settings, SettingsFault, component};
 pub use soundness::is_sound;
 pub use tables::{Edit, LockRow, LockState, Rows, Session, StoredNode};
 pub use texts::text_of;

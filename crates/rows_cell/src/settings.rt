@@ -2,7 +2,7 @@
 ghost use Rattle.std.specs.Prelude.{◌≡◌, ◌≤◌, Ok, IfOk, length, true};
 ghost use Rattle.collections.specs.Results.{Gives};
 ghost use Rattle.names_cell.specs.Text.{is_component};
-ghost use Rattle.rows_cell.specs.Settings.{settled_or, base_of, standard};
+ghost use Rattle.rows_cell.specs.Settings.{settled_or, base_of, standard, no_limits, terms_of};
 
 use collections::{Bytes, Secret};
 use names_cell::{Component, Principal};
@@ -33,14 +33,47 @@ impl From<AllocError> for SettingsFault {
     }
 }
 
-/// What a cell is set to: its name, its lease, the principals of the ACL `base` in a new store, and the secret of a new
-/// store.
+/// What a cell holds at most; None where there is no limit. Calls that would go beyond one are refused. Where more is there when
+/// the limit is set, that stays, and doesn't grow. How much a principal wrote is no limit here, because no row says who wrote a
+/// content.
+#[derive(Clone, Copy, Debug)]
+pub struct Limits {
+    /// Nodes.
+    pub max_nodes: Option<u64>,
+    /// Bytes of all contents.
+    pub max_bytes: Option<u64>,
+    /// Locks that one session holds or waits for.
+    pub max_locks: Option<u64>,
+}
+
+impl Limits {
+    pub fn none() -> Limits
+        ensures { result ≡ no_limits }
+    {
+        Limits {
+            max_nodes: None,
+            max_bytes: None,
+            max_locks: None,
+        }
+    }
+}
+
+/// What a master goes by: its lease, in milliseconds, and what the cell holds at most.
+#[derive(Clone, Copy, Debug)]
+pub struct MasterTerms {
+    pub lease: u64,
+    pub limits: Limits,
+}
+
+/// What a cell is set to: its name, its lease, the principals of the ACL `base` in a new store, the secret of a new
+/// store, and what it holds at most.
 #[derive(Debug, Drop)]
 pub struct Settings {
     cell: Component,
     lease: u64,
     base: Bytes,
     secret: Secret,
+    limits: Limits,
 }
 
 impl Model for Settings {
@@ -49,7 +82,7 @@ impl Model for Settings {
 
     ghost Value = { Settled };
 
-    ghost view = { λ s. record { cell = s.cell; lease = s.lease; base = s.base; secret = s.secret } };
+    ghost view = { λ s. record { cell = s.cell; lease = s.lease; base = s.base; secret = s.secret; limits = s.limits } };
 
     ghost invariant = { λ s. (1000 ≤ s.lease) × (s.lease ≤ 60000) × (length s.base ≤ 262144) };
 }
@@ -62,8 +95,9 @@ impl Settings {
         lease: u64,
         principals: &[Principal],
         secret: Secret,
+        limits: Limits,
     ) -> Result<Settings, SettingsFault>
-        ensures { Gives SettingsFault.NoMemory result (settled_or cell lease (base_of principals.now) secret) }
+        ensures { Gives SettingsFault.NoMemory result (settled_or cell lease (base_of principals.now) secret limits) }
     {
         if lease < 1000 || lease > 60_000 {
             return Err(SettingsFault::BadLease);
@@ -77,17 +111,19 @@ impl Settings {
             lease,
             base,
             secret,
+            limits,
         })
     }
 
-    /// The cell `c` with a lease of 12,000 ms, the principals `ann` and `bob` and a secret of zeros.
+    /// The cell `c` with a lease of 12,000 ms, the principals `ann` and `bob`, a secret of zeros and no limits.
     pub fn standard(alloc: Global) -> Result<Settings, SettingsFault>
         ensures { Gives SettingsFault.NoMemory result (Ok standard) }
     {
         let cell = component(alloc, "c")?;
         let ann = principal(alloc, "ann")?;
         let bob = principal(alloc, "bob")?;
-        Settings::new(alloc, cell, 12_000, &[ann, bob], Secret::new([0; 32]))
+        let secret = Secret::new([0; 32]);
+        Settings::new(alloc, cell, 12_000, &[ann, bob], secret, Limits::none())
     }
 
     pub fn cell(&self) -> &Component
@@ -116,6 +152,17 @@ impl Settings {
         ensures { result.now ≡ self.now.secret }
     {
         &self.secret
+    }
+
+    /// What a master of the cell goes by.
+    pub fn terms(&self) -> MasterTerms
+        ensures terms { result ≡ terms_of self.now }
+        ensures range { (1000 ≤ result.lease) × (result.lease ≤ 60000) }
+    {
+        MasterTerms {
+            lease: self.lease,
+            limits: self.limits,
+        }
     }
 }
 

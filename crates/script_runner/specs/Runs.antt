@@ -1,6 +1,6 @@
 -- What a script did over rows in lists.
 use Rattle.std.specs.Prelude.{◌≡◌, ◌⊎◌, ℕ, List, [], ◌∷◌, Option}
-use Rattle.rows_cell.specs.Settings.{standard}
+use Rattle.rows_cell.specs.Settings.{standard, terms_of}
 use Rattle.rows_cell.specs.Opening.{opening}
 use Rattle.rows_cell.specs.Stores.{Store}
 use Rattle.world_steps.specs.World.{opened}
@@ -12,4 +12,4 @@ new_store = record { cell = standard.cell; rows = opening standard; may_leave = 
 
 -- with this status a script ended over it, and all laws of runs hold; or memory ran out before, and nothing was written
 abbrev pub Runs : ℕ → Option (List ℕ) → Option (List ℕ) → Option (List ℕ) → Type 0
-Runs status text before after = RunsSurely status text (opened new_store standard.lease) before after ⊎ ((status ≡ 4) × (after ≡ before))
+Runs status text before after = RunsSurely status text (opened new_store (terms_of standard)) before after ⊎ ((status ≡ 4) × (after ≡ before))

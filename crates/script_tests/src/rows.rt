@@ -9,7 +9,7 @@ use crate::texts::difference;
 use crate::troubles::Trouble;
 use collections::Secret;
 use names_cell::{Component, Principal};
-use rows_cell::Settings;
+use rows_cell::{Limits, Settings};
 use scripts::number;
 use std::alloc::{AllocError, Global};
 use std::io::{self, Write};
@@ -45,11 +45,20 @@ struct Row<'a> {
     settings: &'a Settings,
 }
 
-fn settings_of(alloc: Global, lease: u64) -> Option<Settings> {
+fn settings_of(alloc: Global, parts: &[Part<'_>]) -> Option<Settings> {
+    let lease = number_of(parts, "lease").unwrap_or(12_000);
     let cell = Component::parse(alloc, "c").ok()?;
     let ann = Principal::parse(alloc, "ann").ok()?;
     let bob = Principal::parse(alloc, "bob").ok()?;
-    Settings::new(alloc, cell, lease, &[ann, bob], Secret::new([0; 32])).ok()
+    Settings::new(
+        alloc,
+        cell,
+        lease,
+        &[ann, bob],
+        Secret::new([0; 32]),
+        limits_of(parts),
+    )
+    .ok()
 }
 
 impl<'a> Row<'a> {
@@ -149,13 +158,22 @@ fn told(alloc: Global, line: u64, wanted: &[u8], left: &[u8]) -> Result<String, 
     format!(in alloc; "line {line} is \"{left}\" and not \"{wanted}\"")
 }
 
-fn lease_of(parts: &[Part<'_>]) -> u64 {
+// The number of the first part that has this word; none where no part has it.
+fn number_of(parts: &[Part<'_>], word: &str) -> Option<u64> {
     for part in parts {
-        if part.word == "lease" {
-            return number(part.rest).unwrap_or(0);
+        if part.word == word {
+            return Some(number(part.rest).unwrap_or(0));
         }
     }
-    12_000
+    None
+}
+
+fn limits_of(parts: &[Part<'_>]) -> Limits {
+    Limits {
+        max_nodes: number_of(parts, "max_nodes"),
+        max_bytes: number_of(parts, "max_bytes"),
+        max_locks: number_of(parts, "max_locks"),
+    }
 }
 
 // The first word that no part of a row has.
@@ -180,7 +198,7 @@ fn run_parts<W: Write>(
         tally.differ = tally.differ.saturating_add(1);
         return writeln!(output, "{name}: no part of a row is {word}");
     }
-    let Some(settings) = settings_of(alloc, lease_of(parts)) else {
+    let Some(settings) = settings_of(alloc, parts) else {
         tally.differ = tally.differ.saturating_add(1);
         return writeln!(output, "{name}: no settings");
     };

@@ -115,6 +115,9 @@ pub(crate) fn is_known(word: &str) -> bool {
     matches!(
         word,
         "lease"
+            | "max_nodes"
+            | "max_bytes"
+            | "max_locks"
             | "steps"
             | "sql"
             | "edits"

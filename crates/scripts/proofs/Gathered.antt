@@ -5,7 +5,7 @@ use Rattle.toml.specs.Data.{Items, item, Members}
 use Rattle.toml.specs.View.{view, items_view, members_view}
 use Rattle.toml.specs.declared.value.Value.{Value}
 use Rattle.toml.proofs.Views.{items_view-drop}
-use Rattle.scripts.specs.Said.{both, component_in, principals_of, is_key, unknown_key}
+use Rattle.scripts.specs.Said.{both, component_in, principals_of, is_key, unknown_key, is_limit, are_limits}
 
 abbrev pub Principals : Type 0
 Principals = List (List ℕ)
@@ -61,3 +61,17 @@ pub key_stop : (all left next : List Entry) (key : String Global) (value : Value
 key_stop all left next key value h l e =
     let whole : cond (is_key (string_bytes key)) (unknown_key (members_view next)) (Some (string_bytes key)) ≡ unknown_key (members_view all) = ap (λ es. unknown_key (members_view es)) (sym l) ∙ h in
     ap (λ b. cond b (unknown_key (members_view next)) (Some (string_bytes key))) (sym e) ∙ whole
+
+-- ---- the keys of the limits
+
+pub limit_left : (all left next : List Entry) (key : String Global) (value : Value) → are_limits (members_view left) ≡ are_limits (members_view all) → left ≡ (key, value) ∷ next → is_limit (string_bytes key) ≡ true
+    → are_limits (members_view next) ≡ are_limits (members_view all)
+limit_left all left next key value h l e =
+    let whole : cond (is_limit (string_bytes key)) (are_limits (members_view next)) false ≡ are_limits (members_view all) = ap (λ es. are_limits (members_view es)) (sym l) ∙ h in
+    ap (λ b. cond b (are_limits (members_view next)) false) (sym e) ∙ whole
+
+pub limit_stop : (all left next : List Entry) (key : String Global) (value : Value) → are_limits (members_view left) ≡ are_limits (members_view all) → left ≡ (key, value) ∷ next → is_limit (string_bytes key) ≡ false
+    → false ≡ are_limits (members_view all)
+limit_stop all left next key value h l e =
+    let whole : cond (is_limit (string_bytes key)) (are_limits (members_view next)) false ≡ are_limits (members_view all) = ap (λ es. are_limits (members_view es)) (sym l) ∙ h in
+    ap (λ b. cond b (are_limits (members_view next)) false) (sym e) ∙ whole

@@ -1,20 +1,21 @@
 -- The settings that a table says.
-use Rattle.std.specs.Prelude.{◌≡◌, ⊤, ℕ, ℤ, pos, unsigned_abs, int_lt, nat_lt, Bool, true, ◌||◌, ◌&&◌, ◌==◌, List, [], ◌∷◌, length, replicate, codes, string_bytes, Option, Some, None, Result, Ok, Err, if◌then◌else◌}
+use Rattle.std.specs.Prelude.{◌≡◌, ⊤, ℕ, ℤ, pos, unsigned_abs, int_lt, nat_lt, Bool, true, false, ◌||◌, ◌&&◌, ◌==◌, List, [], ◌∷◌, length, replicate, codes, string_bytes, Option, Some, None, option_map, Result, Ok, Err, if◌then◌else◌}
 use Rattle.std.specs.Str.{bytes_eq}
 use Rattle.hex.specs.Hex.{decode_of, encode_lower}
 use Rattle.hex.specs.declared.error.FromHexError.{FromHexError}
-use Rattle.toml.specs.Data.{Data, Items, no_items, item, Members, no_members, member, as_str, as_integer, as_array, get_member}
+use Rattle.toml.specs.Data.{Data, Items, no_items, item, Members, no_members, member, as_str, as_integer, as_array, as_table, get_member}
 use Rattle.node_core.specs.Limits.{content_limit}
 use Rattle.toml.specs.Parse.{parse_document}
 use Rattle.names_cell.specs.Text.{is_component}
-use Rattle.rows_cell.specs.Settings.{Settled, base_of}
+use Rattle.rows_cell.specs.declared.settings.Limits.{Limits}
+use Rattle.rows_cell.specs.Settings.{Settled, base_of, no_limits}
 use Rattle.scripts.specs.declared.faults.TextFault.{TextFault}
-use Rattle.scripts.specs.declared.faults.TextFault.TheVariants.{NoMemory, NotToml, UnknownKey, WrongCell, WrongLease, WrongPrincipals, WrongSecret}
+use Rattle.scripts.specs.declared.faults.TextFault.TheVariants.{NoMemory, NotToml, UnknownKey, WrongCell, WrongLease, WrongPrincipals, WrongSecret, WrongLimits}
 
 -- ---- the keys
 
 abbrev pub is_key : List ℕ → Bool
-is_key key = bytes_eq key (codes "cell") || bytes_eq key (codes "lease") || bytes_eq key (codes "principals") || bytes_eq key (codes "secret")
+is_key key = bytes_eq key (codes "cell") || bytes_eq key (codes "lease") || bytes_eq key (codes "principals") || bytes_eq key (codes "secret") || bytes_eq key (codes "limits")
 
 -- the first key that is no setting's
 abbrev pub unknown_key : Members → Option (List ℕ)
@@ -68,12 +69,46 @@ secret_of (Some text) = bytes_of text (decode_of text)
 abbrev pub secret_in : Data → Option (List ℕ)
 secret_in value = secret_of (as_str value)
 
--- ---- the settings
-
 -- a value, or the standard one
 abbrev pub value_or : {X : Type 0} → X → (Data → Option X) → Option Data → Option X
 value_or standard read None = Some standard
 value_or standard read (Some value) = read value
+
+-- ---- the limits
+
+abbrev pub is_limit : List ℕ → Bool
+is_limit key = bytes_eq key (codes "max_nodes") || bytes_eq key (codes "max_bytes") || bytes_eq key (codes "max_locks")
+
+abbrev pub are_limits : Members → Bool
+are_limits no_members = true
+are_limits (member key value rest) = if is_limit key then are_limits rest else false
+
+abbrev pub count_of : Option ℤ → Option ℕ
+count_of None = None
+count_of (Some n) = if int_lt n (pos 0) then None else Some (unsigned_abs n)
+
+-- a whole number, 0 or more
+abbrev pub count_in : Data → Option (Option ℕ)
+count_in value = option_map Some (count_of (as_integer value))
+
+-- that of a key; no limit, if the key isn't there
+abbrev pub limit_said : List ℕ → Members → Option (Option ℕ)
+limit_said key said = value_or None count_in (get_member key said)
+
+abbrev pub limits_with : Option (Option ℕ) → Option (Option ℕ) → Option (Option ℕ) → Option Limits
+limits_with (Some nodes) (Some bytes) (Some locks) = Some (record { max_nodes = nodes; max_bytes = bytes; max_locks = locks })
+limits_with _ _ _ = None
+
+abbrev pub limits_of : Option Members → Option Limits
+limits_of None = None
+limits_of (Some said) =
+    if are_limits said then limits_with (limit_said (codes "max_nodes") said) (limit_said (codes "max_bytes") said) (limit_said (codes "max_locks") said) else None
+
+-- a table of limits
+abbrev pub limits_in : Data → Option Limits
+limits_in value = limits_of (as_table value)
+
+-- ---- the settings
 
 abbrev pub cell_said : Members → Option (List ℕ)
 cell_said said = value_or (codes "c") component_in (get_member (codes "cell") said)
@@ -87,6 +122,9 @@ principals_said said = value_or (codes "ann" ∷ codes "bob" ∷ []) principals_
 abbrev pub secret_said : Members → Option (List ℕ)
 secret_said said = value_or (replicate 32 0) secret_in (get_member (codes "secret") said)
 
+abbrev pub limits_said : Members → Option Limits
+limits_said said = value_or no_limits limits_in (get_member (codes "limits") said)
+
 -- a table says these settings
 pub record Says (members : Members) (settings : Settled) : Type 0 where
   pub known : unknown_key members ≡ None
@@ -96,6 +134,7 @@ pub record Says (members : Members) (settings : Settled) : Type 0 where
   pub lease : lease_said members ≡ Some settings.lease
   pub named : principals_said members ≡ Some principals
   pub secret : secret_said members ≡ Some settings.secret
+  pub limits : limits_said members ≡ Some settings.limits
 
 -- the principals are no array of principals, or their lines are too long for a file
 abbrev pub AreWrong : Option (List (List ℕ)) → Type 0
@@ -111,6 +150,7 @@ IsFault said WrongCell = cell_said said ≡ None
 IsFault said WrongLease = lease_said said ≡ None
 IsFault said WrongPrincipals = AreWrong (principals_said said)
 IsFault said WrongSecret = secret_said said ≡ None
+IsFault said WrongLimits = limits_said said ≡ None
 
 -- a text says these settings
 abbrev pub AreSaid : List ℕ → Settled → Type 0

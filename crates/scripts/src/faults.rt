@@ -12,7 +12,7 @@ pub enum TextFault {
     NoMemory,
     #[error("{0}")]
     NotToml(de::Error),
-    #[error("no setting has the key `{0}`: the keys are `cell`, `lease`, `principals` and `secret`")]
+    #[error("no setting has the key `{0}`: the keys are `cell`, `lease`, `principals`, `secret` and `limits`")]
     UnknownKey(String),
     #[error("`cell` has to be a component: 1 to 64 of a to z, 0 to 9, `.`, `_` and `-`, and neither `.` nor `..`")]
     WrongCell,
@@ -22,6 +22,8 @@ pub enum TextFault {
     WrongPrincipals,
     #[error("`secret` has to be 64 hexadecimal digits in lower case")]
     WrongSecret,
+    #[error("`limits` has to be a table of `max_nodes`, `max_bytes` and `max_locks`, or some of them, each a whole number, 0 or more")]
+    WrongLimits,
 }
 
 impl From<AllocError> for TextFault {

@@ -4,6 +4,7 @@
 
 mod deliveries;
 mod faults;
+mod limits;
 mod lines;
 mod reading;
 mod scripts;

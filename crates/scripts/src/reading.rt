@@ -7,19 +7,20 @@ ghost use Rattle.toml.specs.View.{table_view};
 ghost use Rattle.names_cell.specs.Text.{is_component};
 ghost use Rattle.node_core.specs.Limits.{content_limit};
 ghost use Rattle.rows_cell.specs.Settings.{base_of};
-ghost use Rattle.scripts.specs.Said.{is_key, unknown_key, cell_said, lease_said, principals_said, secret_said, Says, IsFault, IsUnread, AreSaid};
+ghost use Rattle.scripts.specs.Said.{is_key, unknown_key, cell_said, lease_said, principals_said, secret_said, limits_said, Says, IsFault, IsUnread, AreSaid};
 
 use crate::faults::TextFault;
+use crate::limits::limits_in;
 use crate::values::{cell_in, lease_in, principals_in, secret_in};
 use collections::{Items, Secret};
 use names_cell::{Component, Principal};
-use rows_cell::{Settings, SettingsFault};
+use rows_cell::{Limits, Settings, SettingsFault};
 use std::alloc::{AllocError, Global};
 use toml::{Table, de};
 
 /// Reads settings from a text in TOML. A key that isn't there has the value of the standard settings. Faults are found
 /// in this order: what is no TOML, an unknown key (the first in the order of keys), and then the values of `cell`,
-/// `lease`, `principals` and `secret`.
+/// `lease`, `principals`, `secret` and `limits`.
 pub fn read_settings(alloc: Global, text: &str) -> Result<Settings, TextFault>
     ensures ok { IfOk result (λ settings. AreSaid text.now settings) }
     ensures err { IfErr result (λ fault. IsUnread text.now fault) }
@@ -49,7 +50,10 @@ fn settings_of(alloc: Global, table: &Table) -> Result<Settings, TextFault>
     let Some(secret) = secret_at(alloc, table)? else {
         return Err(TextFault::WrongSecret);
     };
-    made(alloc, cell, lease, principals.as_slice(), secret)
+    let Some(limits) = limits_at(table) else {
+        return Err(TextFault::WrongLimits);
+    };
+    made(alloc, cell, lease, principals.as_slice(), secret, limits)
 }
 
 fn made(
@@ -58,12 +62,13 @@ fn made(
     lease: u64,
     principals: &[Principal],
     secret: Secret,
+    limits: Limits,
 ) -> Result<Settings, TextFault>
     requires { (1000 ≤ lease) × (lease ≤ 60000) }
-    ensures ok { IfOk result (λ s. (s.cell ≡ cell) × (s.lease ≡ lease) × (s.base ≡ base_of principals.now) × (s.secret ≡ secret)) }
+    ensures ok { IfOk result (λ s. (s.cell ≡ cell) × (s.lease ≡ lease) × (s.base ≡ base_of principals.now) × (s.secret ≡ secret) × (s.limits ≡ limits)) }
     ensures err { IfErr result (λ e. (e ≡ TextFault.NoMemory) ⊎ ((e ≡ TextFault.WrongPrincipals) × (nat_lt content_limit (length (base_of principals.now)) ≡ true))) }
 {
-    match Settings::new(alloc, cell, lease, principals, secret) {
+    match Settings::new(alloc, cell, lease, principals, secret, limits) {
         Ok(settings) => Ok(settings),
         Err(SettingsFault::NoMemory) => Err(TextFault::NoMemory),
         Err(SettingsFault::BadLease) => Err(TextFault::WrongLease),
@@ -74,7 +79,7 @@ fn made(
 fn is_key(key: &str) -> bool
     ensures { result ≡ is_key key.now }
 {
-    key == "cell" || key == "lease" || key == "principals" || key == "secret"
+    key == "cell" || key == "lease" || key == "principals" || key == "secret" || key == "limits"
 }
 
 #[tactic(auto, using(crate::proofs::Gathered::key_left, crate::proofs::Gathered::key_stop))]
@@ -123,6 +128,15 @@ fn secret_at(alloc: Global, table: &Table) -> Result<Option<Secret>, AllocError>
     match table.get("secret") {
         Some(value) => secret_in(alloc, value),
         None => Ok(Some(Secret::new([0; 32]))),
+    }
+}
+
+fn limits_at(table: &Table) -> Option<Limits>
+    ensures { result ≡ limits_said (table_view table.now) }
+{
+    match table.get("limits") {
+        Some(value) => limits_in(value),
+        None => Some(Limits::none()),
     }
 }
 

@@ -1,6 +1,7 @@
 //! Runs a script.
 ghost use Rattle.std.specs.Prelude.{◌≡◌, ◌≤◌, ◌∷◌, [], Some, length, OnOk, IfOk, IfErr};
 ghost use Rattle.std.specs.Io.KnownBytes.{Keeps};
+ghost use Rattle.rows_cell.specs.Settings.{terms_of};
 ghost use Rattle.world_steps.specs.World.{WorldView, IsUndoubted, opened};
 ghost use Rattle.scripts.specs.Ran.{Ends, EndsWell, EndsSurely, EndsIn, EndsAs, EndsWith, IsNeverInDoubt, RunsSurely, Breaks, BreaksLine, StopsReading, Writes, Obeys};
 ghost use Rattle.scripts.specs.Scripts.{Wrote, IsOfScript, DoesLine, told};
@@ -35,11 +36,11 @@ pub fn script<R: Records + Drop, I: Read + Drop, W: Write>(
     errors: impl Write + Drop,
 ) -> u8
     ensures status { IsStatus result }
-    ensures written { result ≡ 0 → Wrote (IsOfScript (I.remaining reader) (opened (R.store records) settings.now.lease)) (W.contents writer.old) (W.contents writer.new) }
+    ensures written { result ≡ 0 → Wrote (IsOfScript (I.remaining reader) (opened (R.store records) (terms_of settings.now))) (W.contents writer.old) (W.contents writer.new) }
     // Whatever the end, as of `script_on`: the world that the steps left is gone, and the records with it.
-    ensures ran { (new : WorldView) × EndsWith result (EndsWell (I.remaining reader) (opened (R.store records) settings.now.lease) new) (W.contents writer.old) (W.contents writer.new) }
+    ensures ran { (new : WorldView) × EndsWith result (EndsWell (I.remaining reader) (opened (R.store records) (terms_of settings.now)) new) (W.contents writer.old) (W.contents writer.new) }
     // Over records that are never in doubt, as lists: all laws hold, and no more is asked.
-    ensures sure { IsNeverInDoubt R.store → RunsSurely result (I.remaining reader) (opened (R.store records) settings.now.lease) (W.contents writer.old) (W.contents writer.new) }
+    ensures sure { IsNeverInDoubt R.store → RunsSurely result (I.remaining reader) (opened (R.store records) (terms_of settings.now)) (W.contents writer.old) (W.contents writer.new) }
 {
     let mut world = World::new(alloc, records, settings);
     let status = script_on(alloc, &mut world, reader, writer, errors, false);

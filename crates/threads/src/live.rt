@@ -79,7 +79,7 @@ pub fn new_cell(alloc: Global, settings: &Settings) -> Result<Cell<ListRecords>,
     ensures { IfOk result (λ cell. cell.master.rights ≡ []) }
 {
     let records = ListRecords::new(alloc, settings)?;
-    match Cell::up(alloc, records, settings.lease(), 0) {
+    match Cell::up(alloc, records, settings.terms(), 0) {
         Ok(cell) => Ok(cell),
         Err((fault, records)) => {
             drop(records);

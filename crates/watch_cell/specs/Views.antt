@@ -1,5 +1,6 @@
 -- What contracts see of a watch's types.
 use Rattle.std.specs.Prelude.{ℕ, List, [], ◌∷◌, ◌++◌, suc, zero, ◌+◌}
+use Rattle.rows_cell.specs.Settings.{no_limits}
 use Rattle.rows_cell.specs.declared.tables.Rows.{Rows}
 use Rattle.master_state.specs.State.{MasterState, master_of}
 use Rattle.over_core.specs.Kept.{CellState}
@@ -67,4 +68,4 @@ no_rows = record { cell = []; secret = []; epoch = 0; next_instance = 0; nodes =
 
 -- a master over no rows
 abbrev pub nowhere : WatchedState
-nowhere = record { master = master_of no_rows 0 0; rows = no_rows }
+nowhere = record { master = master_of no_rows (record { lease = 0; limits = no_limits }) 0; rows = no_rows }

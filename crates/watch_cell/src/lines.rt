@@ -68,6 +68,7 @@ impl Alike for Fault {
             (Fault::WatchFull, Fault::WatchFull) => true,
             (Fault::PassMissing(a), Fault::PassMissing(b)) => a == b,
             (Fault::ReceiptApart(a), Fault::ReceiptApart(b)) => a == b,
+            (Fault::NoRoom(a), Fault::NoRoom(b)) => a == b,
             _ => false,
         }
     }

@@ -24,7 +24,6 @@ use Rattle.tags_cell.specs.declared.messages.requests.Request.TheVariants as req
 use Rattle.tags_cell.specs.declared.messages.requests.CallMessage.{CallMessage}
 use Rattle.tags_cell.specs.declared.messages.outs.CallResult.{CallResult}
 use Rattle.master_parts.specs.declared.handles.Note.{Note}
-use Rattle.rights_core.specs.declared.endings.Ending.TheVariants as endings
 use Rattle.rights_core.specs.Rights.{numbers_ending}
 use Rattle.gate_core.specs.declared.pending.Waiting.{Waiting}
 use Rattle.lock_core.specs.declared.claims.Claim.{Claim}
@@ -45,7 +44,7 @@ use Rattle.cell_core.specs.Ephemerals.{is_idle_node, is_still_idle}
 use Rattle.cell_core.specs.Step.{queued, names_of, task_of, with_call, asking, asking_for}
 use Rattle.master_state.specs.Lookups.{noted, lock_under, node_of_handle, answer_on}
 use Rattle.cell_core.specs.declared.effects.Effect.{Effect}
-use Rattle.cell_core.specs.Effect.{answered, refused, try_by, try_at, change_at, change_on, handle_effect, effect}
+use Rattle.cell_core.specs.Effect.{answered, refused, try_by, try_at, change_at, change_on, handle_effect, effect, lock_fault}
 use Rattle.master_state.specs.Replies.{locked_line, locked_lines}
 use Rattle.cell_core.specs.Outcomes.{put_listing, leave_lines, left_put}
 use Rattle.master_state.specs.Lapses.{lapses_lines, lapses_of, parting_lines}
@@ -360,14 +359,16 @@ step_stands g step new printed h (inr r) fits = record {
 -- ---- the step that tells of a change
 
 -- whoever asks for a lock changes no name, at whatever moment
-tried_change : (handle : Handle) (claim : Claim) (r : Result LockState Fault) → change_of (try_by handle claim r) ≡ None
-tried_change handle claim (Ok lock) = refl
-tried_change handle claim (Err fault) = refl
+tried_change : (handle : Handle) (claim : Claim) (room : Option Fault) (r : Result LockState Fault) → change_of (try_by handle claim room r) ≡ None
+tried_change handle claim (Some fault) (Ok lock) = refl
+tried_change handle claim None (Ok lock) = refl
+tried_change handle claim room (Err fault) = refl
 
 tried_then : (s : MasterState) (now : ℕ) (handle : Handle) (mode : LockMode) → change_of (try_at (name_space (noted s now)) (noted s now).clock handle mode) ≡ change_of (try_at (name_space s) s.clock handle mode)
 tried_then s now handle mode =
     let claim = claim_of handle mode in
-    tried_change handle claim (tried (lock_under (name_space s) handle) claim (noted s now).clock) ∙ sym (tried_change handle claim (tried (lock_under (name_space s) handle) claim s.clock))
+    let room = lock_fault (name_space s) handle.client in
+    tried_change handle claim room (tried (lock_under (name_space s) handle) claim (noted s now).clock) ∙ sym (tried_change handle claim room (tried (lock_under (name_space s) handle) claim s.clock))
 
 -- by what the tests answer
 either_then : (o : Option CallResult) (x y : Effect) → change_of x ≡ change_of y → change_of (option_map_or (λ answer. answered answer) o x) ≡ change_of (option_map_or (λ answer. answered answer) o y)

@@ -21,7 +21,6 @@ use Rattle.tags_cell.specs.declared.messages.outs.Reply.{Reply}
 use Rattle.tags_cell.specs.declared.messages.beats.Alive.{Alive}
 use Rattle.tags_cell.specs.declared.messages.beats.NumberedEvent.{NumberedEvent}
 use Rattle.tags_cell.specs.Messages.{request_number, out_client}
-use Rattle.rights_core.specs.declared.endings.Ending.TheVariants as endings
 use Rattle.rights_core.specs.declared.grants.Grant.{Grant}
 use Rattle.rights_core.specs.declared.grants.Grant.TheVariants as grants
 use Rattle.rights_core.specs.Rights.{grant_answer, numbers_ending}

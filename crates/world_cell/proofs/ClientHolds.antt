@@ -36,7 +36,6 @@ use Rattle.client_core.specs.Targets.{is_on, opening_in, opening_by, dropped, op
 use Rattle.client_core.specs.declared.parts.asks.Ask.{Ask}
 use Rattle.client_core.specs.declared.parts.asks.Ask.TheVariants as asks
 use Rattle.client_core.specs.declared.parts.asks.NodeCall.{NodeCall}
-use Rattle.client_core.specs.declared.parts.asks.NodeCall.TheVariants as node_calls
 use Rattle.client_core.specs.declared.parts.handles.ClientHandle.{ClientHandle}
 use Rattle.client_core.specs.declared.parts.sessions.Session.{Session}
 use Rattle.client_core.specs.declared.parts.sessions.Session.TheVariants as sessions

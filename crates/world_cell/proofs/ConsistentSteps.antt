@@ -18,6 +18,8 @@ use Rattle.node_core.specs.declared.lines.Line.{Line}
 use Rattle.node_core.specs.declared.lines.Line.TheVariants as lines
 use Rattle.node_core.specs.declared.views.Mod.{Mod}
 use Rattle.node_core.specs.declared.views.Mod.TheVariants.{Put, Gone}
+use Rattle.rows_cell.specs.declared.settings.Limits.{Limits}
+use Rattle.rows_cell.specs.declared.settings.MasterTerms.{MasterTerms}
 use Rattle.rows_cell.specs.declared.tables.Rows.{Rows}
 use Rattle.rows_cell.specs.declared.tables.Session as stored
 use Rattle.rows_cell.specs.declared.tables.Edit.TheVariants.{NextInstance}
@@ -48,6 +50,8 @@ use Rattle.cell_core.proofs.AskedFor.{asks_only}
 use Rattle.cell_core.specs.Step.{with_call, asking_for, queued, names_of}
 use Rattle.cell_core.specs.Cases.{TakeCase, taken_by}
 use Rattle.over_core.specs.SweepCase.{SweepCase, swept_by, swept_edits, gone_replies}
+use Rattle.over_core.proofs.KeptByTakes.{clock_kept}
+use Rattle.over_core.proofs.Limited.{taken_same, case_within}
 use Rattle.over_core.proofs.SweepCases.{action_tellings}
 use Rattle.cell_core.specs.Cases.TakeCase.{LeftBefore, Repeated, StartQueued, OldBeat, BeatRefused, BeatParked, OldEpoch, Answered, Granted, Waits}
 use Rattle.cell_core.specs.Outcomes.{left_put}
@@ -70,7 +74,7 @@ use Rattle.world_steps.specs.Messages.{request_at, out_at, call_of}
 use Rattle.world_steps.specs.World.{WorldState, WorldView, IsUndoubted, member_of, new_world, world_step, world_sweep, without_quiet, step_edits, step_frees, IsStored, IsLeft, stays_fair, are_fair, moved, ticked, without_master, Agrees}
 use Rattle.world_cell.specs.Slices.{slice, standing_in}
 use Rattle.world_cell.specs.Contents.{TellsTrue}
-use Rattle.world_cell.specs.Consistent.{IsMember, Holds, HasSent, IsAnswer, FitsMessages, Fits, IsNoted, IsInTurn, IsFairSince, AreFair, IsConsistent}
+use Rattle.world_cell.specs.Consistent.{IsMember, Holds, HasSent, IsAnswer, FitsMessages, Fits, IsNoted, IsInTurn, IsFairSince, AreFair, IsLimited, IsConsistent}
 use Rattle.world_cell.proofs.MessagesGrow.{none_sent, none_out, request_more, out_more, call_stays, call_more, call_new, no_call, no_request, one_call, its_call, one_request, one_no_out, out_among}
 use Rattle.world_cell.proofs.OneSession.{at_each, kept_in}
 use Rattle.world_cell.proofs.RelockedRows.{let_go, relocked_rows}
@@ -183,8 +187,8 @@ module _ (old new : WorldState) (more : List Message) (h : IsConsistent old) (la
         | inr b ↦ fresh.told b.0 present refused b.1 of
       ]
 
-  all_consistent : ((number : ℕ) (member : WorldClient) → member_of new number ≡ Some member → IsMember new.rows.epoch number member) → Fits new new.master → new.lease ≡ old.lease → IsNoted new.clock new.master → AreFair new new.master → Becomes new
-  all_consistent clients fits lease noted fair = Becomes.OnceServed (λ master served. record {
+  all_consistent : ((number : ℕ) (member : WorldClient) → member_of new number ≡ Some member → IsMember new.rows.epoch number member) → Fits new new.master → new.terms ≡ old.terms → IsLimited new.terms.limits new.master → IsNoted new.clock new.master → AreFair new new.master → Becomes new
+  all_consistent clients fits terms limits noted fair = Becomes.OnceServed (λ master served. record {
     clients = clients;
     holds = served.holds;
     named = all_named;
@@ -194,7 +198,8 @@ module _ (old new : WorldState) (more : List Message) (h : IsConsistent old) (la
     answers = served.answers;
     master = master;
     fits = fits;
-    lease = subst (λ n. n ≤ longest_lease) (sym lease) h.lease;
+    lease = subst (λ (t : MasterTerms). t.lease ≤ longest_lease) (sym terms) h.lease;
+    limits = limits;
     noted = noted;
     fair = fair;
     reached = served.reached;
@@ -306,7 +311,7 @@ module _ (w : WorldState) (h : IsConsistent w) (now : ℕ) where
   abbrev up : WorldState
   up = record w {
     rows = changed_rows w.rows (up_edits w.rows);
-    master = Some (master_of (changed_rows w.rows (up_edits w.rows)) w.lease now);
+    master = Some (master_of (changed_rows w.rows (up_edits w.rows)) w.terms now);
     clock = now;
     clients = each_member (λ number. at_up now) w.clients;
   }
@@ -340,7 +345,7 @@ module _ (w : WorldState) (h : IsConsistent w) (now : ℕ) where
       all_consistent w up [] h up_later (none_fresh w up refl)
       (at_each_member (λ number. at_up now) w.clients (λ q x. IsMember (w.rows.epoch + 1) q x) (λ q x is.
       let t = stepped_later w.rows.epoch (w.rows.epoch + 1) q x next_epoch (h.clients q x is) in record { own = t.own; past = t.past; unstarted = t.unstarted; live = t.live; noted = t.noted }))
-      (record { queue = tt; kept = λ client kept is. no_kept client kept is; replies = λ client kept reply is of. no_kept client kept is; answers = λ client kept reply is of. no_kept client kept is; turns = λ client. (all_first now w.rows.sessions client).1; awaited = λ client waits. refl }) refl (least now)
+      (record { queue = tt; kept = λ client kept is. no_kept client kept is; replies = λ client kept reply is of. no_kept client kept is; answers = λ client kept reply is of. no_kept client kept is; turns = λ client. (all_first now w.rows.sessions client).1; awaited = λ client waits. refl }) refl refl (least now)
       (at_each_member (λ number. at_up now) w.clients (λ q x. IsFairSince now x) (λ q x is. fair_at_once now (at_up now x) refl refl))
 
 -- ---- a client joins
@@ -384,7 +389,7 @@ module _ (w : WorldState) (h : IsConsistent w) (number : ℕ) (principal : List 
   join_holds =
       all_consistent w joined [] h join_later (none_fresh w joined refl)
       (at_joined (λ q x. IsMember w.rows.epoch q x) (record { own = refl; past = zero_least w.rows.epoch; unstarted = λ e. refl; live = λ e. cc; noted = least 0 }) h.clients)
-      (fits_more w joined [] w.master (sym (append-nil w.messages)) h.fits) refl h.noted (fair_joined w.master h.fair)
+      (fits_more w joined [] w.master (sym (append-nil w.messages)) h.fits) refl h.limits h.noted (fair_joined w.master h.fair)
 
 -- ---- a client does a step
 
@@ -424,7 +429,7 @@ module _ (w : WorldState) (h : IsConsistent w) (number : ℕ) (member : WorldCli
   own_consistent : (more : List Message) → messages ≡ w.messages ++ more → Later w acted → AreFresh w acted more → IsMember w.rows.epoch number (record member { client = client }) → Becomes acted
   own_consistent more grown later fresh own =
       all_consistent w acted more h later fresh (at_members w.clients number member client found (λ q x. IsMember w.rows.epoch q x) own h.clients)
-      (fits_more w acted more w.master grown h.fits) refl h.noted (fair_acted w.master h.fair)
+      (fits_more w acted more w.master grown h.fits) refl h.limits h.noted (fair_acted w.master h.fair)
 
 -- the client's own member then
 module _ (w : WorldState) (h : IsConsistent w) (number : ℕ) (member : WorldClient) (found : member_of w number ≡ Some member) (client : ClientState) where
@@ -581,7 +586,7 @@ tick_holds : (w : WorldState) → IsConsistent w → (ticks : ClockSteps) → ar
 tick_holds w h ticks fair =
     all_consistent w (ticked w ticks) [] h (tick_later w h ticks) (none_fresh w (ticked w ticks) refl)
     (at_each_member (moved w.master w ticks) w.clients (λ q x. IsMember w.rows.epoch q x) (tick_stepped w h ticks))
-    (fits_more w (ticked w ticks) [] w.master (sym (append-nil w.messages)) h.fits) refl (noted_ticked w h ticks w.master h.noted) (fair_ticked w ticks w.master fair)
+    (fits_more w (ticked w ticks) [] w.master (sym (append-nil w.messages)) h.fits) refl h.limits (noted_ticked w h ticks w.master h.noted) (fair_ticked w ticks w.master fair)
 
 -- ---- the master takes and sweeps
 
@@ -593,6 +598,9 @@ agrees_at w o s e k = rw e at k
 
 pub fair_at : (w : WorldState) (o : Option MasterState) (s : MasterState) → o ≡ Some s → AreFair w o → (number : ℕ) (member : WorldClient) → member_of w number ≡ Some member → IsFairSince w.clock member
 fair_at w o s e k = rw e at k
+
+pub limits_at : (limits : Limits) (o : Option MasterState) (s : MasterState) → o ≡ Some s → IsLimited limits o → s.limits ≡ limits
+limits_at limits o s e k = rw e at k
 
 noted_at : (now : ℕ) (o : Option MasterState) (s : MasterState) → o ≡ Some s → IsNoted now o → s.clock ≤ now
 noted_at now o s e k = rw e at k
@@ -714,8 +722,10 @@ module _ (w : WorldState) (h : IsConsistent w) (s : MasterState) (up : w.master 
       let clock = taken_clock (noted s w.clock) request c in
       let telling : AreTellingIn w.rows.epoch sent = subst (λ n. AreTellingIn n sent) (agrees_at w w.master s up h.master).epoch (taken_tells (noted s w.clock) request c) in
       let early = within in
+      let same = taken_same (noted s w.clock) request c in
+      let limits : (taken_by (noted s w.clock) request c).0.limits ≡ w.terms.limits = same.0 ∙ limits_at w.terms.limits w.master s up h.limits in
       all_consistent w new (map ToClient sent) h (same_clients w new refl (least w.rows.epoch) refl) (outs_fresh w new sent refl telling) (same_members w new h refl (least w.rows.epoch))
-      fits refl (omega (arith, clock, early)) (fair_at w w.master s up h.fair)
+      fits refl limits (omega (arith, clock, early)) (fair_at w w.master s up h.fair)
 
   sweep_holds : (c : SweepCase (noted s w.clock)) (action : Action) → Becomes (record w { rows = changed_rows w.rows (swept_edits (noted s w.clock) c); master = Some (swept_master (noted s w.clock) c action); messages = w.messages ++ map ToClient (swept_by (noted s w.clock) c).1.outs })
   sweep_holds c action =
@@ -729,8 +739,11 @@ module _ (w : WorldState) (h : IsConsistent w) (s : MasterState) (up : w.master 
       let no_less : w.rows.epoch ≤ new.rows.epoch = omega (arith, stays) in
       let clock = swept_clock (noted s w.clock) c in
       let early = within in
+      let kept = clock_kept w.cell w.rows s (max s.clock w.clock) (agrees_at w w.master s up h.master) in
+      let swept = case_within w.cell w.rows (noted s w.clock) kept c in
+      let limits : (swept_by (noted s w.clock) c).0.limits ≡ w.terms.limits = swept.limits ∙ limits_at w.terms.limits w.master s up h.limits in
       all_consistent w new (map ToClient sent) h (same_clients w new refl no_less refl) (outs_fresh w new sent refl telling) (same_members w new h refl no_less)
-      (fits_stays w.messages (map ToClient sent) (swept_master (noted s w.clock) c action) fits) refl (omega (arith, clock, early)) (fair_at w w.master s up h.fair)
+      (fits_stays w.messages (map ToClient sent) (swept_master (noted s w.clock) c action) fits) refl limits (omega (arith, clock, early)) (fair_at w w.master s up h.fair)
 
 -- ---- the master goes down
 
@@ -739,7 +752,7 @@ down_later w = same_clients w (without_master w) refl (least w.rows.epoch) refl
 
 down_holds : (w : WorldState) → IsConsistent w → Becomes (without_master w)
 down_holds w h =
-    all_consistent w (without_master w) [] h (down_later w) (none_fresh w (without_master w) refl) (same_members w (without_master w) h refl (least w.rows.epoch)) tt refl tt tt
+    all_consistent w (without_master w) [] h (down_later w) (none_fresh w (without_master w) refl) (same_members w (without_master w) h refl (least w.rows.epoch)) tt refl tt tt tt
 
 -- ---- a crash cuts a step behind its commit
 
@@ -749,7 +762,7 @@ cut_later w rows more = same_clients w (record (without_master w) { rows = rows 
 cut_holds : (w : WorldState) → IsConsistent w → (rows : Rows) → w.rows.epoch ≤ rows.epoch → Becomes (record (without_master w) { rows = rows })
 cut_holds w h rows more =
     let new : WorldState = record (without_master w) { rows = rows } in
-    all_consistent w new [] h (cut_later w rows more) (none_fresh w new refl) (same_members w new h refl more) tt refl tt tt
+    all_consistent w new [] h (cut_later w rows more) (none_fresh w new refl) (same_members w new h refl more) tt refl tt tt tt
 
 -- no master was up
 pub rows_only : (w : WorldState) (rows : Rows) → w.master ≡ None → record w { rows = rows } ≡ record (without_master w) { rows = rows }
@@ -826,8 +839,8 @@ swept_holds leads old new (Err fault) fits agrees made stored left none =
     subst IsConsistent (sym left.same) (fits sure)
 
 -- nothing was sent yet
-pub new_holds : (cell : List ℕ) (rows : Rows) (lease : ℕ) → lease ≤ longest_lease → IsConsistent (new_world cell rows lease)
-new_holds cell rows lease range = record {
+pub new_holds : (cell : List ℕ) (rows : Rows) (terms : MasterTerms) → terms.lease ≤ longest_lease → IsConsistent (new_world cell rows terms)
+new_holds cell rows terms range = record {
   clients = λ number member is. cc;
   holds = λ number member is. cc;
   named = λ at call is. none_sent at (requests.Call call) is;
@@ -838,6 +851,7 @@ new_holds cell rows lease range = record {
   master = tt;
   fits = tt;
   lease = range;
+  limits = tt;
   noted = tt;
   fair = tt;
   reached = λ client name. reached_at_start (view_at (map_of rows) name) (standing_in rows client) rows.epoch;

@@ -44,7 +44,8 @@ use Rattle.master_state.specs.Lookups.{missing_right, node_of_handle, new_handle
 use Rattle.master_parts.specs.Calls.{is_too_long, content_fault, node_fault, delay_fault, create_fault, write_fault, needing}
 use Rattle.cell_core.specs.Step.{admission_of_open, answering, admission_under, check_admission, handle_admission, admission_of}
 use Rattle.cell_core.specs.declared.effects.Effect.{Effect}
-use Rattle.cell_core.specs.Effect.{answered, refused, deleted, create_made, create_numbered, create_permitted, create_in, create_under, create_new, create_over, create_effect, create_under_sequencer, open_effect, generation_fits, is_last, put_at, acquire_by, try_by, release_by, change_at, change_on, effect_on, handle_effect, effect, new_node, acls_of, with_content, with_acls}
+use Rattle.cell_core.specs.Effect as effects
+use Rattle.cell_core.specs.Effect.{answered, refused, deleted, create_made, create_numbered, create_permitted, create_in, create_under, create_new, create_over, create_effect, create_under_sequencer, open_effect, generation_fits, is_last, put_at, acquire_by, try_by, release_by, change_at, change_on, effect_on, handle_effect, effect, new_node, acls_of, with_content, with_acls, new_node_fault, lock_fault, create_put, changes_to}
 
 -- a view is that of a node of the map, and a stat tells of one
 abbrev pub IsShown : Nodes → CallResult → Type 0
@@ -229,7 +230,8 @@ module _ (s : MasterState) where
   -- a node is made
 
   made_faithful : (opening : Open) (view : Node) (made : Result Handle Fault) → s.next_instance ≤ view.instance → IsFaithful s (create_made (name_space s) opening view made)
-  made_faithful opening view (Ok handle) new = (inl new, tt)
+  made_faithful opening view (Ok handle) new =
+      found_or (IsFaithful s) (λ (fault : Fault). refused fault) (new_node_fault (name_space s) view) (create_put (name_space s) opening view handle) (λ fault is. (tt, tt)) (inl new, tt)
   made_faithful opening view (Err fault) new = (tt, tt)
 
   module _ (client number : ℕ) (opening : Open) where
@@ -273,18 +275,21 @@ module _ (s : MasterState) where
 
   -- a node that stands
 
-  put_faithful : (handle : Handle) (present : ℕ) (wanted : Option ℕ) (view : Node) → IsRenewed s view → IsFaithful s (put_at (name_space s) handle present wanted view)
-  put_faithful handle present wanted view renewed =
-      either (IsFaithful s) (generation_fits wanted present) _ (refused (faults.WrongGeneration present)) (either (IsFaithful s) (is_last present) (refused faults.Exhausted) _ (tt, tt) (renewed, tt)) (tt, tt)
+  put_faithful : (handle : Handle) (present : ℕ) (wanted : Option ℕ) (room : Option Fault) (view : Node) → IsRenewed s view → IsFaithful s (put_at (name_space s) handle present wanted room view)
+  put_faithful handle present wanted room view renewed =
+      either (IsFaithful s) (generation_fits wanted present) _ (refused (faults.WrongGeneration present))
+      (either (IsFaithful s) (is_last present) (refused faults.Exhausted) _ (tt, tt) (found_or (IsFaithful s) (λ (fault : Fault). refused fault) room (changes_to (Put handle.name view) s.next_instance results.Done) (λ fault is. (tt, tt)) (renewed, tt))) (tt, tt)
 
-  acquired_faithful : (handle : Handle) (claim : Claim) (o : Result Acquired Fault) → IsFaithful s (acquire_by handle claim o)
-  acquired_faithful handle claim (Ok (asked.Held lock)) = (tt, tt)
-  acquired_faithful handle claim (Ok (asked.Waits lock)) = (tt, tt)
-  acquired_faithful handle claim (Err fault) = (tt, tt)
+  acquired_faithful : (handle : Handle) (claim : Claim) (room : Option Fault) (o : Result Acquired Fault) → IsFaithful s (acquire_by handle claim room o)
+  acquired_faithful handle claim (Some fault) (Ok given) = (tt, tt)
+  acquired_faithful handle claim None (Ok (asked.Held lock)) = (tt, tt)
+  acquired_faithful handle claim None (Ok (asked.Waits lock)) = (tt, tt)
+  acquired_faithful handle claim room (Err fault) = (tt, tt)
 
-  tried_faithful : (handle : Handle) (claim : Claim) (o : Result LockState Fault) → IsFaithful s (try_by handle claim o)
-  tried_faithful handle claim (Ok lock) = (tt, tt)
-  tried_faithful handle claim (Err fault) = (tt, tt)
+  tried_faithful : (handle : Handle) (claim : Claim) (room : Option Fault) (o : Result LockState Fault) → IsFaithful s (try_by handle claim room o)
+  tried_faithful handle claim (Some fault) (Ok lock) = (tt, tt)
+  tried_faithful handle claim None (Ok lock) = (tt, tt)
+  tried_faithful handle claim room (Err fault) = (tt, tt)
 
   released_faithful : (handle : Handle) (o : Result Turn Fault) → IsFaithful s (release_by handle o)
   released_faithful handle (Ok turn) = (tt, tt)
@@ -296,11 +301,11 @@ module _ (s : MasterState) where
   change_faithful handle (calls.Read bytes) view found = (tt, tt)
   change_faithful handle (calls.Stat bytes) view found = (tt, tt)
   change_faithful handle (calls.List bytes) view found = (tt, tt)
-  change_faithful handle (calls.Set bytes content generation) view found = put_faithful handle view.content_generation generation (with_content view content) (inr (handle.name, view, found, refl, one_more view.content_generation))
-  change_faithful handle (calls.SetAcl bytes acls generation) view found = put_faithful handle view.acl_generation generation (with_acls view acls) (inr (handle.name, view, found, refl, least view.content_generation))
+  change_faithful handle (calls.Set bytes content generation) view found = put_faithful handle view.content_generation generation (effects.content_fault (name_space s) view content) (with_content view content) (inr (handle.name, view, found, refl, one_more view.content_generation))
+  change_faithful handle (calls.SetAcl bytes acls generation) view found = put_faithful handle view.acl_generation generation None (with_acls view acls) (inr (handle.name, view, found, refl, least view.content_generation))
   change_faithful handle (calls.Delete bytes) view found = either (IsFaithful s) (has_children s.nodes handle.name || is_none (parent_of handle.name)) (refused faults.NotEmpty) (deleted (name_space s) handle) (tt, tt) (tt, tt)
-  change_faithful handle (calls.Acquire bytes mode) view found = acquired_faithful handle (claim_of handle mode) (acquired (lock_under (name_space s) handle) (claim_of handle mode))
-  change_faithful handle (calls.TryAcquire bytes mode) view found = tried_faithful handle (claim_of handle mode) (tried (lock_under (name_space s) handle) (claim_of handle mode) s.clock)
+  change_faithful handle (calls.Acquire bytes mode) view found = acquired_faithful handle (claim_of handle mode) (lock_fault (name_space s) handle.client) (acquired (lock_under (name_space s) handle) (claim_of handle mode))
+  change_faithful handle (calls.TryAcquire bytes mode) view found = tried_faithful handle (claim_of handle mode) (lock_fault (name_space s) handle.client) (tried (lock_under (name_space s) handle) (claim_of handle mode) s.clock)
   change_faithful handle (calls.Release bytes) view found = released_faithful handle (released (lock_under (name_space s) handle) (owner_of handle))
   change_faithful handle (calls.GetSequencer bytes) view found = (tt, tt)
   change_faithful handle (calls.SetSequencer bytes) view found = (tt, tt)

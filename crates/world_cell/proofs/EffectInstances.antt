@@ -1,7 +1,7 @@
--- The node that a call puts has the instance of one that's there, or the next that is given out.
-use Rattle.std.proofs.Common.{◌≡◌, ℕ, ◌+◌, ◌≤◌, List, [], Bool, true, false, cond, Option, Some, None, Result, Ok, Err, refl, ap, ◌∙◌, inl, inr, arith}
+-- The node that a call puts has the instance of the one that stands at its name, or the next that is given out.
+use Rattle.std.proofs.Common.{◌≡◌, ℕ, ◌+◌, ◌≤◌, List, [], Bool, true, false, cond, Option, Some, None, Result, Ok, Err, refl, ap, subst, ◌∙◌, inl, inr, arith}
 use Rattle.std.specs.Prelude.{◌⊎◌, ◌||◌, ◌==◌, is_none}
-use Rattle.std.specs.Option.{option_map_or}
+use Rattle.std.specs.Option.{option_map, option_map_or}
 use Rattle.std.specs.BTreeMap.{is_at}
 use Rattle.std.specs.Ordering.{nat_cmp}
 use Rattle.std.specs.Cmp.Lexicographic.{slice_cmp}
@@ -40,12 +40,14 @@ use Rattle.master_state.specs.State.{MasterState}
 use Rattle.master_state.specs.Lookups.{missing_right, node_of_handle, new_handle, sequencer_fault, lock_under, answer_on, is_of_cell, may}
 use Rattle.master_parts.specs.Calls.{create_fault}
 use Rattle.over_core.specs.Kept.{is_there}
+use Rattle.world_cell.specs.Locks.{instance_in}
+use Rattle.tags_cell.specs.declared.messages.outs.CallResult.TheVariants as results
 use Rattle.cell_core.specs.declared.effects.Effect.{Effect}
-use Rattle.cell_core.specs.Effect.{answered, refused, deleted, create_made, create_numbered, create_permitted, create_in, create_under, create_new, create_over, create_effect, create_under_sequencer, open_effect, generation_fits, is_last, put_at, acquire_by, try_by, release_by, change_at, change_on, effect_on, handle_effect, effect, new_node, acls_of, with_content, with_acls}
+use Rattle.cell_core.specs.Effect.{answered, refused, deleted, create_made, create_numbered, create_permitted, create_in, create_under, create_new, create_over, create_effect, create_under_sequencer, open_effect, generation_fits, is_last, put_at, acquire_by, try_by, release_by, change_at, change_on, effect_on, handle_effect, effect, new_node, acls_of, with_content, with_acls, new_node_fault, content_fault, lock_fault, create_put, changes_to}
 
 -- the instance of a node that is put
 abbrev pub IsGiven : MasterState → Mod → Type 0
-IsGiven s (Put name view) = (is_there s.nodes view.instance ≡ true) ⊎ (s.next_instance ≤ view.instance)
+IsGiven s (Put name view) = (instance_in s.nodes name ≡ Some view.instance) ⊎ (s.next_instance ≤ view.instance)
 IsGiven s (Gone name) = Unit {0}
 
 pub record GivesOut (s : MasterState) (change : Change) : Type 0 where
@@ -79,7 +81,7 @@ same_number n = grind (arith, nat_tests)
 -- ---- a create
 
 made_gives : (s : MasterState) (opening : Open) (view : Node) (made : Result Handle Fault) → s.next_instance ≤ view.instance → GivesBy s (create_made (name_space s) opening view made)
-made_gives s opening view (Ok handle) new = record { given = inr new; next = one_more s.next_instance }
+made_gives s opening view (Ok handle) new = found_or s (λ (fault : Fault). refused fault) (new_node_fault (name_space s) view) (create_put (name_space s) opening view handle) (λ fault is. tt) (record { given = inr new; next = one_more s.next_instance })
 made_gives s opening view (Err fault) new = tt
 
 module _ (s : MasterState) (client number : ℕ) (opening : Open) where
@@ -115,47 +117,58 @@ module _ (s : MasterState) (client number : ℕ) (opening : Open) where
 
 -- ---- a node that stands
 
--- the node that a handle shows is there
+-- the node that stands at a name is there
 node_there : (nodes : Nodes) (name : List ℕ) (view : Node) → get_node nodes name ≡ Some view → is_there nodes view.instance ≡ true
 node_there nodes name view found = any_found (is_at (slice_cmp nat_cmp name)) (λ (v : Node). v.instance == view.instance) nodes view found (same_number view.instance)
 
-shown_there : (nodes : Nodes) (name : List ℕ) (instance : ℕ) (o : Option Node) (view : Node) → get_node nodes name ≡ o → option_map_or (λ (v : Node). cond (v.instance == instance) (Some v) None) o None ≡ Some view → is_there nodes view.instance ≡ true
-shown_there nodes name instance None view found is = absurd cc
-shown_there nodes name instance (Some v) view found is =
-    (elim (v.instance == instance) as (λ b. ◌≡◌ {A = Option Node} (cond b (Some v) None) (Some view) → is_there nodes view.instance ≡ true) [
-      | true ↦ (λ k. let same : v ≡ view = cc in node_there nodes name view (found ∙ ap (λ x. Some x) same))
+pub named_there : (nodes : Nodes) (name : List ℕ) (n : ℕ) (o : Option Node) → get_node nodes name ≡ o → option_map (λ (view : Node). view.instance) o ≡ Some n → is_there nodes n ≡ true
+named_there nodes name n None found is = absurd cc
+named_there nodes name n (Some view) found is =
+    let same : view.instance ≡ n = cc in
+    let P : ℕ → Type 0 = λ i. is_there nodes i ≡ true in
+    subst P same (node_there nodes name view found)
+
+-- the node that a handle shows stands at its name
+shown_at : (nodes : Nodes) (name : List ℕ) (instance : ℕ) (o : Option Node) (view : Node) → get_node nodes name ≡ o → option_map_or (λ (v : Node). cond (v.instance == instance) (Some v) None) o None ≡ Some view → instance_in nodes name ≡ Some view.instance
+shown_at nodes name instance None view found is = absurd cc
+shown_at nodes name instance (Some v) view found is =
+    (elim (v.instance == instance) as (λ b. ◌≡◌ {A = Option Node} (cond b (Some v) None) (Some view) → instance_in nodes name ≡ Some view.instance) [
+      | true ↦ (λ k. let same : v ≡ view = cc in ap (λ (o : Option Node). option_map (λ (n : Node). n.instance) o) found ∙ ap (λ (n : Node). Some n.instance) same)
       | false ↦ (λ k. absurd cc)
     ]) is
 
-put_gives : (s : MasterState) (handle : Handle) (present : ℕ) (wanted : Option ℕ) (view : Node) → is_there s.nodes view.instance ≡ true → GivesBy s (put_at (name_space s) handle present wanted view)
-put_gives s handle present wanted view there =
-    either s (generation_fits wanted present) _ (refused (faults.WrongGeneration present)) (either s (is_last present) (refused faults.Exhausted) _ tt (record { given = inl there; next = itself s.next_instance })) tt
+put_gives : (s : MasterState) (handle : Handle) (present : ℕ) (wanted : Option ℕ) (room : Option Fault) (view : Node) → instance_in s.nodes handle.name ≡ Some view.instance → GivesBy s (put_at (name_space s) handle present wanted room view)
+put_gives s handle present wanted room view there =
+    either s (generation_fits wanted present) _ (refused (faults.WrongGeneration present))
+    (either s (is_last present) (refused faults.Exhausted) _ tt (found_or s (λ (fault : Fault). refused fault) room (changes_to (Put handle.name view) s.next_instance results.Done) (λ fault is. tt) (record { given = inl there; next = itself s.next_instance }))) tt
 
-acquired_gives : (s : MasterState) (handle : Handle) (claim : Claim) (o : Result Acquired Fault) → GivesBy s (acquire_by handle claim o)
-acquired_gives s handle claim (Ok (asked.Held lock)) = tt
-acquired_gives s handle claim (Ok (asked.Waits lock)) = tt
-acquired_gives s handle claim (Err fault) = tt
+acquired_gives : (s : MasterState) (handle : Handle) (claim : Claim) (room : Option Fault) (o : Result Acquired Fault) → GivesBy s (acquire_by handle claim room o)
+acquired_gives s handle claim (Some fault) (Ok given) = tt
+acquired_gives s handle claim None (Ok (asked.Held lock)) = tt
+acquired_gives s handle claim None (Ok (asked.Waits lock)) = tt
+acquired_gives s handle claim room (Err fault) = tt
 
-tried_gives : (s : MasterState) (handle : Handle) (claim : Claim) (o : Result LockState Fault) → GivesBy s (try_by handle claim o)
-tried_gives s handle claim (Ok lock) = tt
-tried_gives s handle claim (Err fault) = tt
+tried_gives : (s : MasterState) (handle : Handle) (claim : Claim) (room : Option Fault) (o : Result LockState Fault) → GivesBy s (try_by handle claim room o)
+tried_gives s handle claim (Some fault) (Ok lock) = tt
+tried_gives s handle claim None (Ok lock) = tt
+tried_gives s handle claim room (Err fault) = tt
 
 released_gives : (s : MasterState) (handle : Handle) (o : Result Turn Fault) → GivesBy s (release_by handle o)
 released_gives s handle (Ok turn) = tt
 released_gives s handle (Err fault) = tt
 
-change_gives : (s : MasterState) (handle : Handle) (call : Call) (view : Node) → is_there s.nodes view.instance ≡ true → GivesBy s (change_at (name_space s) s.clock handle call view)
+change_gives : (s : MasterState) (handle : Handle) (call : Call) (view : Node) → instance_in s.nodes handle.name ≡ Some view.instance → GivesBy s (change_at (name_space s) s.clock handle call view)
 change_gives s handle (calls.Open opening) view there = tt
 change_gives s handle (calls.Close bytes) view there = tt
 change_gives s handle (calls.Read bytes) view there = tt
 change_gives s handle (calls.Stat bytes) view there = tt
 change_gives s handle (calls.List bytes) view there = tt
-change_gives s handle (calls.Set bytes content generation) view there = put_gives s handle view.content_generation generation (with_content view content) there
-change_gives s handle (calls.SetAcl bytes acls generation) view there = put_gives s handle view.acl_generation generation (with_acls view acls) there
+change_gives s handle (calls.Set bytes content generation) view there = put_gives s handle view.content_generation generation (content_fault (name_space s) view content) (with_content view content) there
+change_gives s handle (calls.SetAcl bytes acls generation) view there = put_gives s handle view.acl_generation generation None (with_acls view acls) there
 change_gives s handle (calls.Delete bytes) view there =
     either s (has_children s.nodes handle.name || is_none (parent_of handle.name)) (refused faults.NotEmpty) (deleted (name_space s) handle) tt (record { given = tt; next = itself s.next_instance })
-change_gives s handle (calls.Acquire bytes mode) view there = acquired_gives s handle (claim_of handle mode) (acquired (lock_under (name_space s) handle) (claim_of handle mode))
-change_gives s handle (calls.TryAcquire bytes mode) view there = tried_gives s handle (claim_of handle mode) (tried (lock_under (name_space s) handle) (claim_of handle mode) s.clock)
+change_gives s handle (calls.Acquire bytes mode) view there = acquired_gives s handle (claim_of handle mode) (lock_fault (name_space s) handle.client) (acquired (lock_under (name_space s) handle) (claim_of handle mode))
+change_gives s handle (calls.TryAcquire bytes mode) view there = tried_gives s handle (claim_of handle mode) (lock_fault (name_space s) handle.client) (tried (lock_under (name_space s) handle) (claim_of handle mode) s.clock)
 change_gives s handle (calls.Release bytes) view there = released_gives s handle (released (lock_under (name_space s) handle) (owner_of handle))
 change_gives s handle (calls.GetSequencer bytes) view there = tt
 change_gives s handle (calls.SetSequencer bytes) view there = tt
@@ -165,7 +178,7 @@ change_gives s handle calls.Leave view there = tt
 first_gives : (s : MasterState) (handle : Handle) (call : Call) (o : Option CallResult) → GivesBy s (option_map_or (λ answer. answered answer) o (change_on (name_space s) s.clock handle call))
 first_gives s handle call o = found_or s (λ (answer : CallResult). answered answer) o (change_on (name_space s) s.clock handle call) (λ answer is. tt)
     (found_or s (λ view. change_at (name_space s) s.clock handle call view) (node_of_handle (name_space s) handle) (refused faults.StaleInstance)
-    (λ view is. change_gives s handle call view (shown_there s.nodes handle.name handle.instance (get_node s.nodes handle.name) view refl is)) tt)
+    (λ view is. change_gives s handle call view (shown_at s.nodes handle.name handle.instance (get_node s.nodes handle.name) view refl is)) tt)
 
 on_gives : (s : MasterState) (handle : Handle) (call : Call) (sequencer : Option (List ℕ)) → GivesBy s (effect_on (name_space s) s.clock handle call sequencer)
 on_gives s handle (calls.Close bytes) sequencer = tt

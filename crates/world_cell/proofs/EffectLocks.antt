@@ -35,10 +35,11 @@ use Rattle.master_state.specs.NameSpace.{name_space, caller}
 use Rattle.master_state.specs.State.{MasterState}
 use Rattle.master_state.specs.Lookups.{missing_right, node_of_handle, new_handle, sequencer_fault, lock_under, answer_on, is_of_cell, may}
 use Rattle.master_parts.specs.Calls.{create_fault}
+use Rattle.tags_cell.specs.declared.messages.outs.CallResult.TheVariants as results
 use Rattle.cell_core.specs.declared.effects.Effect.{Effect}
 use Rattle.cell_core.specs.declared.effects.Locking.{Locking}
 use Rattle.cell_core.specs.declared.effects.Locking.TheVariants.{Nothing, Takes, Waits, Leaves, Goes}
-use Rattle.cell_core.specs.Effect.{answered, refused, deleted, create_made, create_numbered, create_permitted, create_in, create_under, create_new, create_over, create_effect, create_under_sequencer, open_effect, generation_fits, is_last, put_at, acquire_by, try_by, release_by, close_by, close_under, change_at, change_on, effect_on, handle_effect, effect, new_node, acls_of, with_content, with_acls}
+use Rattle.cell_core.specs.Effect.{answered, refused, deleted, create_made, create_numbered, create_permitted, create_in, create_under, create_new, create_over, create_effect, create_under_sequencer, open_effect, generation_fits, is_last, put_at, acquire_by, try_by, release_by, close_by, close_under, change_at, change_on, effect_on, handle_effect, effect, new_node, acls_of, with_content, with_acls, new_node_fault, content_fault, lock_fault, create_put, changes_to}
 use Rattle.world_cell.proofs.LocksRise.{RisesTo, RisesBy, RisesIf, RisesWhere, rises_tried, rises_acquired, rises_released, rises_closed}
 
 abbrev pub IsGone : Mod → Type 0
@@ -71,7 +72,7 @@ found_or s f (Some x) y h k = h x
 -- ---- a create
 
 made_raises : (s : MasterState) (opening : Open) (view : Node) (made : Result Handle Fault) → Raises s (create_made (name_space s) opening view made)
-made_raises s opening view (Ok handle) = tt
+made_raises s opening view (Ok handle) = found_or s (λ (fault : Fault). refused fault) (new_node_fault (name_space s) view) (create_put (name_space s) opening view handle) (λ fault. tt) tt
 made_raises s opening view (Err fault) = tt
 
 module _ (s : MasterState) (client number : ℕ) (opening : Open) where
@@ -107,18 +108,21 @@ module _ (s : MasterState) (client number : ℕ) (opening : Open) where
 
 -- ---- a node that stands
 
-put_raises : (s : MasterState) (handle : Handle) (present : ℕ) (wanted : Option ℕ) (view : Node) → Raises s (put_at (name_space s) handle present wanted view)
-put_raises s handle present wanted view =
-    either s (generation_fits wanted present) _ (refused (faults.WrongGeneration present)) (either s (is_last present) (refused faults.Exhausted) _ tt tt) tt
+put_raises : (s : MasterState) (handle : Handle) (present : ℕ) (wanted : Option ℕ) (room : Option Fault) (view : Node) → Raises s (put_at (name_space s) handle present wanted room view)
+put_raises s handle present wanted room view =
+    either s (generation_fits wanted present) _ (refused (faults.WrongGeneration present))
+    (either s (is_last present) (refused faults.Exhausted) _ tt (found_or s (λ (fault : Fault). refused fault) room (changes_to (Put handle.name view) s.next_instance results.Done) (λ fault. tt) tt)) tt
 
-acquired_raises : (s : MasterState) (handle : Handle) (claim : Claim) (o : Result Acquired Fault) → RisesBy (lock_under (name_space s) handle) o → Raises s (acquire_by handle claim o)
-acquired_raises s handle claim (Ok (asked.Held lock)) h = h
-acquired_raises s handle claim (Ok (asked.Waits lock)) h = h
-acquired_raises s handle claim (Err fault) h = tt
+acquired_raises : (s : MasterState) (handle : Handle) (claim : Claim) (room : Option Fault) (o : Result Acquired Fault) → RisesBy (lock_under (name_space s) handle) o → Raises s (acquire_by handle claim room o)
+acquired_raises s handle claim (Some fault) (Ok given) h = tt
+acquired_raises s handle claim None (Ok (asked.Held lock)) h = h
+acquired_raises s handle claim None (Ok (asked.Waits lock)) h = h
+acquired_raises s handle claim room (Err fault) h = tt
 
-tried_raises : (s : MasterState) (handle : Handle) (claim : Claim) (o : Result LockState Fault) → tried (lock_under (name_space s) handle) claim s.clock ≡ o → Raises s (try_by handle claim o)
-tried_raises s handle claim (Ok lock) h = rises_tried (lock_under (name_space s) handle) lock claim s.clock h
-tried_raises s handle claim (Err fault) h = tt
+tried_raises : (s : MasterState) (handle : Handle) (claim : Claim) (room : Option Fault) (o : Result LockState Fault) → tried (lock_under (name_space s) handle) claim s.clock ≡ o → Raises s (try_by handle claim room o)
+tried_raises s handle claim (Some fault) (Ok lock) h = tt
+tried_raises s handle claim None (Ok lock) h = rises_tried (lock_under (name_space s) handle) lock claim s.clock h
+tried_raises s handle claim room (Err fault) h = tt
 
 released_raises : (s : MasterState) (handle : Handle) (o : Result Turn Fault) → RisesIf (lock_under (name_space s) handle) o → Raises s (release_by handle o)
 released_raises s handle (Ok turn) h = h
@@ -139,11 +143,11 @@ change_raises s handle (calls.Close bytes) view = tt
 change_raises s handle (calls.Read bytes) view = tt
 change_raises s handle (calls.Stat bytes) view = tt
 change_raises s handle (calls.List bytes) view = tt
-change_raises s handle (calls.Set bytes content generation) view = put_raises s handle view.content_generation generation (with_content view content)
-change_raises s handle (calls.SetAcl bytes acls generation) view = put_raises s handle view.acl_generation generation (with_acls view acls)
+change_raises s handle (calls.Set bytes content generation) view = put_raises s handle view.content_generation generation (content_fault (name_space s) view content) (with_content view content)
+change_raises s handle (calls.SetAcl bytes acls generation) view = put_raises s handle view.acl_generation generation None (with_acls view acls)
 change_raises s handle (calls.Delete bytes) view = either s (has_children s.nodes handle.name || is_none (parent_of handle.name)) (refused faults.NotEmpty) (deleted (name_space s) handle) tt tt
-change_raises s handle (calls.Acquire bytes mode) view = acquired_raises s handle (claim_of handle mode) (acquired (lock_under (name_space s) handle) (claim_of handle mode)) (rises_acquired (lock_under (name_space s) handle) (claim_of handle mode))
-change_raises s handle (calls.TryAcquire bytes mode) view = tried_raises s handle (claim_of handle mode) (tried (lock_under (name_space s) handle) (claim_of handle mode) s.clock) refl
+change_raises s handle (calls.Acquire bytes mode) view = acquired_raises s handle (claim_of handle mode) (lock_fault (name_space s) handle.client) (acquired (lock_under (name_space s) handle) (claim_of handle mode)) (rises_acquired (lock_under (name_space s) handle) (claim_of handle mode))
+change_raises s handle (calls.TryAcquire bytes mode) view = tried_raises s handle (claim_of handle mode) (lock_fault (name_space s) handle.client) (tried (lock_under (name_space s) handle) (claim_of handle mode) s.clock) refl
 change_raises s handle (calls.Release bytes) view = released_raises s handle (released (lock_under (name_space s) handle) (owner_of handle)) (rises_released (lock_under (name_space s) handle) (owner_of handle))
 change_raises s handle (calls.GetSequencer bytes) view = tt
 change_raises s handle (calls.SetSequencer bytes) view = tt

@@ -57,7 +57,7 @@ use Rattle.master_state.specs.State.{MasterState}
 use Rattle.master_state.specs.Lookups.{missing_right, node_of_handle, new_handle, sequencer_fault, lock_under, answer_on_node, answer_under, is_of_cell, may}
 use Rattle.master_parts.specs.Calls.{node_fault, delay_fault, create_fault, write_fault, needing, bytes_of}
 use Rattle.cell_core.specs.declared.effects.Effect.{Effect}
-use Rattle.cell_core.specs.Effect.{answered, refused, changes_to, deleted, create_made, create_numbered, create_permitted, create_in, create_under, create_new, create_over, create_effect, create_under_sequencer, open_effect, generation_fits, is_last, put_at, acquire_by, try_by, release_by, delete_at, change_at, change_on, effect_on, handle_effect, effect, new_node, acls_of, with_content, with_acls}
+use Rattle.cell_core.specs.Effect.{answered, refused, changes_to, deleted, create_made, create_numbered, create_permitted, create_in, create_under, create_new, create_over, create_effect, create_under_sequencer, open_effect, generation_fits, is_last, put_at, acquire_by, try_by, release_by, delete_at, change_at, change_on, effect_on, handle_effect, effect, new_node, acls_of, with_content, with_acls, new_node_fault, content_fault, lock_fault, create_put, unless}
 use Rattle.over_core.specs.Kept.{IsKept}
 use Rattle.world_cell.specs.Runs.{change_of}
 
@@ -222,7 +222,8 @@ module _ (cell : List ℕ) (rows : Rows) (s : MasterState) (k : IsKept cell rows
   -- a node is made
 
   made_fits : (opening : Open) (view : Node) (r : Result Handle Fault) → misfit s.nodes (Put opening.name view) ≡ None → Fits (create_made (name_space s) opening view r)
-  made_fits opening view (Ok handle) h = h
+  made_fits opening view (Ok handle) h =
+      by_option Fits (λ (fault : Fault). refused fault) (new_node_fault (name_space s) view) (create_put (name_space s) opening view handle) (λ fault is. tt) (λ none. h)
   made_fits opening view (Err fault) h = tt
 
   node_fits : (name parent : List ℕ) (above : Node) (node : NewNode) (life : Life) (acls : AclNames) → node_fault node ≡ None → get_node s.nodes name ≡ None → parent_of name ≡ Some parent → get_node s.nodes parent ≡ Some above → above.kind ≡ Directory → is_last s.next_instance ≡ false → misfit s.nodes (Put name (new_node s.next_instance node life acls)) ≡ None
@@ -280,24 +281,25 @@ module _ (cell : List ℕ) (rows : Rows) (s : MasterState) (k : IsKept cell rows
   again_fits name former view found limit present =
       put_fits s.nodes name view (stands name former found).parent limit (ap (λ (o : Option Node). present_misfit o view) found ∙ present)
 
-  put_at_fits : (handle : Handle) (present : ℕ) (wanted : Option ℕ) (view : Node) → (is_last present ≡ false → misfit s.nodes (Put handle.name view) ≡ None) → Fits (put_at (name_space s) handle present wanted view)
-  put_at_fits handle present wanted view h =
-      let put : Effect = changes_to (Put handle.name view) s.next_instance results.Done in
+  put_at_fits : (handle : Handle) (present : ℕ) (wanted : Option ℕ) (room : Option Fault) (view : Node) → (is_last present ≡ false → misfit s.nodes (Put handle.name view) ≡ None) → Fits (put_at (name_space s) handle present wanted room view)
+  put_at_fits handle present wanted room view h =
+      let changed : Effect = changes_to (Put handle.name view) s.next_instance results.Done in
+      let put : Effect = unless room changed in
       by_test Fits (generation_fits wanted present) (cond (is_last present) (refused faults.Exhausted) put) (refused (faults.WrongGeneration present))
-      (λ fits. by_test Fits (is_last present) (refused faults.Exhausted) put (λ last. tt) h) (λ other. tt)
+      (λ fits. by_test Fits (is_last present) (refused faults.Exhausted) put (λ last. tt) (λ more. by_option Fits (λ (fault : Fault). refused fault) room changed (λ fault is. tt) (λ none. h more))) (λ other. tt)
 
-  set_fits : (handle : Handle) (content : List ℕ) (generation : Option ℕ) (view : Node) → get_node s.nodes handle.name ≡ Some view → write_fault view.kind content ≡ None → Fits (put_at (name_space s) handle view.content_generation generation (with_content view content))
+  set_fits : (handle : Handle) (content : List ℕ) (generation : Option ℕ) (view : Node) → get_node s.nodes handle.name ≡ Some view → write_fault view.kind content ≡ None → Fits (put_at (name_space s) handle view.content_generation generation (content_fault (name_space s) view content) (with_content view content))
   set_fits handle content generation view found short =
       let t = stands handle.name view found in
-      put_at_fits handle view.content_generation generation (with_content view content)
+      put_at_fits handle view.content_generation generation (content_fault (name_space s) view content) (with_content view content)
       (λ room. again_fits handle.name view (with_content view content) found
       (limits_fit (with_content view content) (written_within view.kind content short) t.instance (next_not_above view.content_generation number_limit room) t.acl)
       (stays_itself view.instance view.kind))
 
-  set_acl_fits : (handle : Handle) (acls : AclNames) (generation : Option ℕ) (view : Node) → get_node s.nodes handle.name ≡ Some view → Fits (put_at (name_space s) handle view.acl_generation generation (with_acls view acls))
+  set_acl_fits : (handle : Handle) (acls : AclNames) (generation : Option ℕ) (view : Node) → get_node s.nodes handle.name ≡ Some view → Fits (put_at (name_space s) handle view.acl_generation generation None (with_acls view acls))
   set_acl_fits handle acls generation view found =
       let t = stands handle.name view found in
-      put_at_fits handle view.acl_generation generation (with_acls view acls)
+      put_at_fits handle view.acl_generation generation None (with_acls view acls)
       (λ room. again_fits handle.name view (with_acls view acls) found
       (limits_fit (with_acls view acls) t.content t.instance t.written (next_not_above view.acl_generation number_limit room))
       (stays_itself view.instance view.kind))
@@ -308,14 +310,16 @@ module _ (cell : List ℕ) (rows : Rows) (s : MasterState) (k : IsKept cell rows
 
   -- a lock changes nothing in the map
 
-  acquire_fits : (handle : Handle) (claim : Claim) (r : Result Acquired Fault) → Fits (acquire_by handle claim r)
-  acquire_fits handle claim (Ok (asked.Held lock)) = tt
-  acquire_fits handle claim (Ok (asked.Waits lock)) = tt
-  acquire_fits handle claim (Err fault) = tt
+  acquire_fits : (handle : Handle) (claim : Claim) (room : Option Fault) (r : Result Acquired Fault) → Fits (acquire_by handle claim room r)
+  acquire_fits handle claim (Some fault) (Ok given) = tt
+  acquire_fits handle claim None (Ok (asked.Held lock)) = tt
+  acquire_fits handle claim None (Ok (asked.Waits lock)) = tt
+  acquire_fits handle claim room (Err fault) = tt
 
-  try_fits : (handle : Handle) (claim : Claim) (r : Result LockState Fault) → Fits (try_by handle claim r)
-  try_fits handle claim (Ok lock) = tt
-  try_fits handle claim (Err fault) = tt
+  try_fits : (handle : Handle) (claim : Claim) (room : Option Fault) (r : Result LockState Fault) → Fits (try_by handle claim room r)
+  try_fits handle claim (Some fault) (Ok lock) = tt
+  try_fits handle claim None (Ok lock) = tt
+  try_fits handle claim room (Err fault) = tt
 
   release_fits : (handle : Handle) (r : Result Turn Fault) → Fits (release_by handle r)
   release_fits handle (Ok turn) = tt
@@ -331,8 +335,8 @@ module _ (cell : List ℕ) (rows : Rows) (s : MasterState) (k : IsKept cell rows
   change_fits handle (calls.Set bytes content generation) view found none = set_fits handle content generation view found (permitted handle rights.Write (write_fault view.kind content) none)
   change_fits handle (calls.SetAcl bytes acls generation) view found none = set_acl_fits handle acls generation view found
   change_fits handle (calls.Delete bytes) view found none = delete_fits handle view found
-  change_fits handle (calls.Acquire bytes mode) view found none = acquire_fits handle (claim_of handle mode) (acquired (lock_under (name_space s) handle) (claim_of handle mode))
-  change_fits handle (calls.TryAcquire bytes mode) view found none = try_fits handle (claim_of handle mode) (tried (lock_under (name_space s) handle) (claim_of handle mode) s.clock)
+  change_fits handle (calls.Acquire bytes mode) view found none = acquire_fits handle (claim_of handle mode) (lock_fault (name_space s) handle.client) (acquired (lock_under (name_space s) handle) (claim_of handle mode))
+  change_fits handle (calls.TryAcquire bytes mode) view found none = try_fits handle (claim_of handle mode) (lock_fault (name_space s) handle.client) (tried (lock_under (name_space s) handle) (claim_of handle mode) s.clock)
   change_fits handle (calls.Release bytes) view found none = release_fits handle (released (lock_under (name_space s) handle) (owner_of handle))
   change_fits handle _ view found none = tt
 

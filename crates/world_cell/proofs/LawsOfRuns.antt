@@ -19,6 +19,9 @@ use Rattle.world_cell.proofs.FitsByRuns.{run_fits}
 use Rattle.world_cell.proofs.SureRuns.{run_sure}
 use Rattle.world_cell.proofs.LocksByRuns.{run_legal, run_generations}
 use Rattle.world_cell.proofs.ToldByRuns.{run_shows}
+use Rattle.world_cell.proofs.LimitsByRuns.{run_stays}
+use Rattle.world_cell.proofs.HoldsByName.{run_rises}
+use Rattle.world_cell.proofs.TurnsByRuns.{run_turns}
 
 run_holds : (old : WorldView) (steps : List Step) (printed : List Line) (new : WorldView) → IsConsistent old.world → Run old steps printed new → HoldsOfRun old steps printed new
 run_holds old steps printed new h run =
@@ -28,6 +31,7 @@ run_holds old steps printed new h run =
       map = tells.is_map;
       fits = run_fits old steps printed new run h;
       epoch = tells.is_epoch;
+      turns = run_turns old steps new h;
       once = λ client some. run_once client old steps printed new run h some;
       calls = λ before rest client number change names is some. run_calls old steps printed new run h before rest client number change names is some;
       own = λ before rest number change names is. run_own old steps printed new run h before rest number change names is;
@@ -39,7 +43,9 @@ run_holds old steps printed new h run =
       clocks = run_fair old steps new h;
       locks = run_legal old steps printed new h run;
       generations = run_generations old steps new h;
+      fencing = run_rises old steps new h;
       told = run_shows old steps new h;
+      limits = run_stays old steps printed new h run;
     }
 
 pub runs_hold : (old : WorldView) → (IsUndoubted old → IsConsistent old.world) → HoldsOfRuns old

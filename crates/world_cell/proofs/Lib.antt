@@ -63,3 +63,7 @@ pub mod LocksByRuns
 pub mod TellsOn
 pub mod CarriedLines
 pub mod ToldByRuns
+pub mod RowClaims
+pub mod LimitsByRuns
+pub mod HoldsByName
+pub mod TurnsByRuns

@@ -38,7 +38,7 @@ use Rattle.master_parts.specs.Calls.{create_fault, bytes_of}
 use Rattle.cell_core.specs.declared.effects.Effect.{Effect}
 use Rattle.cell_core.specs.declared.effects.Locking.{Locking}
 use Rattle.cell_core.specs.declared.effects.Locking.TheVariants as lockings
-use Rattle.cell_core.specs.Effect.{answered, refused, changes_to, is_last, acls_of, new_node, create_made, create_numbered, create_permitted, create_in, create_under, create_new, create_over, create_effect, create_under_sequencer, open_effect, acquire_by, try_by, release_by, close_by, close_under, generation_fits, with_content, with_acls, put_at, deleted, change_at, change_on, effect_on, handle_effect, effect}
+use Rattle.cell_core.specs.Effect.{answered, refused, changes_to, is_last, acls_of, new_node, create_made, create_numbered, create_permitted, create_in, create_under, create_new, create_over, create_effect, create_under_sequencer, open_effect, acquire_by, try_by, release_by, close_by, close_under, generation_fits, with_content, with_acls, put_at, deleted, change_at, change_on, effect_on, handle_effect, effect, new_node_fault, content_fault, lock_fault, create_put, unless}
 use Rattle.world_cell.proofs.LockWaiters.{ComesFrom, released_comes, closed_comes}
 
 -- who gets a lock at once leaves the waiters; who waits comes behind them; and whoever is granted a lock or turned away where somebody leaves it was among them
@@ -66,7 +66,7 @@ module _ (s : MasterState) (client number : ℕ) where
   module _ (opening : Open) where
     made_by : (view : Node) (o : Result Handle Fault) → Moves (create_made (name_space s) opening view o)
     made_by view (Err fault) = tt
-    made_by view (Ok handle) = tt
+    made_by view (Ok handle) = found_or (λ (fault : Fault). refused fault) (new_node_fault (name_space s) view) (create_put (name_space s) opening view handle) (λ fault. tt) tt
 
     permitted : (view : Node) → Moves (create_permitted (name_space s) (caller s client) number opening view)
     permitted view =
@@ -108,30 +108,34 @@ module _ (s : MasterState) (client number : ℕ) where
       abbrev claim : Claim
       claim = claim_of handle mode
 
-      acquired_in : (exhausted free : Bool) → Moves (acquire_by handle claim (cond exhausted (Err faults.Exhausted) (cond free (Ok (asked.Held (held_by (lock_under (name_space s) handle) claim))) (Ok (asked.Waits (waited_by (lock_under (name_space s) handle) claim))))))
-      acquired_in true free = tt
-      acquired_in false true = refl
-      acquired_in false false = (claim, refl, own)
+      acquired_in : (room : Option Fault) (exhausted free : Bool) → Moves (acquire_by handle claim room (cond exhausted (Err faults.Exhausted) (cond free (Ok (asked.Held (held_by (lock_under (name_space s) handle) claim))) (Ok (asked.Waits (waited_by (lock_under (name_space s) handle) claim))))))
+      acquired_in room true free = tt
+      acquired_in (Some fault) false true = tt
+      acquired_in (Some fault) false false = tt
+      acquired_in None false true = refl
+      acquired_in None false false = (claim, refl, own)
 
-      acquired_as : (o : Option Hold) → Moves (acquire_by handle claim (acquired_by (lock_under (name_space s) handle) claim o))
-      acquired_as None = acquired_in (is_exhausted (lock_under (name_space s) handle)) (may_hold (lock_under (name_space s) handle) claim)
-      acquired_as (Some hold) = tt
+      acquired_as : (room : Option Fault) (o : Option Hold) → Moves (acquire_by handle claim room (acquired_by (lock_under (name_space s) handle) claim o))
+      acquired_as room None = acquired_in room (is_exhausted (lock_under (name_space s) handle)) (may_hold (lock_under (name_space s) handle) claim)
+      acquired_as room (Some hold) = tt
 
-      tried_in : (free : Bool) (other : LockMode) → Moves (try_by handle claim (cond free (Ok (held_by (lock_under (name_space s) handle) claim)) (Err (faults.Held other))))
-      tried_in true other = refl
-      tried_in false other = tt
+      tried_in : (room : Option Fault) (free : Bool) (other : LockMode) → Moves (try_by handle claim room (cond free (Ok (held_by (lock_under (name_space s) handle) claim)) (Err (faults.Held other))))
+      tried_in (Some fault) true other = tt
+      tried_in None true other = refl
+      tried_in room false other = tt
 
-      tried_as : (o : Option LockMode) → Moves (try_by handle claim (tried_beside (lock_under (name_space s) handle) claim o))
-      tried_as None = refl
-      tried_as (Some other) = tried_in (may_hold (lock_under (name_space s) handle) claim) other
+      tried_as : (room : Option Fault) (o : Option LockMode) → Moves (try_by handle claim room (tried_beside (lock_under (name_space s) handle) claim o))
+      tried_as (Some fault) None = tt
+      tried_as None None = refl
+      tried_as room (Some other) = tried_in room (may_hold (lock_under (name_space s) handle) claim) other
 
-      tried_now : (exhausted : Bool) → Moves (try_by handle claim (cond exhausted (Err faults.Exhausted) (tried_beside (lock_under (name_space s) handle) claim (rival_mode (mode_of (lock_under (name_space s) handle).holders) (lock_under (name_space s) handle).waiters))))
-      tried_now true = tt
-      tried_now false = tried_as (rival_mode (mode_of (lock_under (name_space s) handle).holders) (lock_under (name_space s) handle).waiters)
+      tried_now : (room : Option Fault) (exhausted : Bool) → Moves (try_by handle claim room (cond exhausted (Err faults.Exhausted) (tried_beside (lock_under (name_space s) handle) claim (rival_mode (mode_of (lock_under (name_space s) handle).holders) (lock_under (name_space s) handle).waiters))))
+      tried_now room true = tt
+      tried_now room false = tried_as room (rival_mode (mode_of (lock_under (name_space s) handle).holders) (lock_under (name_space s) handle).waiters)
 
-      tried_by_closing : (o : Option Closing) → Moves (try_by handle claim (tried_by (lock_under (name_space s) handle) claim s.clock o))
-      tried_by_closing None = tried_now (is_exhausted (lock_under (name_space s) handle))
-      tried_by_closing (Some closing) = tt
+      tried_by_closing : (room : Option Fault) (o : Option Closing) → Moves (try_by handle claim room (tried_by (lock_under (name_space s) handle) claim s.clock o))
+      tried_by_closing room None = tried_now room (is_exhausted (lock_under (name_space s) handle))
+      tried_by_closing room (Some closing) = tt
 
     released_by : (o : Result Turn Fault) → released (lock_under (name_space s) handle) (owner_of handle) ≡ o → Moves (release_by handle o)
     released_by (Ok turn) is = released_comes (lock_under (name_space s) handle) (owner_of handle) turn is
@@ -147,18 +151,19 @@ module _ (s : MasterState) (client number : ℕ) where
 
     -- ---- writes
 
-    put_moves : (present : ℕ) (wanted : Option ℕ) (view : Node) → Moves (put_at (name_space s) handle present wanted view)
-    put_moves present wanted view =
-        either (generation_fits wanted present) (cond (is_last present) (refused faults.Exhausted) (changes_to (Put handle.name view) s.next_instance results.Done)) (refused (faults.WrongGeneration present))
-        (either (is_last present) (refused faults.Exhausted) (changes_to (Put handle.name view) s.next_instance results.Done) tt tt) tt
+    put_moves : (present : ℕ) (wanted : Option ℕ) (room : Option Fault) (view : Node) → Moves (put_at (name_space s) handle present wanted room view)
+    put_moves present wanted room view =
+        let changed : Effect = changes_to (Put handle.name view) s.next_instance results.Done in
+        either (generation_fits wanted present) (cond (is_last present) (refused faults.Exhausted) (unless room changed)) (refused (faults.WrongGeneration present))
+        (either (is_last present) (refused faults.Exhausted) (unless room changed) tt (found_or (λ (fault : Fault). refused fault) room changed (λ fault. tt) tt)) tt
 
     change_moves : (call : Call) (view : Node) → Moves (change_at (name_space s) s.clock handle call view)
-    change_moves (calls.Set bytes content generation) view = put_moves view.content_generation generation (with_content view content)
-    change_moves (calls.SetAcl bytes acls generation) view = put_moves view.acl_generation generation (with_acls view acls)
+    change_moves (calls.Set bytes content generation) view = put_moves view.content_generation generation (content_fault (name_space s) view content) (with_content view content)
+    change_moves (calls.SetAcl bytes acls generation) view = put_moves view.acl_generation generation None (with_acls view acls)
     change_moves (calls.Delete bytes) view =
         either (has_children s.nodes handle.name || is_none (parent_of handle.name)) (refused faults.NotEmpty) (deleted (name_space s) handle) tt refl
-    change_moves (calls.Acquire bytes mode) view = acquired_as mode (hold_of (lock_under (name_space s) handle) (owner_of handle))
-    change_moves (calls.TryAcquire bytes mode) view = tried_by_closing mode (lock_under (name_space s) handle).closed
+    change_moves (calls.Acquire bytes mode) view = acquired_as mode (lock_fault (name_space s) handle.client) (hold_of (lock_under (name_space s) handle) (owner_of handle))
+    change_moves (calls.TryAcquire bytes mode) view = tried_by_closing mode (lock_fault (name_space s) handle.client) (lock_under (name_space s) handle).closed
     change_moves (calls.Release bytes) view = released_by (released (lock_under (name_space s) handle) (owner_of handle)) refl
     change_moves (calls.Open opening) view = tt
     change_moves (calls.Close bytes) view = tt

@@ -16,7 +16,7 @@ use Rattle.collections.proofs.OneKey.{lookup_put, lookup_put_apart}
 use Rattle.node_core.specs.declared.nodes.Node.{Node}
 use Rattle.node_core.specs.declared.views.Mod.{Mod}
 use Rattle.node_core.specs.declared.views.Mod.TheVariants.{Put, Gone}
-use Rattle.node_core.specs.Nodes.{Nodes, changed, with_parent}
+use Rattle.node_core.specs.Nodes.{Nodes, get_node, changed, with_parent}
 use Rattle.rows_cell.specs.declared.tables.Rows.{Rows}
 use Rattle.rows_cell.specs.declared.tables.Edit.TheVariants.{NextInstance, RemoveNode}
 use Rattle.rows_cell.specs.Rows.{stored_node, changed_rows}
@@ -47,7 +47,7 @@ use Rattle.world_cell.specs.Locks.{AreLegalRows, begins_in, CountsHolds}
 use Rattle.world_cell.proofs.LocksRise.{RisesTo, begins, rises_same, rises_reopened, rises_lapsed}
 use Rattle.world_cell.proofs.LockHolders.{begins_by_rows, legal_rows}
 use Rattle.world_cell.proofs.EffectLocks.{IsGone, Raises, effect_raises}
-use Rattle.world_cell.proofs.EffectInstances.{IsGiven, GivesBy, effect_gives}
+use Rattle.world_cell.proofs.EffectInstances.{IsGiven, GivesBy, named_there, effect_gives}
 use Rattle.world_cell.proofs.InstancesKept.{there_by_rows, was_given, has_left, generation_left, rows_left, begins_by, left_begin}
 use Rattle.lock_core.specs.declared.partings.Parting.{Parting}
 use Rattle.lock_core.specs.declared.partings.Parting.TheVariants as partings
@@ -192,12 +192,12 @@ put_known (e ∷ es) name view n h =
     third true b c d k f = inl refl
     third false b c d k f = f k
 
-given_now : (s : MasterState) (view : Node) (n : ℕ) → IsGiven s (Put [] view) → (is_there s.nodes n ≡ true) ⊎ ((view.instance == n) ≡ true) → (is_there s.nodes n ≡ true) ⊎ (s.next_instance ≤ n)
-given_now s view n given (inl there) = inl there
-given_now s view n (inl there) (inr is) =
+given_now : (s : MasterState) (name : List ℕ) (view : Node) (n : ℕ) → IsGiven s (Put name view) → (is_there s.nodes n ≡ true) ⊎ ((view.instance == n) ≡ true) → (is_there s.nodes n ≡ true) ⊎ (s.next_instance ≤ n)
+given_now s name view n given (inl there) = inl there
+given_now s name view n (inl at) (inr is) =
     let P : ℕ → Type 0 = λ i. is_there s.nodes i ≡ true in
-    inl (subst P (eqb-true view.instance n is) there)
-given_now s view n (inr new) (inr is) =
+    inl (subst P (eqb-true view.instance n is) (named_there s.nodes name view.instance (get_node s.nodes name) refl at))
+given_now s name view n (inr new) (inr is) =
     let P : ℕ → Type 0 = λ i. s.next_instance ≤ i in
     inr (subst P (eqb-true view.instance n is) new)
 
@@ -276,7 +276,7 @@ module _ (cell : List ℕ) (rows : Rows) (s t : MasterState) (k : IsKept cell ro
   changed_grows (Put name view) next given more nodes locks is l =
       moved_grows cell rows (changed_rows rows (edit_of (Put name view) ∷ NextInstance next ∷ [])) s t k l (record {
         locks = λ n. rises_same (lock_at s.locks n) (lock_at t.locks n) (ap (λ (ls : LockTable). (lock_at ls n).generation) locks) (ap (λ (ls : LockTable). (lock_at ls n).holders) locks);
-        nodes = λ n there. given_now s view n given (put_known s.nodes name view n (ap (λ (ns : Nodes). is_there ns n) (sym nodes) ∙ there));
+        nodes = λ n there. given_now s name view n given (put_known s.nodes name view n (ap (λ (ns : Nodes). is_there ns n) (sym nodes) ∙ there));
         next = let P : ℕ → Type 0 = λ m. s.next_instance ≤ m in subst P (sym is) more;
       })
 

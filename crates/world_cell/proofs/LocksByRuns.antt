@@ -1,13 +1,17 @@
 -- Why locks are legal behind each step, and why no two holds of a lock from free share a generation.
-use Rattle.std.proofs.Common.{◌≡◌, ℕ, ◌+◌, ◌<◌, ◌≤◌, List, [], ◌∷◌, Bool, true, false, Option, Some, Result, Ok, Err, refl, sym, ap, subst, ◌∙◌, inl, inr, arith}
-use Rattle.std.specs.Prelude.{◌⊎◌, if◌then◌else◌, IfOk, IfErr}
+use Rattle.std.proofs.Common.{◌≡◌, ℕ, ◌+◌, ◌<◌, ◌≤◌, List, [], ◌∷◌, Bool, true, false, Option, Some, None, Result, Ok, Err, refl, sym, ap, subst, ◌∙◌, inl, inr, ⊎_elim, arith}
+use Rattle.std.specs.Prelude.{◌⊎◌, is_some, if◌then◌else◌, IfOk, IfErr}
+use Rattle.std.specs.List.{list_all}
+use Rattle.std.proofs.lemmas.Bool.{and_parts}
 use Rattle.node_core.specs.declared.refusals.Fault.{Fault}
 use Rattle.node_core.specs.declared.lines.Line.{Line}
 use Rattle.node_core.specs.declared.lines.Line.TheVariants as lines
 use Rattle.rows_cell.specs.declared.tables.Rows.{Rows}
 use Rattle.rows_cell.specs.Rows.{StoredNodes, StoredLocks}
 use Rattle.rows_cell.specs.Indexes.{lock_generation_in, locks_at}
-use Rattle.rows_cell.specs.LockRows.{are_together}
+use Rattle.rows_cell.specs.LockRows.{row_fits, are_together}
+use Rattle.rows_cell.specs.Sound.{sound}
+use Rattle.rows_cell.proofs.SoundLocks.{sound_legal}
 use Rattle.rows_cell.proofs.SoundParts.{has_instance}
 use Rattle.lock_core.specs.Locks.{lock_at}
 use Rattle.master_state.specs.State.{MasterState}
@@ -24,7 +28,7 @@ use Rattle.world_steps.specs.Made.{Does, WasMade, WasRefused}
 use Rattle.world_cell.specs.Locks.{AreLegalRows, HasLegalLocks, begins_in, CountsHolds, LetsNoneFall, NoGenerationTwice}
 use Rattle.world_steps.proofs.AsRead.{made_sure, refused_sure, made_doubts, refused_doubts}
 use Rattle.world_cell.proofs.ClocksByRuns.{run_consistent}
-use Rattle.world_cell.proofs.ConsistentSteps.{agrees_at}
+use Rattle.world_cell.proofs.ConsistentSteps.{agrees_at, swept_epoch}
 use Rattle.world_cell.proofs.InstancesKept.{has_of, generation_of, same_begin}
 use Rattle.world_cell.proofs.LockHolders.{legal_rows}
 use Rattle.world_cell.proofs.LocksByCases.{noted_kept, Grows, case_grows}
@@ -162,6 +166,17 @@ run_goes old [] printed new h run = inl (stays old.world.rows new.world.rows (ap
 run_goes old (step ∷ steps) printed new h run =
     goes_on old.world.rows run.0.world.rows new.world.rows (weaker old.world.rows run.0.world.rows (step_goes old step run.0 run.1 h run.3)) (run_goes run.0 steps run.2 new (does_holds old step run.0 run.1 h run.3) run.4)
 
+-- from one point to a later one: no node came, went or changed, or each instance that is there was given out
+abbrev pub IsGivenOut : Rows → Rows → Type 0
+IsGivenOut here later = ((later.nodes ≡ here.nodes) × (later.next_instance ≡ here.next_instance)) ⊎ ((n : ℕ) → has_instance here.nodes n ≡ true → n < here.next_instance)
+
+by_going : (here later : Rows) → Goes LetsNoneFall here later → IsGivenOut here later
+by_going here later (inl s) = inl (s.nodes, s.next)
+by_going here later (inr g) = inr g.given
+
+pub given_out : (here : WorldView) (steps : List Step) (printed : List Line) (later : WorldView) → IsConsistent here.world → Run here steps printed later → IsGivenOut here.world.rows later.world.rows
+given_out here steps printed later h run = by_going here.world.rows later.world.rows (run_goes here steps printed later h run)
+
 same_some : (a b : ℕ) → ◌≡◌ {A = Option ℕ} (Some a) (Some b) → a ≡ b
 same_some a b h = cc
 
@@ -213,16 +228,64 @@ goes_legal : (Tells : Rows → Rows → Type 0) (old new : Rows) → Goes Tells 
 goes_legal Tells old new (inl s) legal n = ap (λ (ls : StoredLocks). are_together (locks_at ls n)) s.locks ∙ legal n
 goes_legal Tells old new (inr g) legal n = g.legal n
 
-legal_then : (Tells : Rows → Rows → Type 0) (old new : WorldState) → IsConsistent new → Goes Tells old.rows new.rows → HasLegalLocks old new
-legal_then Tells old new k goes = record {
+-- of sound rows
+sound_is_legal : (cell : List ℕ) (rows : Rows) → sound cell rows ≡ true → AreLegalRows rows
+sound_is_legal cell rows h n = (and_parts (list_all (row_fits rows n) (locks_at rows.locks n)) (are_together (locks_at rows.locks n)) (sound_legal cell rows n h)).1
+
+-- of a master that is up
+up_is_legal : (w : WorldState) → IsConsistent w → (m : Option MasterState) → w.master ≡ m → is_some m ≡ true → AreLegalRows w.rows
+up_is_legal w h None up some = absurd cc
+up_is_legal w h (Some s) up some = kept_legal w.cell w.rows s (agrees_at w w.master s up h.master)
+
+-- by a step that raises the epoch a master comes up, whose rows are sound
+abbrev IsRaised : WorldState → WorldState → Type 0
+IsRaised old new = (new.rows.epoch ≡ old.rows.epoch) ⊎ AreLegalRows old.rows
+
+same_epoch : (old new : WorldState) → new.rows ≡ old.rows → IsRaised old new
+same_epoch old new same = inl (ap (λ (r : Rows). r.epoch) same)
+
+case_raised : (old : WorldState) (step : Step) (new : WorldState) (printed : List Line) → WorldCase old step new printed → IsRaised old new
+case_raised old step new printed (ComesUp u) = inr (sound_is_legal old.cell old.rows u.are_sound)
+case_raised old step new printed (Joins j) = same_epoch old new (ap (λ (w : WorldState). w.rows) j.is)
+case_raised old step new printed (Asks a) = same_epoch old new (ap (λ (w : WorldState). w.rows) (asks_own old step new printed a).is)
+case_raised old step new printed (Beats b) = same_epoch old new (ap (λ (w : WorldState). w.rows) (beats_own old step new printed b).is)
+case_raised old step new printed (Gives g) = same_epoch old new (ap (λ (w : WorldState). w.rows) (gives_own old step new printed g).is)
+case_raised old step new printed (Ticks t) = same_epoch old new (ap (λ (w : WorldState). w.rows) t.is)
+case_raised old step new printed (Takes t) = same_epoch old new (ap (λ (w : WorldState). w.rows) t.is)
+case_raised old step new printed (Sweeps t) = inl (ap (λ (w : WorldState). w.rows.epoch) t.is ∙ swept_epoch old.rows (noted t.master old.clock) t.case)
+case_raised old step new printed (GoesDown d) = same_epoch old new (ap (λ (w : WorldState). w.rows) d.is)
+case_raised old step new printed (CutsSweep k) =
+    inl (ap (λ (w : WorldState). w.rows.epoch) k.is ∙ ap (λ (w : WorldState). w.rows.epoch) k.sweeps.is ∙ swept_epoch old.rows (noted k.sweeps.master old.clock) k.sweeps.case)
+case_raised old step new printed (CutsUp k) = inr (sound_is_legal old.cell old.rows k.comes.are_sound)
+case_raised old step new printed (LosesUp k) = same_epoch old new (ap (λ (w : WorldState). w.rows) k.is)
+
+step_raised : (old : WorldView) (step : Step) (new : WorldView) (printed : List Line) → IsConsistent old.world → Does old step new printed → IsRaised old.world new.world
+step_raised old step new printed h (inl m) = case_raised old.world step new.world printed (world_case old.world step new.world printed h.master m.is_step)
+step_raised old step new printed h (inr r) = same_epoch old.world new.world (ap (λ (w : WorldState). w.rows) r.left.same)
+
+still_more : (mid old new : ℕ) → mid ≡ old → old < new → mid < new
+still_more mid old new same more = omega (arith, same, more)
+
+run_raised : (old : WorldView) (steps : List Step) (printed : List Line) (new : WorldView) → IsConsistent old.world → Run old steps printed new → old.world.rows.epoch < new.world.rows.epoch → AreLegalRows new.world.rows
+run_raised old [] printed new h run more =
+    let same : new.world.rows.epoch ≡ old.world.rows.epoch = ap (λ (v : WorldView). v.world.rows.epoch) run.1 in
+    absurd (omega (arith, same, more))
+run_raised old (step ∷ steps) printed new h run more =
+    ⊎_elim (λ same. run_raised run.0 steps run.2 new (does_holds old step run.0 run.1 h run.3) run.4 (still_more run.0.world.rows.epoch old.world.rows.epoch new.world.rows.epoch same more))
+    (λ legal. goes_legal LetsNoneFall old.world.rows new.world.rows (run_goes old (step ∷ steps) printed new h run) legal)
+    (step_raised old step run.0 run.1 h run.3)
+
+legal_then : (Tells : Rows → Rows → Type 0) (old new : WorldState) → IsConsistent old → IsConsistent new → Goes Tells old.rows new.rows → (old.rows.epoch < new.rows.epoch → AreLegalRows new.rows) → HasLegalLocks old new
+legal_then Tells old new h k goes raised = record {
   master = λ s up n. ((agrees_at new new.master s up k.master).locks.each n).legal;
   stored = λ s up. kept_legal new.cell new.rows s (agrees_at new new.master s up k.master);
   same = λ s up. let kept = (agrees_at new new.master s up k.master).locks in (kept.generations, kept.rows_of_locks);
-  left = goes_legal Tells old.rows new.rows goes;
+  left = λ were. ⊎_elim (goes_legal Tells old.rows new.rows goes) (λ others. ⊎_elim (λ some. goes_legal Tells old.rows new.rows goes (up_is_legal old h old.master refl some)) raised others) were;
 }
 
 pub run_legal : (old : WorldView) (steps : List Step) (printed : List Line) (new : WorldView) → IsConsistent old.world → Run old steps printed new → HasLegalLocks old.world new.world
-run_legal old steps printed new h run = legal_then LetsNoneFall old.world new.world (run_consistent old steps printed new h run) (run_goes old steps printed new h run)
+run_legal old steps printed new h run =
+    legal_then LetsNoneFall old.world new.world h (run_consistent old steps printed new h run) (run_goes old steps printed new h run) (run_raised old steps printed new h run)
 
 -- ---- a step that may be refused
 
@@ -236,8 +299,27 @@ told_goes old new step (Err fault) fits made refused none =
     let sure : old.doubt ≡ 0 = omega arith in
     step_goes old step new (lines.Refused fault ∷ []) (fits sure) (inr (refused_sure old step new (lines.Refused fault ∷ []) refused none))
 
+told_sure : (old new : WorldView) (step : Step) (r : Result (List Line) Fault) → IfOk r (λ printed. WasMade old step new printed) → IfErr r (λ e. WasRefused old step new (lines.Refused e ∷ [])) → IsUndoubted new → old.doubt ≡ 0
+told_sure old new step (Ok printed) made refused none = let rises = made_doubts old step new printed made in omega arith
+told_sure old new step (Err fault) made refused none = let rises = refused_doubts old step new (lines.Refused fault ∷ []) refused in omega arith
+
+told_raised : (old new : WorldView) (step : Step) (r : Result (List Line) Fault) → (IsUndoubted old → IsConsistent old.world) → IfOk r (λ printed. WasMade old step new printed) → IfErr r (λ e. WasRefused old step new (lines.Refused e ∷ [])) → IsUndoubted new → IsRaised old.world new.world
+told_raised old new step (Ok printed) fits made refused none =
+    let sure : old.doubt ≡ 0 = told_sure old new step (Ok printed) made refused none in
+    step_raised old step new printed (fits sure) (inl (made_sure old step new printed made none))
+told_raised old new step (Err fault) fits made refused none =
+    let sure : old.doubt ≡ 0 = told_sure old new step (Err fault) made refused none in
+    step_raised old step new (lines.Refused fault ∷ []) (fits sure) (inr (refused_sure old step new (lines.Refused fault ∷ []) refused none))
+
 pub told_legal : (old new : WorldView) (step : Step) (r : Result (List Line) Fault) → (IsUndoubted old → IsConsistent old.world) → (IsUndoubted new → IsConsistent new.world) → IfOk r (λ printed. WasMade old step new printed) → IfErr r (λ e. WasRefused old step new (lines.Refused e ∷ [])) → IsUndoubted new → HasLegalLocks old.world new.world
-told_legal old new step r fits fits_then made refused none = legal_then CountsHolds old.world new.world (fits_then none) (told_goes old new step r fits made refused none)
+told_legal old new step r fits fits_then made refused none =
+    let sure : old.doubt ≡ 0 = told_sure old new step r made refused none in
+    legal_then CountsHolds old.world new.world (fits sure) (fits_then none) (told_goes old new step r fits made refused none)
+    (λ more. goes_legal CountsHolds old.world.rows new.world.rows (told_goes old new step r fits made refused none) (by_epoch (told_raised old new step r fits made refused none) more))
+  where
+    by_epoch : IsRaised old.world new.world → old.world.rows.epoch < new.world.rows.epoch → AreLegalRows old.world.rows
+    by_epoch (inl same) more = absurd (omega (arith, same, more))
+    by_epoch (inr legal) more = legal
 
 same_counts : (old new : Rows) → Goes CountsHolds old new → CountsHolds old new
 same_counts old new (inr g) n before behind was is = g.tells n before behind was is

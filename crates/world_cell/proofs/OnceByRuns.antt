@@ -20,7 +20,6 @@ use Rattle.node_core.specs.declared.refusals.Fault.{Fault}
 use Rattle.node_core.specs.declared.refusals.Fault.TheVariants as faults
 use Rattle.rights_core.specs.declared.grants.Grant.{Grant}
 use Rattle.rights_core.specs.declared.grants.Grant.TheVariants as grants
-use Rattle.rights_core.specs.declared.endings.Ending.TheVariants as endings
 use Rattle.rights_core.specs.Rights.{grant_answer, clients_to_ask, numbers_ending}
 use Rattle.tags_cell.specs.declared.messages.outs.Reply.{Reply}
 use Rattle.master_parts.specs.declared.handles.Note.{Note}
@@ -87,7 +86,7 @@ abbrev last_after : Option ℕ → List ℕ → Option ℕ
 last_after last [] = last
 last_after last (number ∷ numbers) = last_after (Some number) numbers
 
-abbrev IsFrom : Option ℕ → ℕ → Type 0
+abbrev pub IsFrom : Option ℕ → ℕ → Type 0
 IsFrom None number = Unit {0}
 IsFrom (Some last) number = last ≤ number
 
@@ -114,13 +113,13 @@ PastIn sent client None last = Unit {0}
 PastIn sent client (Some s) last = PastMaster sent client s last
 
 -- the client is there, and has made that many calls at least
-record HasMade (w : WorldState) (client calls : ℕ) : Type 0 where
-  member : WorldClient
-  there : member_of w client ≡ Some member
-  more : calls ≤ member.client.calls
+pub record HasMade (w : WorldState) (client calls : ℕ) : Type 0 where
+  pub member : WorldClient
+  pub there : member_of w client ≡ Some member
+  pub more : calls ≤ member.client.calls
 
 -- the client numbered that far
-abbrev IsCounted : WorldState → ℕ → Option ℕ → Type 0
+abbrev pub IsCounted : WorldState → ℕ → Option ℕ → Type 0
 IsCounted w client None = Unit {0}
 IsCounted w client (Some last) = HasMade w client last
 
@@ -131,7 +130,7 @@ record Past (w : WorldState) (client : ℕ) (last : Option ℕ) : Type 0 where
 
 -- ---- later on
 
-counted_later : (old new : WorldState) (client : ℕ) (last : Option ℕ) → Later old new → IsCounted old client last → IsCounted new client last
+pub counted_later : (old new : WorldState) (client : ℕ) (last : Option ℕ) → Later old new → IsCounted old client last → IsCounted new client last
 counted_later old new client None l h = tt
 counted_later old new client (Some last) l h =
     let y = l.clients client h.member h.there in
@@ -297,10 +296,10 @@ own_applied client change names some = ap (λ b. cond b (0 ∷ []) []) (not_zero
 -- ---- who waited for a lock
 
 -- a reply to one of the client's calls is to the last one, or to a later one
-abbrev AreFrom : ℕ → Option ℕ → List Reply → Type 0
+abbrev pub AreFrom : ℕ → Option ℕ → List Reply → Type 0
 AreFrom client last replies = AllByRecursion (λ reply. reply.client ≡ client → IsFrom last reply.number) replies
 
-from_both : (client : ℕ) (last : Option ℕ) (xs ys : List Reply) → AreFrom client last xs → AreFrom client last ys → AreFrom client last (xs ++ ys)
+pub from_both : (client : ℕ) (last : Option ℕ) (xs ys : List Reply) → AreFrom client last xs → AreFrom client last ys → AreFrom client last (xs ++ ys)
 from_both client last [] ys h k = k
 from_both client last (x ∷ xs) ys h k = (h.0, from_both client last xs ys h.1 k)
 
@@ -311,18 +310,18 @@ module _ (s : MasterState) (client : ℕ) (last : Option ℕ) (from : (kept : Ke
   one_from answer whose true (Some kept) is = ((λ own. from kept (ap (λ n. kept_of s n) (sym own) ∙ is)), tt)
   one_from answer whose false o is = tt
 
-  claims_from : (answer : CallResult) (claims : List Claim) → AreFrom client last (replies_to s answer claims)
+  pub claims_from : (answer : CallResult) (claims : List Claim) → AreFrom client last (replies_to s answer claims)
   claims_from answer [] = tt
   claims_from answer (claim ∷ claims) =
       let whose = claim.owner.client in
       from_both client last _ (replies_to s answer claims) (one_from answer whose (is_client_number whose) (kept_of s whose) refl) (claims_from answer claims)
 
-  turn_from : (turn : Turn) → AreFrom client last (turn_replies s turn)
+  pub turn_from : (turn : Turn) → AreFrom client last (turn_replies s turn)
   turn_from turn =
       from_both client last (replies_to s results.Done turn.granted) (replies_to s (results.Refused faults.Exhausted) turn.exhausted)
       (claims_from results.Done turn.granted) (claims_from (results.Refused faults.Exhausted) turn.exhausted)
 
-  lapses_from : (lapses : List Lapse) → AreFrom client last (lapses_replies s lapses)
+  pub lapses_from : (lapses : List Lapse) → AreFrom client last (lapses_replies s lapses)
   lapses_from [] = tt
   lapses_from (lapse ∷ lapses) = from_both client last (turn_replies s lapse.turn) (lapses_replies s lapses) (turn_from lapse.turn) (lapses_from lapses)
 
@@ -528,7 +527,7 @@ sent_above w h number client member call (Some l) found made counted of =
     omega arith
 
 -- and so is each call in what a client sends
-sending_above : (w : WorldState) → IsConsistent w → (number client : ℕ) (member : WorldClient) (new : ClientState) (sent : Option Request) (last : Option ℕ) → member_of w number ≡ Some member → Sends member.client new sent → IsCounted w client last → (n : ℕ) (call : CallMessage) → call_of (sending sent) client n ≡ Some call → IsAbove last n
+pub sending_above : (w : WorldState) → IsConsistent w → (number client : ℕ) (member : WorldClient) (new : ClientState) (sent : Option Request) (last : Option ℕ) → member_of w number ≡ Some member → Sends member.client new sent → IsCounted w client last → (n : ℕ) (call : CallMessage) → call_of (sending sent) client n ≡ Some call → IsAbove last n
 sending_above w h number client member new sent last found (Nothing e calls) counted n call is =
     let k : call_of [] client n ≡ Some call = subst (λ o. call_of (sending o) client n ≡ Some call) e is in cc
 sending_above w h number client member new sent last found (NoCall request e none calls) counted n call is =

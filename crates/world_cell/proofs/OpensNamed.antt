@@ -40,9 +40,11 @@ use Rattle.lock_core.specs.Locks.{sequencer_of}
 use Rattle.master_parts.specs.Claims.{owner_of, claim_of}
 use Rattle.master_state.specs.Lookups.{missing_right, node_of_handle, numbered_handle, new_handle, open_present, plain_open, opened_answer, list_answer, sequencer_fault, release_fault, lock_under, sequencer_result, answer_on_node, answer_under, answer_on, shown_handle, is_of_cell, may}
 use Rattle.master_parts.specs.Calls.{is_too_long, content_fault, node_fault, delay_fault, create_fault, write_fault, needing}
+use Rattle.node_core.specs.declared.views.Mod.TheVariants.{Put}
 use Rattle.cell_core.specs.Step.{admission_of_open, answering, admission_under, check_admission, handle_admission, admission_of}
 use Rattle.cell_core.specs.declared.effects.Effect.{Effect}
-use Rattle.cell_core.specs.Effect.{answered, refused, create_made, create_numbered, create_permitted, create_in, create_under, create_new, create_over, create_effect, create_under_sequencer, open_effect, acquire_by, try_by, release_by, generation_fits, is_last, put_at, change_at, change_on, effect_on, handle_effect, effect, new_node, acls_of, with_content, with_acls}
+use Rattle.cell_core.specs.Effect as effects
+use Rattle.cell_core.specs.Effect.{answered, refused, create_made, create_numbered, create_permitted, create_in, create_under, create_new, create_over, create_effect, create_under_sequencer, open_effect, acquire_by, try_by, release_by, generation_fits, is_last, put_at, change_at, change_on, effect_on, handle_effect, effect, new_node, acls_of, with_content, with_acls, new_node_fault, lock_fault, create_put, changes_to}
 use Rattle.world_cell.specs.Consistent.{OpensAs}
 
 -- a first answer, if there is one
@@ -207,7 +209,8 @@ abbrev EffectOpens : Call → Effect → Type 0
 EffectOpens call effected = OpensIf call effected.answer
 
 made_opens : (s : MasterState) (opening : Open) (view : Node) (made : Result Handle Fault) → IsOfOpen opening made → EffectOpens (calls.Open opening) (create_made (name_space s) opening view made)
-made_opens s opening view (Ok handle) h = opened_opens s opening (Ok handle) h
+made_opens s opening view (Ok handle) h =
+    found_or (EffectOpens (calls.Open opening)) (λ (fault : Fault). refused fault) (new_node_fault (name_space s) view) (create_put (name_space s) opening view handle) (λ fault. tt) (opened_opens s opening (Ok handle) h)
 made_opens s opening view (Err fault) h = tt
 
 module _ (s : MasterState) (client number : ℕ) (opening : Open) where
@@ -247,18 +250,21 @@ module _ (s : MasterState) (client number : ℕ) (opening : Open) where
   open_effect_opens sequencer (Some create) =
       either (EffectOpens (calls.Open opening)) (is_of_cell (name_space s) opening.name) _ (refused faults.OtherCell) (create_under_opens create (sequencer_fault (name_space s) sequencer)) tt
 
-put_opens : (s : MasterState) (call : Call) (handle : Handle) (present : ℕ) (wanted : Option ℕ) (view : Node) → EffectOpens call (put_at (name_space s) handle present wanted view)
-put_opens s call handle present wanted view =
-    either (EffectOpens call) (generation_fits wanted present) _ (refused (faults.WrongGeneration present)) (either (EffectOpens call) (is_last present) (refused faults.Exhausted) _ tt tt) tt
+put_opens : (s : MasterState) (call : Call) (handle : Handle) (present : ℕ) (wanted : Option ℕ) (room : Option Fault) (view : Node) → EffectOpens call (put_at (name_space s) handle present wanted room view)
+put_opens s call handle present wanted room view =
+    either (EffectOpens call) (generation_fits wanted present) _ (refused (faults.WrongGeneration present))
+    (either (EffectOpens call) (is_last present) (refused faults.Exhausted) _ tt (found_or (EffectOpens call) (λ (fault : Fault). refused fault) room (changes_to (Put handle.name view) s.next_instance results.Done) (λ fault. tt) tt)) tt
 
-acquired_opens : (call : Call) (handle : Handle) (claim : Claim) (asked_so : Result Acquired Fault) → EffectOpens call (acquire_by handle claim asked_so)
-acquired_opens call handle claim (Ok (asked.Held lock)) = tt
-acquired_opens call handle claim (Ok (asked.Waits lock)) = tt
-acquired_opens call handle claim (Err fault) = tt
+acquired_opens : (call : Call) (handle : Handle) (claim : Claim) (room : Option Fault) (asked_so : Result Acquired Fault) → EffectOpens call (acquire_by handle claim room asked_so)
+acquired_opens call handle claim (Some fault) (Ok given) = tt
+acquired_opens call handle claim None (Ok (asked.Held lock)) = tt
+acquired_opens call handle claim None (Ok (asked.Waits lock)) = tt
+acquired_opens call handle claim room (Err fault) = tt
 
-tried_opens : (call : Call) (handle : Handle) (claim : Claim) (tried_so : Result LockState Fault) → EffectOpens call (try_by handle claim tried_so)
-tried_opens call handle claim (Ok lock) = tt
-tried_opens call handle claim (Err fault) = tt
+tried_opens : (call : Call) (handle : Handle) (claim : Claim) (room : Option Fault) (tried_so : Result LockState Fault) → EffectOpens call (try_by handle claim room tried_so)
+tried_opens call handle claim (Some fault) (Ok lock) = tt
+tried_opens call handle claim None (Ok lock) = tt
+tried_opens call handle claim room (Err fault) = tt
 
 released_opens : (call : Call) (handle : Handle) (left : Result Turn Fault) → EffectOpens call (release_by handle left)
 released_opens call handle (Ok turn) = tt
@@ -270,11 +276,11 @@ change_opens s handle (calls.Close bytes) view = tt
 change_opens s handle (calls.Read bytes) view = tt
 change_opens s handle (calls.Stat bytes) view = tt
 change_opens s handle (calls.List bytes) view = tt
-change_opens s handle (calls.Set bytes content generation) view = put_opens s (calls.Set bytes content generation) handle view.content_generation generation (with_content view content)
-change_opens s handle (calls.SetAcl bytes acls generation) view = put_opens s (calls.SetAcl bytes acls generation) handle view.acl_generation generation (with_acls view acls)
+change_opens s handle (calls.Set bytes content generation) view = put_opens s (calls.Set bytes content generation) handle view.content_generation generation (effects.content_fault (name_space s) view content) (with_content view content)
+change_opens s handle (calls.SetAcl bytes acls generation) view = put_opens s (calls.SetAcl bytes acls generation) handle view.acl_generation generation None (with_acls view acls)
 change_opens s handle (calls.Delete bytes) view = either (EffectOpens (calls.Delete bytes)) (has_children s.nodes handle.name || is_none (parent_of handle.name)) (refused faults.NotEmpty) _ tt tt
-change_opens s handle (calls.Acquire bytes mode) view = acquired_opens (calls.Acquire bytes mode) handle (claim_of handle mode) (acquired (lock_under (name_space s) handle) (claim_of handle mode))
-change_opens s handle (calls.TryAcquire bytes mode) view = tried_opens (calls.TryAcquire bytes mode) handle (claim_of handle mode) (tried (lock_under (name_space s) handle) (claim_of handle mode) s.clock)
+change_opens s handle (calls.Acquire bytes mode) view = acquired_opens (calls.Acquire bytes mode) handle (claim_of handle mode) (lock_fault (name_space s) handle.client) (acquired (lock_under (name_space s) handle) (claim_of handle mode))
+change_opens s handle (calls.TryAcquire bytes mode) view = tried_opens (calls.TryAcquire bytes mode) handle (claim_of handle mode) (lock_fault (name_space s) handle.client) (tried (lock_under (name_space s) handle) (claim_of handle mode) s.clock)
 change_opens s handle (calls.Release bytes) view = released_opens (calls.Release bytes) handle (released (lock_under (name_space s) handle) (owner_of handle))
 change_opens s handle (calls.GetSequencer bytes) view = tt
 change_opens s handle (calls.SetSequencer bytes) view = tt

@@ -11,7 +11,6 @@ use Rattle.rows_cell.specs.declared.tables.Edit.TheVariants.{NextInstance, PutSe
 use Rattle.rows_cell.specs.LockRows.{LockChange, locks_edits}
 use Rattle.rows_cell.specs.Rows.{changed_rows, map_of}
 use Rattle.rows_cell.proofs.RowNodes.{nodes_put, nodes_gone}
-use Rattle.rights_core.specs.declared.endings.Ending.TheVariants as endings
 use Rattle.rights_core.specs.Rights.{numbers_ending}
 use Rattle.lock_core.specs.Turns.{reopened}
 use Rattle.lock_core.specs.Locks.{lock_at}

@@ -22,7 +22,6 @@ use Rattle.tags_cell.specs.declared.messages.outs.Reply.{Reply}
 use Rattle.tags_cell.specs.declared.messages.beats.Alive.{Alive}
 use Rattle.tags_cell.specs.declared.messages.beats.NumberedEvent.{NumberedEvent}
 use Rattle.tags_cell.specs.Messages.{request_number, out_client}
-use Rattle.rights_core.specs.declared.endings.Ending.TheVariants as endings
 use Rattle.rights_core.specs.declared.grants.Grant.{Grant}
 use Rattle.rights_core.specs.declared.grants.Grant.TheVariants as grants
 use Rattle.rights_core.specs.Rights.{grant_answer, numbers_ending}
@@ -73,7 +72,7 @@ use Rattle.world_cell.proofs.WorldCases.{WorldCase, world_case}
 use Rattle.world_cell.proofs.WorldCases.WorldCase.{ComesUp, Joins, Asks, Beats, Gives, Ticks, Takes, Sweeps, GoesDown, CutsSweep, CutsUp, LosesUp}
 use Rattle.lock_core.specs.declared.partings.Parting.{Parting}
 use Rattle.lock_core.specs.declared.partings.Parting.TheVariants as partings
-use Rattle.master_state.specs.Partings.{right_line, lock_line, ending_by}
+use Rattle.master_state.specs.Partings.{right_line, ending_by}
 
 -- ---- lines, one by one
 

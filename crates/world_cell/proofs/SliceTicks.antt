@@ -114,7 +114,7 @@ not_live principal false now h k = cc
 abbrev pub behind_up : WorldState → ℕ → WorldState
 behind_up w now = record w {
   rows = changed_rows w.rows (up_edits w.rows);
-  master = Some (of_state.master_of (changed_rows w.rows (up_edits w.rows)) w.lease now);
+  master = Some (of_state.master_of (changed_rows w.rows (up_edits w.rows)) w.terms now);
   clock = now;
   clients = each_member (λ number. at_up now) w.clients;
 }
@@ -144,7 +144,7 @@ module _ (c : ℕ) (x : List ℕ) (w : WorldState) (now : ℕ) where
     present = view_at (map_of w.rows) x;
     session = standing_of row;
     epoch = w.rows.epoch + 1;
-    lease = w.lease;
+    lease = w.terms.lease;
     recovering = recovering;
     seen = seen_of found;
     starts = [];
@@ -157,13 +157,13 @@ module _ (c : ℕ) (x : List ℕ) (w : WorldState) (now : ℕ) where
   })
 
   abbrev comes_up : Option of_rows.Session → Bool → Event Shown
-  comes_up row recovering = ComeUp now w.lease (seen_of (option_map known_of row)).timeout recovering
+  comes_up row recovering = ComeUp now w.terms.lease (seen_of (option_map known_of row)).timeout recovering
 
   -- a session that the master found is known by no Beat
   abbrev up_found : Option of_rows.Session → Bool → Option WorldClient → Slice Shown
   up_found row recovering member = up_slice row recovering (option_map known_of row) (option_map (at_up now) member) (heard_from recovering (seen_of (option_map known_of row)))
 
-  comes_up_by : (row : Option of_rows.Session) (recovering : Bool) (member : Option WorldClient) → w.lease ≤ longest_lease → (standing_of row ≡ one.Live → recovering ≡ true) → Leads (down_slice row member) (comes_up row recovering ∷ []) (up_found row recovering member)
+  comes_up_by : (row : Option of_rows.Session) (recovering : Bool) (member : Option WorldClient) → w.terms.lease ≤ longest_lease → (standing_of row ≡ one.Live → recovering ≡ true) → Leads (down_slice row member) (comes_up row recovering ∷ []) (up_found row recovering member)
   comes_up_by None recovering None short recovers = record { allowed = record { first = record { down = refl; lease = short; recovers = recovers; timeout = λ k. absurd (cc) }; rest = tt }; leads_there = refl }
   comes_up_by None recovering (Some member) short recovers = record { allowed = record { first = record { down = refl; lease = short; recovers = recovers; timeout = λ k. absurd (cc) }; rest = tt }; leads_there = refl }
   comes_up_by (Some row) recovering None short recovers = record {
@@ -176,7 +176,7 @@ module _ (c : ℕ) (x : List ℕ) (w : WorldState) (now : ℕ) where
   }
 
   abbrev new_master : MasterState
-  new_master = of_state.master_of (changed_rows w.rows (up_edits w.rows)) w.lease now
+  new_master = of_state.master_of (changed_rows w.rows (up_edits w.rows)) w.terms now
 
   found_known : session_of new_master c ≡ option_map known_of row_here
   found_known = lookup_rows known_of (is_at (nat_cmp c)) w.rows.sessions
@@ -194,14 +194,14 @@ module _ (c : ℕ) (x : List ℕ) (w : WorldState) (now : ℕ) where
       (sym (lookup_each c (λ number. at_up now) w.clients)))
       led
 
-  pub up_leads : w.master ≡ None → w.lease ≤ longest_lease → LeadsTo c x w (behind_up w now)
+  pub up_leads : w.master ≡ None → w.terms.lease ≤ longest_lease → LeadsTo c x w (behind_up w now)
   up_leads down short = (
     comes_up row_here new_master.recovering ∷ [],
     subst (λ (m : Option MasterState). Leads (slice c x (record w { master = m })) (comes_up row_here new_master.recovering ∷ []) (slice c x (behind_up w now))) (sym down)
         (up_events (comes_up_by row_here new_master.recovering (member_of w c) short (live_recovers row_here refl))),
   )
 
-  pub reached_stays_at_up : w.master ≡ None → w.lease ≤ longest_lease → Reached (slice c x w) → Reached (slice c x (behind_up w now))
+  pub reached_stays_at_up : w.master ≡ None → w.terms.lease ≤ longest_lease → Reached (slice c x w) → Reached (slice c x (behind_up w now))
   reached_stays_at_up down short reached = reached_stays c x w (behind_up w now) (up_leads down short) reached
 
 -- ---- the master goes down

@@ -1,22 +1,20 @@
 -- A step leads from a consistent world to a consistent one: by the table and the types of what it works on alone, whoever does it.
-use Rattle.std.proofs.Common.{◌≡◌, ℕ, ◌+◌, List, [], ◌∷◌, ◌++◌, Bool, true, false, Result, Ok, Err, Option, Some, None, refl, sym, ap, ◌∙◌, inl, inr, arith, subst, map}
+use Rattle.std.proofs.Common.{◌≡◌, ℕ, List, [], ◌++◌, true, false, Result, Ok, Err, Option, Some, None, refl, sym, ap, ◌∙◌, inl, inr, arith, subst, map}
 use Rattle.std.proofs.lemmas.Bool.Decides.{nat_tests}
 use Rattle.std.specs.Prelude.{◌⊎◌, ◌-◌, ◌^◌, nat_lt}
 use Rattle.std.specs.Option.{option_map_or}
 use Rattle.node_core.specs.declared.refusals.Fault.{Fault}
 use Rattle.node_core.specs.declared.refusals.Fault.TheVariants as faults
 use Rattle.node_core.specs.declared.lines.Line.{Line}
-use Rattle.node_core.specs.declared.lines.Line.TheVariants as lines
 use Rattle.rows_cell.specs.declared.tables.Rows.{Rows}
 use Rattle.rows_cell.specs.Rows.{changed_rows}
-use Rattle.rows_cell.specs.Sound.{sound}
 use Rattle.rows_cell.specs.Stores.{Store}
 use Rattle.rows_cell.proofs.SoundChanges.{epoch_sound}
 use Rattle.tags_cell.specs.Numbers.{is_client_number}
 use Rattle.tags_cell.specs.declared.messages.requests.Request.{Request}
 use Rattle.tags_cell.specs.Messages.{request_client}
 use Rattle.master_parts.specs.declared.pending.Taken.{Taken}
-use Rattle.master_state.specs.State.{MasterState, master_of}
+use Rattle.master_state.specs.State.{MasterState}
 use Rattle.cell_core.specs.Step.{take_step}
 use Rattle.cell_core.specs.Effect.{is_last}
 use Rattle.over_core.specs.declared.swept.Swept.{Swept}
@@ -36,7 +34,7 @@ use Rattle.world_cell.specs.Consistent.{IsConsistent}
 use Rattle.world_cell.proofs.WorldCases.{ok_pair, step_takes, step_sweeps, step_beats, IsUp, WorldCase, world_case}
 use Rattle.world_cell.proofs.WorldCases.WorldCase.{ComesUp, Joins, Asks, Beats, Gives, Ticks, Takes, Sweeps, GoesDown, CutsSweep, CutsUp, LosesUp}
 use Rattle.world_cell.proofs.OwnSteps.{IsOwn, asks_own, beats_own, gives_own}
-use Rattle.world_cell.proofs.ConsistentSteps.{agrees_at, step_keeps}
+use Rattle.world_cell.proofs.ConsistentSteps.{step_keeps}
 use Rattle.world_cell.proofs.Reaches.{leads_on}
 
 -- ---- a master that stays as it is, over the same rows
@@ -64,7 +62,7 @@ up_agrees : (old : WorldState) (now : ℕ) (new : WorldState) (printed : List Li
 up_agrees old now new printed order u =
     let rows : Rows = changed_rows old.rows (up_edits old.rows) in
     subst (λ (w : WorldState). Agrees w w.master) (sym u.is)
-    (up_kept old.cell rows old.lease u.now (epoch_sound old.cell old.rows u.are_sound (not_last old.rows.epoch u.more)) order.sessions order.locks order.names)
+    (up_kept old.cell rows old.terms u.now (epoch_sound old.cell old.rows u.are_sound (not_last old.rows.epoch u.more)) order.sessions order.locks order.names)
 
 -- ---- a master takes a message
 

@@ -26,7 +26,7 @@ use Rattle.cell_core.specs.Step.{take_step, is_past_end}
 use Rattle.master_state.specs.Lookups.{is_spent, noted}
 use Rattle.cell_core.specs.Effect.{is_last}
 use Rattle.over_core.specs.Plans.{first_action}
-use Rattle.over_core.specs.Sweep.{acted, telling, is_over, sweep_step, sweep_edits, beats_action, beats_step}
+use Rattle.over_core.specs.Sweep.{acted, telling, sweep_step, sweep_edits, beats_action, beats_step}
 use Rattle.cell_core.specs.Cases.{TakeCase, taken_by}
 use Rattle.over_core.specs.SweepCase.{SweepCase, swept_by, swept_edits}
 use Rattle.cell_core.proofs.TakeCases.{taken_case, taken_unspent}
@@ -63,7 +63,7 @@ pub record IsUp (old : WorldState) (step : Step) (new : WorldState) (printed : L
   pub more : is_last old.rows.epoch ≡ false
   pub is : new ≡ record old {
     rows = changed_rows old.rows (up_edits old.rows);
-    master = Some (master_of (changed_rows old.rows (up_edits old.rows)) old.lease now);
+    master = Some (master_of (changed_rows old.rows (up_edits old.rows)) old.terms now);
     clock = now;
     clients = each_member (λ number. at_up now) old.clients;
   }
@@ -241,12 +241,12 @@ step_beats w = refl
 module _ (w : WorldState) (step : Step) (new : WorldState) (printed : List Line) where
   -- ---- a master comes up
 
-  came_case : (now : ℕ) (late damaged last : Bool) → step ≡ steps.Up now → w.master ≡ None → is_past_end now ≡ late → not (sound w.cell w.rows) ≡ damaged → is_last w.rows.epoch ≡ last → came_up w now (cond late (Err faults.Exhausted) (master_by w.lease now (cond damaged (Err faults.StoreDamaged) (cond last (Err faults.Exhausted) (Ok (changed_rows w.rows (up_edits w.rows))))))) ≡ Ok (new, printed) → IsUp w step new printed
+  came_case : (now : ℕ) (late damaged last : Bool) → step ≡ steps.Up now → w.master ≡ None → is_past_end now ≡ late → not (sound w.cell w.rows) ≡ damaged → is_last w.rows.epoch ≡ last → came_up w now (cond late (Err faults.Exhausted) (master_by w.terms now (cond damaged (Err faults.StoreDamaged) (cond last (Err faults.Exhausted) (Ok (changed_rows w.rows (up_edits w.rows))))))) ≡ Ok (new, printed) → IsUp w step new printed
   came_case now true damaged last at none is_late is_damaged is_end h = cc
   came_case now false true last at none is_late is_damaged is_end h = cc
   came_case now false false true at none is_late is_damaged is_end h = cc
   came_case now false false false at none is_late is_damaged is_end h =
-      let master : MasterState = master_of (changed_rows w.rows (up_edits w.rows)) w.lease now in
+      let master : MasterState = master_of (changed_rows w.rows (up_edits w.rows)) w.terms now in
       let p = ok_pair (record w { rows = changed_rows w.rows (up_edits w.rows); master = Some master; clock = now; clients = each_member (λ number. at_up now) w.clients }, lines.Up master.epoch ∷ []) new printed h in
       record { now = now; is_step = at; none = none; early = is_late; are_sound = not_false (sound w.cell w.rows) is_damaged; more = is_end; is = sym p.0; tells = sym p.1 }
 
@@ -403,7 +403,7 @@ module _ (w : WorldState) (step : Step) (new : WorldState) (printed : List Line)
   cut_commit_row Kept agrees is h = cut_sweep_row w.master agrees is refl h
   cut_commit_row Lost agrees is h = down_row w step new printed w.master (inr is) refl h
 
-  cut_came_row : (now : ℕ) (commit : Commit) (r : Result MasterState Fault) → step ≡ steps.CutUp now commit → w.master ≡ None → up_step w.cell w.rows w.lease now ≡ r → cut_up w commit r ≡ Ok (new, printed) → WorldCase w step new printed
+  cut_came_row : (now : ℕ) (commit : Commit) (r : Result MasterState Fault) → step ≡ steps.CutUp now commit → w.master ≡ None → up_step w.cell w.rows w.terms now ≡ r → cut_up w commit r ≡ Ok (new, printed) → WorldCase w step new printed
   cut_came_row now commit (Err fault) is none step_is h = cc
   cut_came_row now Kept (Ok master) is none step_is h =
       let mid : WorldState = record w { rows = changed_rows w.rows (up_edits w.rows); master = Some master; clock = now; clients = each_member (λ number. at_up now) w.clients } in
@@ -417,7 +417,7 @@ module _ (w : WorldState) (step : Step) (new : WorldState) (printed : List Line)
 
   cut_up_row : (now : ℕ) (commit : Commit) (m : Option MasterState) → step ≡ steps.CutUp now commit → w.master ≡ m → world_cut_up w now commit m ≡ Ok (new, printed) → WorldCase w step new printed
   cut_up_row now commit (Some master) is up h = cc
-  cut_up_row now commit None is up h = cut_came_row now commit (up_step w.cell w.rows w.lease now) is up refl h
+  cut_up_row now commit None is up h = cut_came_row now commit (up_step w.cell w.rows w.terms now) is up refl h
 
 -- ---- every step
 

@@ -21,6 +21,7 @@ use Rattle.session_core.specs.declared.records.Kept.{Kept}
 use Rattle.session_core.specs.declared.records.Session.{Session}
 use Rattle.tags_cell.specs.declared.messages.outs.Reply.{Reply}
 use Rattle.lease_core.specs.Lease.{longest_lease}
+use Rattle.rows_cell.specs.declared.settings.Limits.{Limits}
 use Rattle.coherence.specs.Slice as one
 use Rattle.coherence.specs.Slice.{Reached}
 use Rattle.cache_core.specs.Caches.{AreCacheEntries, entry_of}
@@ -210,6 +211,13 @@ abbrev pub AreFair : WorldState → Option MasterState → Type 0
 AreFair w None = Unit {0}
 AreFair w (Some s) = (number : ℕ) (member : WorldClient) → member_of w number ≡ Some member → IsFairSince w.clock member
 
+-- ---- limits
+
+-- the master goes by these limits
+abbrev pub IsLimited : Limits → Option MasterState → Type 0
+IsLimited limits None = Unit {0}
+IsLimited limits (Some s) = s.limits ≡ limits
+
 -- ---- all of it
 
 pub record IsConsistent (w : WorldState) : Type 0 where
@@ -231,7 +239,8 @@ pub record IsConsistent (w : WorldState) : Type 0 where
   -- and with the messages
   pub fits : Fits w w.master
   -- no master gives a longer lease than the longest
-  pub lease : w.lease ≤ longest_lease
+  pub lease : w.terms.lease ≤ longest_lease
+  pub limits : IsLimited w.terms.limits w.master
   pub noted : IsNoted w.clock w.master
   pub fair : AreFair w w.master
   -- to each client, and of each name, the world is what some schedule leads to

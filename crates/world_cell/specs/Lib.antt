@@ -1,4 +1,5 @@
 pub use Rattle.node_core.specs.Nodes
+pub use Rattle.node_core.specs.Room as NodeRoom
 pub use Rattle.rows_cell.specs.Rows
 pub use Rattle.rows_cell.specs.Sound
 pub use Rattle.coherence.specs.Slice
@@ -10,6 +11,8 @@ pub use Rattle.master_state.specs.State
 pub use Rattle.master_state.specs.Lookups
 pub use Rattle.cell_core.specs.Cases
 pub use Rattle.cell_core.specs.Effect
+pub use Rattle.cell_core.specs.Room
+pub use Rattle.lock_core.specs.Counted
 pub use Rattle.over_core.specs.SweepCase
 pub use Rattle.over_core.specs.Kept
 pub use Rattle.client_core.specs.State as Clients
@@ -34,4 +37,6 @@ pub mod Runs
 pub mod Served
 pub mod Locks
 pub mod Told
+pub mod Limits
+pub mod Turns
 pub mod RunLaws

@@ -9,14 +9,17 @@ use Rattle.world_steps.specs.declared.steps.Step.{Step}
 use Rattle.world_steps.specs.World.{WorldView, IsUndoubted}
 use Rattle.world_cell.specs.Runs.{AnyRun, map_at, after_lines, epoch_at, live_at, LeasesKeepSessions, AreJoint, KeepsClocksFair, AreRecordedOnce, applied, Rises, IsOfCall, IsOfIdle}
 use Rattle.world_cell.specs.Served.{ServesPresentByThen}
-use Rattle.world_cell.specs.Locks.{HasLegalLocks, NoGenerationTwice}
+use Rattle.world_cell.specs.Locks.{HasLegalLocks, NoGenerationTwice, HoldsRise}
 use Rattle.world_cell.specs.Told.{ShowsNoOlder}
+use Rattle.world_cell.specs.Limits.{StaysWithinLimits}
+use Rattle.world_cell.specs.Turns.{HaveOneTurn}
 
 -- of a run in which nothing is in doubt; each as the clause of its name at the method `run` of a world says it
 pub record HoldsOfRun (old : WorldView) (steps : List Step) (printed : List Line) (new : WorldView) : Type 0 where
   pub map : map_of new.world.rows ≡ map_at (map_of old.world.rows) printed
   pub fits : after_lines (map_of old.world.rows) printed ≡ Some (map_of new.world.rows)
   pub epoch : new.world.rows.epoch ≡ epoch_at old.world.rows.epoch printed
+  pub turns : HaveOneTurn old steps new
   pub once : (client : ℕ) → 1 ≤ client → Rises (applied client printed)
   pub calls : (before rest : List Line) (client number : ℕ) (change : Mod) (names : List (List ℕ)) → printed ≡ before ++ lines.Applied client number change names ∷ rest → 1 ≤ client
       → IsOfCall old steps before client number change names rest new
@@ -29,7 +32,9 @@ pub record HoldsOfRun (old : WorldView) (steps : List Step) (printed : List Line
   pub clocks : KeepsClocksFair old steps new
   pub locks : HasLegalLocks old.world new.world
   pub generations : NoGenerationTwice old steps new
+  pub fencing : HoldsRise old steps new
   pub told : ShowsNoOlder old steps new
+  pub limits : StaysWithinLimits old.world new.world
 
 -- every run that begins with this world, and behind which nothing is in doubt
 abbrev pub HoldsOfRuns : WorldView → Type 0

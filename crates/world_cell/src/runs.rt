@@ -9,8 +9,10 @@ ghost use Rattle.world_steps.specs.World.{IsUndoubted};
 ghost use Rattle.world_cell.specs.Runs.{AnyRun, map_at, after_lines, epoch_at, live_at, LeasesKeepSessions, AreJoint, KeepsClocksFair, AreRecordedOnce, applied, Rises, IsOfCall, IsOfIdle};
 ghost use Rattle.world_steps.specs.Made.{WasRefused, AnyStep};
 ghost use Rattle.world_cell.specs.Served.{ServesPresentByThen};
-ghost use Rattle.world_cell.specs.Locks.{HasLegalLocks, NoGenerationTwice};
+ghost use Rattle.world_cell.specs.Locks.{HasLegalLocks, NoGenerationTwice, HoldsRise};
 ghost use Rattle.world_cell.specs.Told.{ShowsNoOlder};
+ghost use Rattle.world_cell.specs.Limits.{StaysWithinLimits};
+ghost use Rattle.world_cell.specs.Turns.{HaveOneTurn};
 ghost use Rattle.world_cell.specs.RunLaws.{HoldsOfRuns};
 
 use crate::worlds::World;
@@ -36,6 +38,9 @@ impl<R: Records + Drop> World<R> {
         ensures epoch { IfOk result (λ lines. IsUndoubted self.new → self.new.world.rows.epoch ≡ epoch_at self.old.world.rows.epoch lines) }
         // Each call is applied at most once: the numbers of a client's applied calls rise.
         ensures once { IfOk result (λ lines. IsUndoubted self.new → (client : ℕ) → 1 ≤ client → Rises (applied client lines)) }
+        // No call, whatever it asks, has its turn twice: of a client one waits at most, and once a call waits no longer, each
+        // that waits later has a greater number.
+        ensures turns { IsUndoubted self.new → HaveOneTurn self.old steps.now self.new }
         // Each change applied for a client is what a call does to the map just before it; the client sent the call in that
         // epoch, and the master took it before.
         ensures calls { IfOk result (λ lines. IsUndoubted self.new → (before rest : List PrintedLine) (client number : ℕ) (change : Mod) (names : List (List ℕ)) →
@@ -63,9 +68,15 @@ impl<R: Records + Drop> World<R> {
         ensures locks { IsUndoubted self.new → HasLegalLocks self.old.world self.new.world }
         // Whichever masters were up: no lock's generation falls, and no two holds of a lock from free share one.
         ensures generations { IsUndoubted self.new → NoGenerationTwice self.old steps.now self.new }
+        // Of two holds from free of the lock at one name the later one has the greater pair of instance and generation, also
+        // if the node was deleted and made again: who asks for this pair tells a holder of before from the present one.
+        ensures fencing { IsUndoubted self.new → HoldsRise self.old steps.now self.new }
         // From any point on: where anybody was told of a content before, no call that is asked later on shows an older one,
         // by whichever handle, and nobody serves one from a cache.
         ensures told { IsUndoubted self.new → ShowsNoOlder self.old steps.now self.new }
+        // Whichever masters were up: of nodes, of bytes of contents, and of locks that a client holds or waits for, there
+        // are no more than the limits of the cell allow, or no more than before.
+        ensures limits { IsUndoubted self.new → StaysWithinLimits self.old.world self.new.world }
     {
         self.consistent();
         let mut lines = Items::new(self.alloc());

@@ -1,6 +1,7 @@
 //! A world.
 ghost use Rattle.std.specs.Prelude.{◌≡◌, ◌∷◌, [], Ok, IfOk, IfErr, OnOk, OnErr, is_some};
 ghost use Rattle.rows_cell.specs.Rows.{map_of};
+ghost use Rattle.rows_cell.specs.Settings.{terms_of};
 ghost use Rattle.world_steps.specs.World.{opened, store_in, world_sweep, step_edits, step_frees, IsUndoubted, IsStored, IsLeft, MayRefuseStep};
 ghost use Rattle.world_steps.specs.Made.{WasMade, WasRefused};
 ghost use Rattle.world_cell.specs.Served.{ServesPresent};
@@ -35,7 +36,7 @@ impl<R: Records> Model for World<R> {
 impl<R: Records + Drop> World<R> {
     /// No master is up, no client has joined, nothing was sent. Takes no memory yet.
     pub fn new(alloc: Global, records: R, settings: &Settings) -> World<R>
-        ensures { result ≡ opened (R.store records) settings.now.lease }
+        ensures { result ≡ opened (R.store records) (terms_of settings.now) }
     {
         World {
             parts: WorldParts::new(alloc, records, settings),

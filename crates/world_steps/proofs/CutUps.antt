@@ -5,6 +5,7 @@ use Rattle.node_core.specs.declared.refusals.Fault.{Fault}
 use Rattle.node_core.specs.declared.refusals.Fault.TheVariants as faults
 use Rattle.node_core.specs.declared.lines.Line.{Line}
 use Rattle.node_core.specs.declared.lines.Line.TheVariants as lines
+use Rattle.rows_cell.specs.declared.settings.MasterTerms.{MasterTerms}
 use Rattle.rows_cell.specs.declared.tables.Rows.{Rows}
 use Rattle.rows_cell.specs.Stores.{Store, IsRead, IsUnread}
 use Rattle.master_state.specs.State.{MasterState}
@@ -20,11 +21,11 @@ use Rattle.world_steps.proofs.RefusedUp.{read_at, edits_up, stands, leaves_same,
 
 -- ---- the table
 
-steps_cut : (w : WorldState) (now : ℕ) (commit : Commit) (m : Option MasterState) → m ≡ None → world_cut_up w now commit m ≡ cut_up w commit (up_step w.cell w.rows w.lease now)
+steps_cut : (w : WorldState) (now : ℕ) (commit : Commit) (m : Option MasterState) → m ≡ None → world_cut_up w now commit m ≡ cut_up w commit (up_step w.cell w.rows w.terms now)
 steps_cut w now commit None none = refl
 steps_cut w now commit (Some master) none = cc
 
-cut_as : (w : WorldState) (now : ℕ) (commit : Commit) (r : Result MasterState Fault) → w.master ≡ None → up_step w.cell w.rows w.lease now ≡ r → world_step w (steps.CutUp now commit) ≡ cut_up w commit r
+cut_as : (w : WorldState) (now : ℕ) (commit : Commit) (r : Result MasterState Fault) → w.master ≡ None → up_step w.cell w.rows w.terms now ≡ r → world_step w (steps.CutUp now commit) ≡ cut_up w commit r
 unfolding world_step
 cut_as w now commit r none came = steps_cut w now commit w.master none ∙ ap (cut_up w commit) came
 
@@ -34,7 +35,7 @@ refused_same w now fault (Ok master) h = cc
 
 refused_by : (w : WorldState) (now : ℕ) (fault : Fault) (m : Option MasterState) → world_up w now m ≡ Err fault → world_cut_up w now Kept m ≡ Err fault
 refused_by w now fault (Some master) h = h
-refused_by w now fault None h = refused_same w now fault (up_step w.cell w.rows w.lease now) h
+refused_by w now fault None h = refused_same w now fault (up_step w.cell w.rows w.terms now) h
 
 refused_so : (w : WorldState) (now : ℕ) (fault : Fault) → world_step w (steps.Up now) ≡ Err fault → world_step w (steps.CutUp now Kept) ≡ Err fault
 unfolding world_step
@@ -56,7 +57,7 @@ refused_cut old new now printed h =
       },
     )
 
-kept_by : (old : WorldView) (now : ℕ) (master : MasterState) (after : Store) → old.world.master ≡ None → ComesUp old.world.lease now master (store_in old) after → WasMade old (steps.CutUp now Kept) (as_read old after) (lines.Up master.epoch ∷ lines.Down ∷ [])
+kept_by : (old : WorldView) (now : ℕ) (master : MasterState) (after : Store) → old.world.master ≡ None → ComesUp old.world.terms now master (store_in old) after → WasMade old (steps.CutUp now Kept) (as_read old after) (lines.Up master.epoch ∷ lines.Down ∷ [])
 kept_by old now master after none h =
     let at : WorldView = as_read old h.read in
     let made : List ℕ → Rows → Outcome = λ cell rows. Ok (record (as_read old after).world { cell = cell; rows = rows }, lines.Up master.epoch ∷ lines.Down ∷ []) in
@@ -78,7 +79,7 @@ lost_by old now read none h =
       at,
       read_at old old.world.master read none h.was_read,
       record {
-        is_step = cut_as at.world now Lost _ none (h.comes old.world.lease);
+        is_step = cut_as at.world now Lost _ none (h.comes old.world.terms);
         typed = tt;
         stored = record { leave = refl; counted = refl; doubted = omega arith };
       },
@@ -88,12 +89,12 @@ outside_read : (old new : WorldView) (now : ℕ) (fault : Fault) (m : Option Mas
 outside_read old new now fault None none early why = inr (early, why)
 outside_read old new now fault (Some master) none early why = cc
 
-late : (fault : Fault) (w : WorldState) (now : ℕ) → is_past_end now ≡ true → fault ≡ faults.Exhausted → up_step w.cell w.rows w.lease now ≡ Err fault
+late : (fault : Fault) (w : WorldState) (now : ℕ) → is_past_end now ≡ true → fault ≡ faults.Exhausted → up_step w.cell w.rows w.terms now ≡ Err fault
 late fault w now past is = rw (past, is) refl
 
 module _ (old : WorldView) (now : ℕ) (none : old.world.master ≡ None) (fault : Fault) where
   -- what was read, or the moment, lets no master come up
-  lost_refused : (at : Store) → IsRead (store_in old) at → up_step at.cell at.rows old.world.lease now ≡ Err fault → WasRefused old (steps.CutUp now Lost) (as_read old at) (lines.Refused fault ∷ [])
+  lost_refused : (at : Store) → IsRead (store_in old) at → up_step at.cell at.rows old.world.terms now ≡ Err fault → WasRefused old (steps.CutUp now Lost) (as_read old at) (lines.Refused fault ∷ [])
   lost_refused at was_read why =
       let there : WorldView = as_read old at in (
         there,
@@ -120,20 +121,20 @@ module _ (old : WorldView) (now : ℕ) (none : old.world.master ≡ None) (fault
       (lost_refused (store_in old) (record { cell = refl; counted = refl; doubted = omega arith; same = λ sure. refl }) (late fault old.world now h.0 h.1))
   lost_down after (inr h) = elim h.1 [
     | inl unread ↦ lost_unread after h.0 unread
-    | inr turned ↦ lost_refused after turned.was_read (turned.why old.world.lease)
+    | inr turned ↦ lost_refused after turned.was_read (turned.why old.world.terms)
   ]
 
 -- ---- the same of a world whose parts are known
 
 module _ (old new : WorldView) (now : ℕ) (before after : Store) (none : old.world.master ≡ None) (is_old : store_in old ≡ before) (is_new : store_in new ≡ after) (is : new ≡ as_read old (store_in new)) where
-  pub cut_up_made : (lease : ℕ) → old.world.lease ≡ lease → (master : MasterState) (printed : List Line) → ComesUp lease now master before after → printed ≡ lines.Up master.epoch ∷ lines.Down ∷ [] → WasMade old (steps.CutUp now Kept) new printed
-  cut_up_made lease is_lease master printed h tells =
-      let from : ComesUp old.world.lease now master (store_in old) after = subst (λ l. ComesUp l now master (store_in old) after) (sym is_lease) (subst (λ s. ComesUp lease now master s after) (sym is_old) h) in
+  pub cut_up_made : (terms : MasterTerms) → old.world.terms ≡ terms → (master : MasterState) (printed : List Line) → ComesUp terms now master before after → printed ≡ lines.Up master.epoch ∷ lines.Down ∷ [] → WasMade old (steps.CutUp now Kept) new printed
+  cut_up_made terms is_lease master printed h tells =
+      let from : ComesUp old.world.terms now master (store_in old) after = subst (λ l. ComesUp l now master (store_in old) after) (sym is_lease) (subst (λ s. ComesUp terms now master s after) (sym is_old) h) in
       subst (λ w. WasMade old (steps.CutUp now Kept) w printed) (sym (is ∙ ap (as_read old) is_new))
       (subst (λ p. WasMade old (steps.CutUp now Kept) (as_read old after) p) (sym tells) (kept_by old now master after none from))
 
-  pub cut_up_refused : (lease : ℕ) → old.world.lease ≡ lease → (fault : Fault) → StaysDown lease now fault before after → WasRefused old (steps.CutUp now Kept) new (lines.Refused fault ∷ [])
-  cut_up_refused lease is_lease fault h = refused_cut old new now (lines.Refused fault ∷ []) (refused_up old new now lease before after none is_old is_lease fault h is_new is)
+  pub cut_up_refused : (terms : MasterTerms) → old.world.terms ≡ terms → (fault : Fault) → StaysDown terms now fault before after → WasRefused old (steps.CutUp now Kept) new (lines.Refused fault ∷ [])
+  cut_up_refused terms is_lease fault h = refused_cut old new now (lines.Refused fault ∷ []) (refused_up old new now terms before after none is_old is_lease fault h is_new is)
 
   pub lost_up_made : (printed : List Line) → CouldComeUp now before after → printed ≡ lines.Down ∷ [] → WasMade old (steps.CutUp now Lost) new printed
   lost_up_made printed h tells =

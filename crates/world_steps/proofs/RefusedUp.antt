@@ -6,6 +6,7 @@ use Rattle.node_core.specs.declared.refusals.Fault.{Fault}
 use Rattle.node_core.specs.declared.refusals.Fault.TheVariants as faults
 use Rattle.node_core.specs.declared.lines.Line.{Line}
 use Rattle.node_core.specs.declared.lines.Line.TheVariants as lines
+use Rattle.rows_cell.specs.declared.settings.MasterTerms.{MasterTerms}
 use Rattle.rows_cell.specs.declared.tables.Rows.{Rows}
 use Rattle.rows_cell.specs.declared.tables.Edit.{Edit}
 use Rattle.rows_cell.specs.Rows.{changed_rows}
@@ -30,11 +31,11 @@ pub read_at : (old : WorldView) (m : Option MasterState) (read : Store) → m �
 read_at old None read none h = (read, h, refl)
 read_at old (Some master) read none h = cc
 
-pub edits_up : (w : WorldState) (now : ℕ) (m : Option MasterState) → m ≡ None → came_up_edits w now m ≡ up_commit (up_step w.cell w.rows w.lease now) w.rows
+pub edits_up : (w : WorldState) (now : ℕ) (m : Option MasterState) → m ≡ None → came_up_edits w now m ≡ up_commit (up_step w.cell w.rows w.terms now) w.rows
 edits_up w now None none = refl
 edits_up w now (Some master) none = cc
 
-steps_up : (w : WorldState) (now : ℕ) (m : Option MasterState) → m ≡ None → world_up w now m ≡ came_up w now (up_step w.cell w.rows w.lease now)
+steps_up : (w : WorldState) (now : ℕ) (m : Option MasterState) → m ≡ None → world_up w now m ≡ came_up w now (up_step w.cell w.rows w.terms now)
 steps_up w now None none = refl
 steps_up w now (Some master) none = cc
 
@@ -54,16 +55,16 @@ leaves_same (edit ∷ edits) rows old new same = inl same
 
 -- a master is up over the store
 abbrev pub with_master : WorldView → ℕ → Store → MasterState → WorldView
-with_master w now after master = view_of after (Some master) now (each_member (λ number. at_up now) w.world.clients) w.world.messages w.world.lease
+with_master w now after master = view_of after (Some master) now (each_member (λ number. at_up now) w.world.clients) w.world.messages w.world.terms
 
 module _ (old : WorldView) (now : ℕ) (none : old.world.master ≡ None) where
   -- ---- it comes up
 
-  came_as : (w : WorldState) (master : MasterState) → w.master ≡ None → up_step w.cell w.rows w.lease now ≡ Ok master → world_step w (steps.Up now) ≡ came_up w now (Ok master)
+  came_as : (w : WorldState) (master : MasterState) → w.master ≡ None → up_step w.cell w.rows w.terms now ≡ Ok master → world_step w (steps.Up now) ≡ came_up w now (Ok master)
   unfolding world_step
   came_as w master down came = steps_up w now w.master down ∙ ap (came_up w now) came
 
-  made_by : (master : MasterState) (after : Store) → ComesUp old.world.lease now master (store_in old) after → AreInOrder after.rows → WasMade old (steps.Up now) (with_master old now after master) (lines.Up master.epoch ∷ [])
+  made_by : (master : MasterState) (after : Store) → ComesUp old.world.terms now master (store_in old) after → AreInOrder after.rows → WasMade old (steps.Up now) (with_master old now after master) (lines.Up master.epoch ∷ [])
   made_by master after h order =
       let at : WorldView = as_read old h.read in
       let ordered : AreInOrder (changed_rows h.read.rows (up_edits h.read.rows)) = subst AreInOrder h.committed.rows order in
@@ -80,11 +81,11 @@ module _ (old : WorldView) (now : ℕ) (none : old.world.master ≡ None) where
 
   -- ---- it stays down
 
-  refused_as : (w : WorldState) (fault : Fault) → w.master ≡ None → up_step w.cell w.rows w.lease now ≡ Err fault → world_step w (steps.Up now) ≡ Err fault
+  refused_as : (w : WorldState) (fault : Fault) → w.master ≡ None → up_step w.cell w.rows w.terms now ≡ Err fault → world_step w (steps.Up now) ≡ Err fault
   unfolding world_step
   refused_as w fault down told = steps_up w now w.master down ∙ ap (came_up w now) told
 
-  late : (fault : Fault) (w : WorldState) → is_past_end now ≡ true → fault ≡ faults.Exhausted → up_step w.cell w.rows w.lease now ≡ Err fault
+  late : (fault : Fault) (w : WorldState) → is_past_end now ≡ true → fault ≡ faults.Exhausted → up_step w.cell w.rows w.terms now ≡ Err fault
   late fault w past is = rw (past, is) refl
 
   refused_late : (fault : Fault) → is_past_end now ≡ true → fault ≡ faults.Exhausted → WasRefused old (steps.Up now) old (lines.Refused fault ∷ [])
@@ -112,7 +113,7 @@ module _ (old : WorldView) (now : ℕ) (none : old.world.master ≡ None) where
   )
 
   -- what was read lets no master come up
-  refused_read : (fault : Fault) (read : Store) → IsRead (store_in old) read → up_step read.cell read.rows old.world.lease now ≡ Err fault → WasRefused old (steps.Up now) (as_read old read) (lines.Refused fault ∷ [])
+  refused_read : (fault : Fault) (read : Store) → IsRead (store_in old) read → up_step read.cell read.rows old.world.terms now ≡ Err fault → WasRefused old (steps.Up now) (as_read old read) (lines.Refused fault ∷ [])
   refused_read fault read was_read told =
       let at : WorldView = as_read old read in (
         at,
@@ -126,7 +127,7 @@ module _ (old : WorldView) (now : ℕ) (none : old.world.master ≡ None) where
       )
 
   -- the epoch isn't committed
-  refused_commit : (fault : Fault) (read after : Store) → is_past_end now ≡ false → IsRead (store_in old) read → Uncommitted fault (up_commit (up_step read.cell read.rows old.world.lease now) read.rows) read after → WasRefused old (steps.Up now) (as_read old after) (lines.Refused fault ∷ [])
+  refused_commit : (fault : Fault) (read after : Store) → is_past_end now ≡ false → IsRead (store_in old) read → Uncommitted fault (up_commit (up_step read.cell read.rows old.world.terms now) read.rows) read after → WasRefused old (steps.Up now) (as_read old after) (lines.Refused fault ∷ [])
   refused_commit fault read after early was_read h =
       let at : WorldView = as_read old read in
       let edits = edits_up at.world now at.world.master none in (
@@ -140,32 +141,32 @@ module _ (old : WorldView) (now : ℕ) (none : old.world.master ≡ None) where
         },
       )
 
-  kept_down : (fault : Fault) (after read : Store) → is_past_end now ≡ false → IsRead (store_in old) read → ((up_step read.cell read.rows old.world.lease now ≡ Err fault) × (after ≡ read)) ⊎ Uncommitted fault (up_commit (up_step read.cell read.rows old.world.lease now) read.rows) read after → WasRefused old (steps.Up now) (as_read old after) (lines.Refused fault ∷ [])
+  kept_down : (fault : Fault) (after read : Store) → is_past_end now ≡ false → IsRead (store_in old) read → ((up_step read.cell read.rows old.world.terms now ≡ Err fault) × (after ≡ read)) ⊎ Uncommitted fault (up_commit (up_step read.cell read.rows old.world.terms now) read.rows) read after → WasRefused old (steps.Up now) (as_read old after) (lines.Refused fault ∷ [])
   kept_down fault after read early was_read (inl h) =
       subst (λ s. WasRefused old (steps.Up now) (as_read old s) (lines.Refused fault ∷ [])) (sym h.1) (refused_read fault read was_read h.0)
   kept_down fault after read early was_read (inr h) = refused_commit fault read after early was_read h
 
-  asked_down : (fault : Fault) (after : Store) → is_past_end now ≡ false → IsUnread fault (store_in old) after ⊎ IsKeptDown old.world.lease now fault (store_in old) after → WasRefused old (steps.Up now) (as_read old after) (lines.Refused fault ∷ [])
+  asked_down : (fault : Fault) (after : Store) → is_past_end now ≡ false → IsUnread fault (store_in old) after ⊎ IsKeptDown old.world.terms now fault (store_in old) after → WasRefused old (steps.Up now) (as_read old after) (lines.Refused fault ∷ [])
   asked_down fault after early (inl h) = refused_unread fault after early h
   asked_down fault after early (inr h) = kept_down fault after h.read early h.was_read h.why
 
-  refused_by : (fault : Fault) (after : Store) → StaysDown old.world.lease now fault (store_in old) after → WasRefused old (steps.Up now) (as_read old after) (lines.Refused fault ∷ [])
+  refused_by : (fault : Fault) (after : Store) → StaysDown old.world.terms now fault (store_in old) after → WasRefused old (steps.Up now) (as_read old after) (lines.Refused fault ∷ [])
   refused_by fault after (inl h) =
       subst (λ s. WasRefused old (steps.Up now) (as_read old s) (lines.Refused fault ∷ [])) (sym h.2) (refused_late fault h.0 h.1)
   refused_by fault after (inr h) = asked_down fault after h.0 h.1
 
 -- ---- the same of a world whose parts are known
 
-module _ (old new : WorldView) (now lease : ℕ) (before after : Store) (none : old.world.master ≡ None) (is_old : store_in old ≡ before) (is_lease : old.world.lease ≡ lease) where
-  pub came_up_made : (master : MasterState) (printed : List Line) → ComesUp lease now master before after → IsKept after.cell after.rows master → new ≡ with_master old now after master → printed ≡ lines.Up master.epoch ∷ [] → WasMade old (steps.Up now) new printed
+module _ (old new : WorldView) (now : ℕ) (terms : MasterTerms) (before after : Store) (none : old.world.master ≡ None) (is_old : store_in old ≡ before) (is_lease : old.world.terms ≡ terms) where
+  pub came_up_made : (master : MasterState) (printed : List Line) → ComesUp terms now master before after → IsKept after.cell after.rows master → new ≡ with_master old now after master → printed ≡ lines.Up master.epoch ∷ [] → WasMade old (steps.Up now) new printed
   came_up_made master printed h kept is tells =
       let order : AreInOrder after.rows = record { names = kept.names_in_order; sessions = kept.sessions_in_order; locks = kept.locks_in_order } in
-      let from : ComesUp old.world.lease now master (store_in old) after = subst (λ l. ComesUp l now master (store_in old) after) (sym is_lease) (subst (λ s. ComesUp lease now master s after) (sym is_old) h) in
+      let from : ComesUp old.world.terms now master (store_in old) after = subst (λ l. ComesUp l now master (store_in old) after) (sym is_lease) (subst (λ s. ComesUp terms now master s after) (sym is_old) h) in
       subst (λ w. WasMade old (steps.Up now) w printed) (sym is) (subst (λ p. WasMade old (steps.Up now) (with_master old now after master) p) (sym tells) (made_by old now none master after from order))
 
-  pub refused_up : (fault : Fault) → StaysDown lease now fault before after → store_in new ≡ after → new ≡ as_read old (store_in new) → WasRefused old (steps.Up now) new (lines.Refused fault ∷ [])
+  pub refused_up : (fault : Fault) → StaysDown terms now fault before after → store_in new ≡ after → new ≡ as_read old (store_in new) → WasRefused old (steps.Up now) new (lines.Refused fault ∷ [])
   refused_up fault h is_new is =
-      let from : StaysDown old.world.lease now fault (store_in old) after = subst (λ l. StaysDown l now fault (store_in old) after) (sym is_lease) (subst (λ s. StaysDown lease now fault s after) (sym is_old) h) in
+      let from : StaysDown old.world.terms now fault (store_in old) after = subst (λ l. StaysDown l now fault (store_in old) after) (sym is_lease) (subst (λ s. StaysDown terms now fault s after) (sym is_old) h) in
       subst (λ w. WasRefused old (steps.Up now) w (lines.Refused fault ∷ [])) (sym (is ∙ ap (as_read old) is_new)) (refused_by old now none fault after from)
 
 -- ---- while a master is up
@@ -193,7 +194,7 @@ refused_twice old new now up same =
       },
     )
 
-pub up_view : {Cell : Type 0} (master : Cell → MasterState) (part : Cell → Store) (up : Option Cell) (cell : Cell) (rest : Option Store) (now : ℕ) (moved clients : Clients) (messages : List Message) (lease : ℕ) → up ≡ Some cell → moved ≡ each_member (λ number. at_up now) clients
-    → view_of (held (option_map part up) rest) (option_map master up) now moved messages lease ≡ view_of (part cell) (Some (master cell)) now (each_member (λ number. at_up now) clients) messages lease
-up_view master part up cell rest now moved clients messages lease is moves =
-    ap (λ u. view_of (held (option_map part u) rest) (option_map master u) now moved messages lease) is ∙ ap (λ cs. view_of (part cell) (Some (master cell)) now cs messages lease) moves
+pub up_view : {Cell : Type 0} (master : Cell → MasterState) (part : Cell → Store) (up : Option Cell) (cell : Cell) (rest : Option Store) (now : ℕ) (moved clients : Clients) (messages : List Message) (terms : MasterTerms) → up ≡ Some cell → moved ≡ each_member (λ number. at_up now) clients
+    → view_of (held (option_map part up) rest) (option_map master up) now moved messages terms ≡ view_of (part cell) (Some (master cell)) now (each_member (λ number. at_up now) clients) messages terms
+up_view master part up cell rest now moved clients messages terms is moves =
+    ap (λ u. view_of (held (option_map part u) rest) (option_map master u) now moved messages terms) is ∙ ap (λ cs. view_of (part cell) (Some (master cell)) now cs messages terms) moves

@@ -5,6 +5,7 @@ use Rattle.std.specs.List.{list_any}
 use Rattle.std.proofs.lemmas.Bool.Decides.{nat_tests}
 use Rattle.lease_core.specs.Lease.{moment_limit}
 use Rattle.node_core.specs.declared.refusals.Fault.TheVariants as faults
+use Rattle.rows_cell.specs.declared.settings.MasterTerms.{MasterTerms}
 use Rattle.rows_cell.specs.Stores.{Store}
 use Rattle.master_state.specs.State.{MasterState}
 use Rattle.world_steps.specs.declared.mail.Message.{Message}
@@ -32,19 +33,19 @@ neither true b h = cc
 uncut : (then now : ℕ) → now ≡ min then (2 ^ 64 - 1) → nat_le moment_limit then ≡ false → now ≡ then
 uncut then now is early = grind (arith, nat_tests)
 
-module _ (store : Store) (clock : ℕ) (clients : Clients) (messages : List Message) (lease : ℕ) (ticks : ClockSteps) (now : ℕ) (moving : Clients) (cut : now ≡ min (clock + ticks.master) (2 ^ 64 - 1)) where
+module _ (store : Store) (clock : ℕ) (clients : Clients) (messages : List Message) (terms : MasterTerms) (ticks : ClockSteps) (now : ℕ) (moving : Clients) (cut : now ≡ min (clock + ticks.master) (2 ^ 64 - 1)) where
   abbrev early_all : Bool
   early_all = list_any (λ entry. nat_le moment_limit (clock_then ticks entry.0 entry.1)) clients
 
-  pub left_alone : (m : Option MasterState) → m ≡ None → (early_all ≡ false → moving ≡ each_member (λ number member. moved_alone (clock_then ticks number member) member) clients) → goes_past_end (view_of store m clock clients messages lease).world ticks ≡ false → view_of store m now moving messages lease ≡ record (view_of store m clock clients messages lease) { world = ticked (view_of store m clock clients messages lease).world ticks }
+  pub left_alone : (m : Option MasterState) → m ≡ None → (early_all ≡ false → moving ≡ each_member (λ number member. moved_alone (clock_then ticks number member) member) clients) → goes_past_end (view_of store m clock clients messages terms).world ticks ≡ false → view_of store m now moving messages terms ≡ record (view_of store m clock clients messages terms) { world = ticked (view_of store m clock clients messages terms).world ticks }
   left_alone None none moves early =
       let both = neither (nat_le moment_limit (clock + ticks.master)) early_all early in
-      ap (λ n. view_of store None n moving messages lease) (uncut (clock + ticks.master) now cut both.0) ∙ ap (λ cs. view_of store None (clock + ticks.master) cs messages lease) (moves both.1)
+      ap (λ n. view_of store None n moving messages terms) (uncut (clock + ticks.master) now cut both.0) ∙ ap (λ cs. view_of store None (clock + ticks.master) cs messages terms) (moves both.1)
   left_alone (Some master) none moves early = cc
 
-  pub left_beside : (m : Option MasterState) (master : MasterState) → m ≡ Some master → (early_all ≡ false → moving ≡ each_member (λ number member. moved_beside now (clock_then ticks number member) member) clients) → goes_past_end (view_of store m clock clients messages lease).world ticks ≡ false → view_of store m now moving messages lease ≡ record (view_of store m clock clients messages lease) { world = ticked (view_of store m clock clients messages lease).world ticks }
+  pub left_beside : (m : Option MasterState) (master : MasterState) → m ≡ Some master → (early_all ≡ false → moving ≡ each_member (λ number member. moved_beside now (clock_then ticks number member) member) clients) → goes_past_end (view_of store m clock clients messages terms).world ticks ≡ false → view_of store m now moving messages terms ≡ record (view_of store m clock clients messages terms) { world = ticked (view_of store m clock clients messages terms).world ticks }
   left_beside None master up moves early = cc
   left_beside (Some other) master up moves early =
       let both = neither (nat_le moment_limit (clock + ticks.master)) early_all early in
       let at : now ≡ clock + ticks.master = uncut (clock + ticks.master) now cut both.0 in
-      ap (λ cs. view_of store (Some other) now cs messages lease) (moves both.1) ∙ ap (λ n. view_of store (Some other) n (each_member (λ number member. moved_beside n (clock_then ticks number member) member) clients) messages lease) at
+      ap (λ cs. view_of store (Some other) now cs messages terms) (moves both.1) ∙ ap (λ n. view_of store (Some other) n (each_member (λ number member. moved_beside n (clock_then ticks number member) member) clients) messages terms) at

@@ -10,6 +10,7 @@ use Rattle.node_core.specs.declared.refusals.Fault.{Fault}
 use Rattle.node_core.specs.declared.refusals.Fault.TheVariants as faults
 use Rattle.node_core.specs.declared.lines.Line.{Line}
 use Rattle.node_core.specs.declared.lines.Line.TheVariants as lines
+use Rattle.rows_cell.specs.declared.settings.MasterTerms.{MasterTerms}
 use Rattle.rows_cell.specs.declared.tables.Rows.{Rows}
 use Rattle.rows_cell.specs.declared.tables.Edit.{Edit}
 use Rattle.rows_cell.specs.Rows.{changed_rows}
@@ -47,7 +48,7 @@ use Rattle.world_steps.specs.Members.{Clients, new_member, stepped, each_member,
 use Rattle.world_steps.specs.Messages.{request_at, out_at}
 
 -- cell: its name, by the settings of its store. rows: those that stand. clock: the master's, in milliseconds. clients: by number, each with its own clock. messages: all that were sent, in
--- order; they only grow. lease: in milliseconds
+-- order; they only grow. terms: what each master goes by
 pub record WorldState : Type 0 where
   pub cell : List ℕ
   pub rows : Rows
@@ -55,7 +56,7 @@ pub record WorldState : Type 0 where
   pub clock : ℕ
   pub clients : Clients
   pub messages : List Message
-  pub lease : ℕ
+  pub terms : MasterTerms
 
 -- a world, and of its store the rows that a crash may leave, how often it refused, and how often what is read was in doubt
 pub record WorldView : Type 0 where
@@ -69,12 +70,12 @@ abbrev pub IsUndoubted : WorldView → Type 0
 IsUndoubted w = w.doubt ≡ 0
 
 -- no master is up, no client has joined, nothing was sent
-abbrev pub new_world : List ℕ → Rows → ℕ → WorldState
-new_world cell rows lease = record { cell = cell; rows = rows; master = None; clock = 0; clients = []; messages = []; lease = lease }
+abbrev pub new_world : List ℕ → Rows → MasterTerms → WorldState
+new_world cell rows terms = record { cell = cell; rows = rows; master = None; clock = 0; clients = []; messages = []; terms = terms }
 
 -- a new world over a store
-abbrev pub opened : Store → ℕ → WorldView
-opened store lease = record { world = new_world store.cell store.rows lease; may_leave = store.may_leave; refusals = store.refusals; doubt = store.doubt }
+abbrev pub opened : Store → MasterTerms → WorldView
+opened store terms = record { world = new_world store.cell store.rows terms; may_leave = store.may_leave; refusals = store.refusals; doubt = store.doubt }
 
 -- the store of a world
 abbrev pub store_in : WorldView → Store
@@ -89,9 +90,9 @@ held (Some store) records = store
 held None (Some store) = store
 held None None = no_store
 
-abbrev pub view_of : Store → Option MasterState → ℕ → Clients → List Message → ℕ → WorldView
-view_of store master clock clients messages lease = record {
-  world = record { cell = store.cell; rows = store.rows; master = master; clock = clock; clients = clients; messages = messages; lease = lease };
+abbrev pub view_of : Store → Option MasterState → ℕ → Clients → List Message → MasterTerms → WorldView
+view_of store master clock clients messages terms = record {
+  world = record { cell = store.cell; rows = store.rows; master = master; clock = clock; clients = clients; messages = messages; terms = terms };
   may_leave = store.may_leave;
   refusals = store.refusals;
   doubt = store.doubt;
@@ -111,7 +112,7 @@ came_up w now (Ok master) =
 -- one master at a time
 abbrev pub world_up : WorldState → ℕ → Option MasterState → Outcome
 world_up w now (Some master) = Err faults.MasterUp
-world_up w now None = came_up w now (up_step w.cell w.rows w.lease now)
+world_up w now None = came_up w now (up_step w.cell w.rows w.terms now)
 
 -- ---- the master goes down
 
@@ -299,7 +300,7 @@ cut_up w Lost (Ok master) = Ok (w, lines.Down ∷ [])
 -- the same of a master that comes up
 abbrev pub world_cut_up : WorldState → ℕ → Commit → Option MasterState → Outcome
 world_cut_up w now commit (Some master) = Err faults.MasterUp
-world_cut_up w now commit None = cut_up w commit (up_step w.cell w.rows w.lease now)
+world_cut_up w now commit None = cut_up w commit (up_step w.cell w.rows w.terms now)
 
 -- ---- the table
 
@@ -321,7 +322,7 @@ world_step w (steps.CutUp now commit) = world_cut_up w now commit w.master
 
 -- a world whose store was read
 abbrev pub as_read : WorldView → Store → WorldView
-as_read w read = view_of read w.world.master w.world.clock w.world.clients w.world.messages w.world.lease
+as_read w read = view_of read w.world.master w.world.clock w.world.clients w.world.messages w.world.terms
 
 abbrev pub IsAtUp : Option MasterState → WorldView → WorldView → Type 0
 IsAtUp None old at = (read : Store) × IsRead (store_in old) read × (at ≡ as_read old read)
@@ -336,7 +337,7 @@ IsAt _ old at = at ≡ old
 -- what a master that comes up commits; one at a time
 abbrev pub came_up_edits : WorldState → ℕ → Option MasterState → List Edit
 came_up_edits w now (Some master) = []
-came_up_edits w now None = up_commit (up_step w.cell w.rows w.lease now) w.rows
+came_up_edits w now None = up_commit (up_step w.cell w.rows w.terms now) w.rows
 
 -- what a step commits: a master that comes up its epoch, and a sweep the change whose turn it is
 abbrev pub step_edits : WorldState → Step → List Edit

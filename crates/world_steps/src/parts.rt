@@ -2,6 +2,7 @@
 ghost use Rattle.lease_core.specs.Lease.{longest_lease};
 ghost use Rattle.std.specs.Prelude.{◌≡◌, ◌≤◌, ◌<◌, ◌+◌, ◌∷◌, ◌++◌, [], length, filter, false, Some, None, Ok, Err, IfOk, IfErr, OnOk, OnErr, is_some};
 ghost use Rattle.std.specs.Vec.{vec_len, vec_capacity};
+ghost use Rattle.rows_cell.specs.Settings.{terms_of};
 ghost use Rattle.world_steps.specs.World.{opened, store_in, with_refusal, world_join, world_ask, world_beat, world_tick, world_take, world_beats, world_give, world_sweep, world_down, without_master, is_of_commit, world_cut_sweep, moves_nobody, are_fair, goes_past_end, ticked, step_edits, step_frees, IsStored, IsLeft, MayRefuseStep, Agrees};
 ghost use Rattle.world_steps.specs.Made.{IsTyped, WasMade, WasRefused};
 
@@ -15,7 +16,7 @@ use lease_core::MOMENT_LIMIT;
 use names_cell::Principal;
 use node_core::{Fault, Line};
 use over_core::Cell;
-use rows_cell::{Records, Settings};
+use rows_cell::{MasterTerms, Records, Settings};
 use std::alloc::{AllocError, Global};
 use std::marker::Model;
 use tags_cell::ClientNumber;
@@ -43,7 +44,7 @@ pub struct WorldParts<R: Records> {
     clock: u64,
     clients: WorldClients,
     messages: Vec<Message>,
-    lease: u64,
+    terms: MasterTerms,
 }
 
 impl<R: Records> Model for WorldParts<R> {
@@ -53,15 +54,15 @@ impl<R: Records> Model for WorldParts<R> {
 
     ghost Value = { WorldView };
 
-    ghost view = { λ w. view_of (held (option_map (λ c. c.store) w.master) (option_map R.store w.records)) (option_map (λ c. c.master) w.master) w.clock w.clients w.messages.items w.lease };
+    ghost view = { λ w. view_of (held (option_map (λ c. c.store) w.master) (option_map R.store w.records)) (option_map (λ c. c.master) w.master) w.clock w.clients w.messages.items w.terms };
 
-    ghost invariant = { λ w. (is_some w.records ≡ not (is_some w.master)) × (1000 ≤ w.lease) × (w.lease ≤ 60000) };
+    ghost invariant = { λ w. (is_some w.records ≡ not (is_some w.master)) × (1000 ≤ w.terms.lease) × (w.terms.lease ≤ 60000) };
 }
 
 impl<R: Records + Drop> WorldParts<R> {
     /// No master is up, no client has joined, nothing was sent. Takes no memory yet.
     pub fn new(alloc: Global, records: R, settings: &Settings) -> WorldParts<R>
-        ensures is { result ≡ opened (R.store records) settings.now.lease }
+        ensures is { result ≡ opened (R.store records) (terms_of settings.now) }
         ensures range { settings.now.lease ≤ longest_lease }
     {
         WorldParts {
@@ -71,7 +72,7 @@ impl<R: Records + Drop> WorldParts<R> {
             clock: 0,
             clients: WorldClients::new(alloc),
             messages: Vec::new(alloc),
-            lease: settings.lease(),
+            terms: settings.terms(),
         }
     }
 
@@ -141,7 +142,7 @@ impl<R: Records + Drop> WorldParts<R> {
             clock: _,
             clients: _,
             messages: _,
-            lease: _,
+            terms: _,
         } = self;
         match master {
             Some(cell) => cell.down(),
@@ -172,7 +173,7 @@ impl<R: Records + Drop> WorldParts<R> {
         lines.push(Line::Down)?;
         match self.records.take() {
             None => Err(Fault::MasterUp),
-            Some(records) => match Cell::up(self.alloc, records, self.lease, now) {
+            Some(records) => match Cell::up(self.alloc, records, self.terms, now) {
                 Ok(cell) => {
                     cell.kept();
                     lines.set(0, Line::Up(cell.epoch()));
@@ -268,7 +269,7 @@ impl<R: Records + Drop> WorldParts<R> {
         lines.push(Line::Down)?;
         match self.records.take() {
             None => Err(Fault::MasterUp),
-            Some(records) => match Cell::up(self.alloc, records, self.lease, now) {
+            Some(records) => match Cell::up(self.alloc, records, self.terms, now) {
                 Ok(cell) => {
                     lines.set(0, Line::Up(cell.epoch()));
                     let records = cell.down();

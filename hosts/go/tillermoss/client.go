@@ -27,7 +27,7 @@ const (
 	lastWait  = 500 * time.Millisecond
 	// Between two tries of a call that is refused for now.
 	callPause = 50 * time.Millisecond
-	// So long at most a client that is closed waits until its session has ended.
+	// How long at most a client that is closed waits until its session has ended.
 	parting = 2 * time.Second
 	// A timer stands still while the machine sleeps, so the clock is looked at so often at least.
 	longestWait = time.Second

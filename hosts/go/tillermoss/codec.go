@@ -395,7 +395,7 @@ func readRefusal(left *fields) *Refusal {
 		refusal.Word = []string{"read", "write", "change"}[left.choice(3)]
 	case Held:
 		refusal.Word = []string{"x", "s"}[left.choice(2)]
-	case WrongGeneration, BadAck, Delayed, OldEpoch, PassMissing, ReceiptApart:
+	case WrongGeneration, BadAck, Delayed, OldEpoch, PassMissing, ReceiptApart, NoRoom:
 		refusal.HasArgument, refusal.Argument = true, left.word()
 	}
 	return refusal
@@ -531,12 +531,14 @@ const (
 	WatchFull
 	PassMissing
 	ReceiptApart
+	NoRoom
 )
 
 var refusalNames = strings.Fields("NoMemory BadName OtherCell BadPrincipal BadAcl NotFound Exists WrongKind NotEmpty Denied " +
 	"WrongGeneration TooLarge Exhausted StaleInstance StoreRefused StoreDamaged BadHandle BadSequencer NoSession BadAck Repeat " +
 	"Busy Held Delayed NotHolder SequencerStale DelayTooLong OldEpoch Recovering InJeopardy SessionExpired Poisoned " +
-	"CallOutstanding Unknown ProtocolFault UnfairClock NoSuchMessage MasterDown MasterUp WatchFull PassMissing ReceiptApart")
+	"CallOutstanding Unknown ProtocolFault UnfairClock NoSuchMessage MasterDown MasterUp WatchFull PassMissing ReceiptApart " +
+	"NoRoom")
 
 // Refusal is why the master, or the client, refuses a call.
 type Refusal struct {

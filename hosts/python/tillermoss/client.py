@@ -13,7 +13,7 @@ from typing import Optional
 
 from . import codec
 from .codec import Malformed, NodeStat, Refusal, View
-from .connection import CONNECTING, Connection, Schedule, is_followed
+from .connection import CONNECTING, Connection, Schedule, check_address, is_followed
 from .session import EXPIRED, NO_SESSION, NOT_FOUND, UNKNOWN, Session, leased_until
 
 MODES = {"r": 1, "w": 2, "c": 4}
@@ -24,16 +24,18 @@ BAD_NAME, TOO_LARGE, STALE_INSTANCE, BAD_SEQUENCER, BUSY, RECOVERING, IN_JEOPARD
 PAUSES = 0.02, 0.5
 # Between two tries of a call that is refused for now.
 PAUSE = 0.05
-# So long at most a client that is closed waits until its session has ended.
+# How long at most a client that is closed waits until its session has ended.
 PARTING = 2.0
+NO_SEQUENCER = "it is what sequencer() of a handle gives"
 
 
 class Refused(Exception):
-    """The master refused a call, or the client did: `refusal` says why, `limit` which limit of the server stands behind it."""
+    """The master refused a call, or the client did: `refusal` says why, `limit` which limit of the server stands against it, and `about`
+    of which node, or of what."""
 
-    def __init__(self, refusal: Refusal, limit: Optional[str] = None):
-        super().__init__(limit or str(refusal))
-        self.refusal, self.limit = refusal, limit
+    def __init__(self, refusal: Refusal, limit: Optional[str] = None, about: Optional[str] = None):
+        super().__init__(": ".join(filter(None, (limit or str(refusal), about))))
+        self.refusal, self.limit, self.about = refusal, limit, about
 
 
 class TurnedAway(Exception):
@@ -66,6 +68,14 @@ def void_all() -> None:
 os.register_at_fork(after_in_child=void_all)
 
 
+def read_letters(what: str, letters: str, known: dict) -> int:
+    """The sum of what letters stand for."""
+    for letter in letters:
+        if letter not in known:
+            raise ValueError(f"{what} has {letter!r}: its letters are {', '.join(known)}")
+    return sum(known[letter] for letter in letters)
+
+
 def now() -> int:
     """Milliseconds by a clock that goes on while the machine sleeps."""
     return time.clock_gettime_ns(time.CLOCK_BOOTTIME) // 1_000_000
@@ -78,6 +88,10 @@ class Client:
     def __init__(self, servers: str, principal: str, patience: float = 90.0, tls: Optional[ssl.SSLContext] = None):
         self.principal, self.patience, self.tls = principal, patience, tls
         self.servers, self.told, self.was_told = servers.split(","), "", False
+        for server in self.servers:
+            check_address(server, tls)
+        if not codec.is_component(principal):
+            raise TurnedAway(f"{principal!r} is not a principal: that is 1 to 64 of a-z 0-9 . _ -")
         # (which of them say that they don't know this client, since one took it)
         self.denying: set = set()
         self.set_apart()
@@ -130,7 +144,7 @@ class Client:
                 self.calling.release()
         CLIENTS.discard(self)
         with self.changed:
-            self.fault = self.fault or ConnectionError("the client is closed")
+            self.fault = self.fault or ConnectionError("the client is closed: connect anew")
             if self.connection:
                 self.connection.end()
             self.session.end((Refusal(EXPIRED), None))
@@ -192,10 +206,13 @@ class Client:
         return connection
 
     def welcomed(self, connection: Connection, greeting: bytes, server: str) -> tuple:
-        connection.send(greeting)
-        block = connection.next(CONNECTING)
+        try:
+            connection.send(greeting)
+            block = connection.next(CONNECTING)
+        except OSError as why:
+            raise ConnectionError(f"{server} gives no greeting: {why}: does it listen there, and by tls: or tcp: as this says?") from why
         if block is None:
-            raise ConnectionError("the server doesn't greet")
+            raise ConnectionError(f"{server} gives no greeting: does it listen there, and by tls: or tcp: as this says?")
         number, other, told = codec.read_welcome(block)
         if number is not None:
             self.denying.clear()
@@ -305,10 +322,16 @@ class Client:
             raise Refused(Refusal(IN_JEOPARDY))
 
     @staticmethod
-    def refuse(number: int, is_refused: bool) -> None:
+    def refuse(number: int, is_refused: bool, about: str) -> None:
         """Refuses what no server takes before it is sent: each such message would end the connection, until the session is lost."""
         if is_refused:
-            raise Refused(Refusal(number))
+            raise Refused(Refusal(number), None, about)
+
+    def check_content(self, content: bytes) -> None:
+        """Whether it may be a file's."""
+        if not isinstance(content, (bytes, bytearray, memoryview)):
+            raise TypeError(f"a content is bytes, not {type(content).__name__}: encode a text")
+        self.refuse(TOO_LARGE, len(content) > codec.CONTENT_LIMIT, f"{len(content):,} bytes, of {codec.CONTENT_LIMIT:,} at most")
 
     def call(self, body: bytes, only_reads: bool = False, handle: Optional[Handle] = None, name: Optional[str] = None, sequencer: Optional[bytes] = None) -> object:
         """Makes a call, again while it is refused for now; one that only reads also where its outcome got lost. Gives its result."""
@@ -337,7 +360,7 @@ class Client:
             self.changed.wait_for(lambda: waiting.ends)
             result, limit = waiting.ends
             if isinstance(result, Refusal):
-                raise Refused(result, limit)
+                raise Refused(result, limit, handle.name if handle else name)
             if isinstance(result, Exception):
                 raise result
             return result, waiting.number
@@ -345,10 +368,11 @@ class Client:
     def open(self, name: str, mode: str = "r", make: Optional[bytes] = None, directory: bool = False, must: bool = False,
              ephemeral: bool = False, acls: Optional[tuple] = None, events: str = "", delay: int = 0) -> Handle:
         """Opens a node; one that isn't there is made with the content `make`, or as a `directory`. With `must` it may not be there."""
-        self.refuse(BAD_NAME, not codec.is_name(name) or not all(map(codec.is_component, acls or ())))
-        self.refuse(TOO_LARGE, len(make or b"") > codec.CONTENT_LIMIT)
-        letters = sum(MODES[letter] for letter in mode)
-        told = sum(EVENT_LETTERS[letter] for letter in events)
+        self.refuse(BAD_NAME, not codec.is_name(name), f"{name}: it is /ls/CELL and components of 1 to 64 of a-z 0-9 . _ -")
+        self.refuse(BAD_NAME, not all(map(codec.is_component, acls or ())), f"{acls}: each is the last component of an ACL's name")
+        self.check_content(make or b"")
+        letters = read_letters("mode", mode, MODES)
+        told = read_letters("events", events, EVENT_LETTERS)
         makes = make is not None or directory
         if not must:
             try:
@@ -365,9 +389,12 @@ class Client:
                 self.tell(self.session.note(now()))
                 is_served, view = self.session.cached(now(), name)
             if is_served and view is None:
-                raise Refused(Refusal(NOT_FOUND))
+                raise Refused(Refusal(NOT_FOUND), None, name)
         body = codec.opening(name, mode, made, delay, events)
-        opened, number = self.call_numbered(body, False, None, name if made is None else None, None)
+        try:
+            opened, number = self.call_numbered(body, False, None, name if made is None else None, None)
+        except Refused as why:
+            raise Refused(why.refusal, why.limit, name) from None
         return Handle(name, opened.handle, opened.instance, number, bool(mode & 1))
 
     def read(self, handle: Handle) -> View:
@@ -387,7 +414,7 @@ class Client:
         if not handle.served:
             return self.call(codec.on_handle(kind, handle.content), True, handle)
         if view is None or view.instance != handle.instance:
-            raise Refused(Refusal(STALE_INSTANCE))
+            raise Refused(Refusal(STALE_INSTANCE), None, handle.name)
         return view
 
     def stat(self, handle: Handle) -> NodeStat:
@@ -395,7 +422,7 @@ class Client:
 
     def set(self, handle: Handle, content: bytes, generation: Optional[int] = None) -> None:
         """A new content; with a generation only where the node has that one."""
-        self.refuse(TOO_LARGE, len(content) > codec.CONTENT_LIMIT)
+        self.check_content(content)
         rest = codec.sized(content) + codec.optional(None if generation is None else codec.word(generation))
         self.call(codec.on_handle(codec.SET, handle.content, rest), handle=handle)
 
@@ -424,11 +451,14 @@ class Client:
 
     def set_sequencer(self, handle: Handle, sequencer: bytes) -> None:
         """The handle's later calls stand under this sequencer, and the cache answers none of them."""
-        self.refuse(BAD_SEQUENCER, len(sequencer) > codec.SEQUENCER_LIMIT)
+        self.refuse(BAD_SEQUENCER, len(sequencer) > codec.SEQUENCER_LIMIT, NO_SEQUENCER)
         self.call(codec.on_handle(codec.SET_SEQUENCER, handle.content), handle=handle, sequencer=sequencer)
         handle.sequencer = sequencer
 
     def check_sequencer(self, sequencer: bytes) -> None:
         """Refused as SequencerStale where it isn't valid any more."""
-        self.refuse(BAD_SEQUENCER, len(sequencer) > codec.SEQUENCER_LIMIT)
-        self.call(bytes([codec.CHECK_SEQUENCER]) + codec.sized(sequencer), True)
+        self.refuse(BAD_SEQUENCER, len(sequencer) > codec.SEQUENCER_LIMIT, NO_SEQUENCER)
+        try:
+            self.call(bytes([codec.CHECK_SEQUENCER]) + codec.sized(sequencer), True)
+        except Refused as why:
+            raise Refused(why.refusal, why.limit, NO_SEQUENCER if why.refusal.number == BAD_SEQUENCER else None) from None

@@ -16,7 +16,7 @@ REFUSALS = (
     "NoMemory BadName OtherCell BadPrincipal BadAcl NotFound Exists WrongKind NotEmpty Denied WrongGeneration TooLarge Exhausted "
     "StaleInstance StoreRefused StoreDamaged BadHandle BadSequencer NoSession BadAck Repeat Busy Held Delayed NotHolder SequencerStale "
     "DelayTooLong OldEpoch Recovering InJeopardy SessionExpired Poisoned CallOutstanding Unknown ProtocolFault UnfairClock "
-    "NoSuchMessage MasterDown MasterUp WatchFull PassMissing ReceiptApart"
+    "NoSuchMessage MasterDown MasterUp WatchFull PassMissing ReceiptApart NoRoom"
 ).split()
 TURNED_AWAY = (
     "the greeting wasn't understood",
@@ -262,7 +262,7 @@ def read_refusal(fields: Fields) -> Refusal:
     words = {8: ("file", "dir"), 10: ("read", "write", "change"), 23: ("x", "s")}.get(number)
     if words:
         return Refusal(number, words[fields.choice(len(words))])
-    return Refusal(number, fields.word() if number in (11, 20, 24, 28, 41, 42) else None)
+    return Refusal(number, fields.word() if number in (11, 20, 24, 28, 41, 42, 43) else None)
 
 
 def read_event(fields: Fields) -> Event:

@@ -15,7 +15,7 @@ WRITING = 10.0
 ANSWER_PAUSES = 200, 10_000
 PACE = 20
 KEPT_LONG = 20_000
-# So long after the end of its lease a client of several servers waits for an answer before it tries another.
+# How long after the end of its lease a client of several servers waits for an answer before it tries another.
 SILENCE = 3_000
 
 
@@ -25,10 +25,25 @@ def kind_of(server: str) -> str:
     return kind if kind in ("unix", "tls") else "tcp"
 
 
+def place_of(server: str) -> tuple:
+    """Host and port of a server; without a host it is loopback. Empty of a word that is no address."""
+    host, _, port = server.removeprefix("tls:").removeprefix("tcp:").rpartition(":")
+    is_port = port.isascii() and port.isdigit() and int(port) < 65536
+    return (host.strip("[]") or "127.0.0.1", int(port)) if is_port else ()
+
+
+def check_address(server: str, tls: Optional[ssl.SSLContext]) -> None:
+    """Whether it is an address, and this client has what that wants."""
+    if not place_of(server) and not (kind_of(server) == "unix" and server != "unix:"):
+        raise ValueError(f"{server}: a server is unix:PATH, tls:HOST:PORT, tcp:HOST:PORT or HOST:PORT")
+    if kind_of(server) == "tls" and tls is None:
+        raise ValueError(f"{server}: tls= wants an ssl.SSLContext, with a certificate and the server's authority")
+
+
 def is_followed(told: str, present: str) -> bool:
     """Whether a client that trusts the present server goes where that one sends it: to another that is reached in the same way. One that
     knows its servers by TLS would give itself away over TCP."""
-    return kind_of(told) == kind_of(present) != "unix"
+    return kind_of(told) == kind_of(present) != "unix" and bool(place_of(told))
 
 
 class Schedule:
@@ -69,23 +84,41 @@ class Connection:
     """Blocks over a stream, each after its length in four bytes."""
 
     def __init__(self, server: str, tls: Optional[ssl.SSLContext]):
-        kind, place = kind_of(server), server.removeprefix("unix:").removeprefix("tls:").removeprefix("tcp:")
-        if kind == "unix":
-            self.stream = socket.socket(socket.AF_UNIX)
-            self.stream.settimeout(WRITING)
-            self.stream.connect(place)
-        else:
-            host, _, port = place.rpartition(":")
-            host = host.strip("[]") or "127.0.0.1"
-            self.stream = socket.create_connection((host, int(port)), CONNECTING)
-            self.stream.settimeout(WRITING)
-            self.stream.setsockopt(socket.IPPROTO_TCP, socket.TCP_NODELAY, 1)
-            if kind == "tls":
-                self.stream = tls.wrap_socket(self.stream, server_hostname="localhost" if host in ("127.0.0.1", "::1") else host)
+        try:
+            self.stream = self.connected(server)
+        except OSError as why:
+            raise ConnectionError(f"{server}: {why}: is tillermossd running there?") from why
+        self.stream.settimeout(WRITING)
+        if kind_of(server) == "tls":
+            self.encrypt(server, tls)
         self.held, self.using = bytearray(), threading.Lock()
         # (it takes descriptors above 1,023 too, which `select` doesn't)
         self.watched = select.poll()
         self.watched.register(self.stream, select.POLLIN)
+
+    @staticmethod
+    def connected(server: str) -> socket.socket:
+        if kind_of(server) == "unix":
+            stream = socket.socket(socket.AF_UNIX)
+            stream.settimeout(WRITING)
+            try:
+                stream.connect(server.removeprefix("unix:"))
+            except OSError:
+                stream.close()
+                raise
+            return stream
+        stream = socket.create_connection(place_of(server), CONNECTING)
+        stream.setsockopt(socket.IPPROTO_TCP, socket.TCP_NODELAY, 1)
+        return stream
+
+    def encrypt(self, server: str, tls: ssl.SSLContext) -> None:
+        host, _ = place_of(server)
+        try:
+            self.stream = tls.wrap_socket(self.stream, server_hostname="localhost" if host in ("127.0.0.1", "::1") else host)
+        except OSError as why:
+            self.stream.close()
+            cure = "tls= has to trust the server's authority, and to show a certificate that the server takes"
+            raise ConnectionError(f"{server}: {why}: {cure}") from why
 
     def send(self, block: bytes) -> None:
         with self.using:

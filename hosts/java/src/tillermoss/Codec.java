@@ -239,7 +239,7 @@ final class Codec {
             case 8 -> new Refusal(number, 0, List.of("file", "dir").get(in.choice(2)));
             case 10 -> new Refusal(number, 0, List.of("read", "write", "change").get(in.choice(3)));
             case 23 -> new Refusal(number, 0, List.of("x", "s").get(in.choice(2)));
-            case 11, 20, 24, 28, 41, 42 -> {
+            case 11, 20, 24, 28, 41, 42, 43 -> {
                 long argument = in.word();
                 yield new Refusal(number, argument, Long.toUnsignedString(argument));
             }

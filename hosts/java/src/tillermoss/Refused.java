@@ -29,13 +29,15 @@ public final class Refused extends RuntimeException {
             SESSION_EXPIRED = 31,
             POISONED = 32,
             UNKNOWN = 34,
-            PROTOCOL_FAULT = 35;
+            PROTOCOL_FAULT = 35,
+            NO_ROOM = 43;
 
     static final String[] NAMES =
             ("NoMemory BadName OtherCell BadPrincipal BadAcl NotFound Exists WrongKind NotEmpty Denied WrongGeneration TooLarge Exhausted "
                             + "StaleInstance StoreRefused StoreDamaged BadHandle BadSequencer NoSession BadAck Repeat Busy Held Delayed "
                             + "NotHolder SequencerStale DelayTooLong OldEpoch Recovering InJeopardy SessionExpired Poisoned CallOutstanding "
-                            + "Unknown ProtocolFault UnfairClock NoSuchMessage MasterDown MasterUp WatchFull PassMissing ReceiptApart")
+                            + "Unknown ProtocolFault UnfairClock NoSuchMessage MasterDown MasterUp WatchFull PassMissing ReceiptApart "
+                            + "NoRoom")
                     .split(" ");
 
     private final Refusal refusal;
@@ -61,7 +63,7 @@ public final class Refused extends RuntimeException {
         return NAMES[refusal.number() - 1];
     }
 
-    /** The argument of a refusal that has a number as one: the present generation, the milliseconds that are left. */
+    /** The argument of a refusal that has a number as one: the present generation, the milliseconds that are left, the limit that leaves no room. */
     public long argument() {
         return refusal.argument();
     }

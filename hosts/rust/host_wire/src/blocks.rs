@@ -1,4 +1,4 @@
-//! Blocks of bytes in a stream, each behind its length.
+//! Blocks of bytes in a stream, each after its length.
 
 use std::io::{self, ErrorKind, Read, Write};
 use tokio::io::{AsyncRead, AsyncReadExt};
@@ -6,7 +6,7 @@ use tokio::io::{AsyncRead, AsyncReadExt};
 /// How many bytes are read at once, at least and at most.
 const READ_SIZES: (usize, usize) = (512, 0x1_0000);
 
-/// So much room is kept while nothing comes.
+/// How much room is kept while nothing comes.
 const KEPT: usize = 4096;
 
 /// Writes one block, in one write where the stream takes it: its length in four bytes, big-endian, and then its bytes.
@@ -19,7 +19,7 @@ pub fn write_block(stream: &mut impl Write, block: &[u8]) -> io::Result<()> {
     stream.flush()
 }
 
-/// A block behind its length, as it goes over a stream.
+/// A block after its length, as it goes over a stream.
 ///
 /// # Errors
 ///
@@ -30,7 +30,7 @@ pub fn framed(block: &[u8]) -> io::Result<Vec<u8>> {
     Ok(bytes)
 }
 
-/// Puts a block and its length behind others.
+/// Puts a block and its length after others.
 ///
 /// # Errors
 ///
@@ -166,7 +166,7 @@ impl Blocks {
         Ok(block)
     }
 
-    // So many bytes were read into the room; whether the stream goes on.
+    // How many bytes were read into the room; whether the stream goes on.
     fn came(&mut self, read: usize) -> io::Result<bool> {
         self.end += read;
         if read == 0 && self.begin != self.end {

@@ -8,7 +8,7 @@
 //! version   = 01
 //! ```
 //!
-//! A client and a token are words, a principal is bytes behind their length in four, a reason is one byte. A token is shown to
+//! A client and a token are words, a principal is bytes after their length in four, a reason is one byte. A token is shown to
 //! the client that was given the number and to nobody else: who has it may take the number up again.
 
 use crate::components::is_component;

@@ -1,11 +1,13 @@
 //! What a server shows by TLS, and whom it trusts; and handshakes, on threads of their own.
 
-use crate::trust::{show_by, trust, why};
+use crate::trust::{common_name, show_by, trust, why};
 use openssl::ssl::{Ssl, SslAcceptor, SslContext, SslMethod, SslOptions, SslSessionCacheMode, SslVerifyMode};
 use openssl::x509::X509Name;
+use std::fmt::{self, Debug, Formatter};
 use std::io;
 use std::path::Path;
 use std::pin::Pin;
+use std::sync::{PoisonError, RwLock};
 use std::time::Duration;
 use tokio::io::{AsyncReadExt, AsyncWriteExt};
 use tokio::net::TcpStream;
@@ -17,7 +19,7 @@ use tokio_openssl::SslStream;
 /// Handshakes are made by so many threads, which do nothing else: what strangers cost there they take from each other.
 const THREADS: usize = 2;
 
-/// So long who made none that succeeded may take to hear why.
+/// How long who made none that succeeded may take to hear why.
 const PARTING: Duration = Duration::from_millis(500);
 
 /// Whose certificates a server takes.
@@ -52,6 +54,47 @@ pub fn server_config(certificate: &Path, own_key: &Path, clients: Option<Trusted
     acceptor.set_session_cache_mode(SslSessionCacheMode::OFF);
     acceptor.set_options(SslOptions::NO_TICKET | SslOptions::NO_RENEGOTIATION);
     Ok(acceptor.build().into_context())
+}
+
+/// What a server shows by TLS, as it was last read, and who makes the handshakes with those who come.
+pub struct Certificates {
+    context: RwLock<SslContext>,
+    handshakes: Handshakes,
+}
+
+impl Debug for Certificates {
+    fn fmt(&self, out: &mut Formatter<'_>) -> fmt::Result {
+        out.write_str("Certificates")
+    }
+}
+
+impl Certificates {
+    /// These, of which nothing was shown yet.
+    ///
+    /// # Errors
+    ///
+    /// Where no threads can be started.
+    pub fn new(context: SslContext) -> io::Result<Certificates> {
+        Ok(Certificates { context: RwLock::new(context), handshakes: Handshakes::new()? })
+    }
+
+    /// From here on these are shown.
+    pub fn renew(&self, context: SslContext) {
+        *self.context.write().unwrap_or_else(PoisonError::into_inner) = context;
+    }
+
+    /// The handshake with who has connected; and the common name of the certificate that was shown, which is empty if it has none.
+    ///
+    /// # Errors
+    ///
+    /// Where the other end goes, or isn't let in.
+    pub async fn greet(&self, stream: TcpStream) -> io::Result<(SslStream<TcpStream>, Option<String>)> {
+        stream.set_nodelay(true)?;
+        let context = self.context.read().unwrap_or_else(PoisonError::into_inner).clone();
+        let stream = self.handshakes.make(&context, stream).await?;
+        let shown = stream.ssl().peer_certificate().map(|certificate| common_name(&certificate).unwrap_or_default());
+        Ok((stream, shown))
+    }
 }
 
 /// The threads that make handshakes.

@@ -93,7 +93,7 @@ pub enum Printed<'a> {
     Other,
 }
 
-/// A node as it is seen behind a change.
+/// A node as it is seen after a change.
 #[derive(Clone, Copy, Debug, PartialEq, Eq)]
 pub struct Put<'a> {
     /// Where it is.
@@ -230,7 +230,7 @@ mod tests {
     use super::*;
     use crate::library::SaidParts;
     use crate::library::tests::named;
-    use crate::said::Answer;
+    use crate::said::MasterAnswer;
 
     const BLOCK: [u8; 12] = [0; 12];
 
@@ -277,7 +277,7 @@ mod tests {
     fn all_else_is_told_by_its_parts() {
         let of = |what| HeardParts { what, client: 7, fault: 5, moment: 9, ..HeardParts::default() };
         let said = SaidParts { what: 4, fault: 28, client: 7, number: 5, ..SaidParts::default() };
-        let answer = Said { client: 7, number: 5, answer: Answer::Refused(28) };
+        let answer = Said { client: 7, number: 5, answer: MasterAnswer::Refused(28) };
         let rows = [
             (HeardParts { said, ..of(2) }, Told::Message(7, answer, &BLOCK[MESSAGE_AT..])),
             (of(3), Told::Bad(5)),

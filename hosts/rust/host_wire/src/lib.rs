@@ -1,6 +1,6 @@
 //! What a host's server and its clients say to each other over a stream of bytes.
 //!
-//! A stream is blocks, each behind its length in four bytes, big-endian. The first block each way greets: the client says who it
+//! A stream is blocks, each after its length in four bytes, big-endian. The first block each way greets: the client says who it
 //! is ([`Hello`]), the server which number the connection is bound to ([`Welcome`]). Every later block is one message between
 //! client and master, and what a master and its server say to each other are blocks too: their bytes the library of `crates/server_exports` knows alone. A
 //! server that doesn't hand a call on says why ([`Notice`]).
@@ -33,7 +33,7 @@ pub use greetings::{GREETING_LIMIT, Hello, Malformed, TurnedAway, Welcome};
 pub use heard::{Frame, Heard, Locked, Printed, Put, Text, Told};
 pub use notices::Notice;
 pub use refusals::refusal_name;
-pub use said::{Answer, Said, write_store_refused};
+pub use said::{MasterAnswer, Said, write_store_refused};
 pub use shown::{LockShown, NodeShown, RecoveryShown, SessionShown, Shown, Status, WaitShown};
 
 /// The longest block that a client sends, in bytes: a frame that carries it to the master has at most 1,048,576, ten of them

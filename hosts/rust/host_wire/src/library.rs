@@ -366,7 +366,7 @@ pub fn rows_refused() -> Option<Vec<u8>> {
 pub struct Name([u8; NAME_ROOM]);
 
 impl Name {
-    /// So many bytes of it, where they are a text and fitted.
+    /// How many bytes of it, where they are a text and fitted.
     #[must_use]
     pub fn text(&self, length: u64) -> Option<&str> {
         let bytes = self.0.get(..usize::try_from(length).ok()?)?;

@@ -7,10 +7,10 @@ use tokio::sync::Notify;
 
 /// Those that are there, in the order in which they came.
 #[derive(Debug, Default)]
-pub struct Lobby(Mutex<State>);
+pub struct Lobby(Mutex<LobbyState>);
 
 #[derive(Debug, Default)]
-struct State {
+struct LobbyState {
     last: u64,
     waiting: BTreeMap<u64, Arc<Notify>>,
 }

@@ -1,4 +1,4 @@
-//! What a server says by itself to a client behind the greeting: that it doesn't hand a call on to the master, and why; or that another
+//! What a server says by itself to a client after the greeting: that it doesn't hand a call on to the master, and why; or that another
 //! master is up.
 
 use crate::fields::Fields;

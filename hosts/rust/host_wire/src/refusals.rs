@@ -44,6 +44,7 @@ const NAMES: &[&str] = &[
     "WatchFull",
     "PassMissing",
     "ReceiptApart",
+    "NoRoom",
 ];
 
 /// The name of the refusal of this number; `other` where it has none here.

@@ -107,7 +107,7 @@ impl Question {
     }
 }
 
-// So many edits, each where the one before it ends.
+// How many edits, each where the one before it ends.
 fn edits_of(mut bytes: &[u8], count: u64) -> Option<Vec<Edit>> {
     let (mut edits, mut room) = (Vec::new(), vec![0; 0x1_0000]);
     for _ in 0..count {

@@ -15,12 +15,12 @@ pub struct Said {
     /// The number of the client's message that it answers.
     pub number: u64,
     /// What is said of that.
-    pub answer: Answer,
+    pub answer: MasterAnswer,
 }
 
 /// What is said of a client's message. Refusals are numbers, as `docs/FORMATS.md` has them.
 #[derive(Clone, Copy, Debug, PartialEq, Eq)]
-pub enum Answer {
+pub enum MasterAnswer {
     /// The session has begun, and has a lease of so long.
     Started(Duration),
     /// The session goes on for so long; and whether that comes with invalidations or events, which the next Beat acknowledges.
@@ -44,10 +44,10 @@ impl Said {
         let SaidParts { what, fault, client, number, span, brings, .. } = parts;
         let span = Duration::from_millis(span);
         let answer = match what {
-            STARTED => Answer::Started(span),
-            ALIVE => Answer::Alive(span, brings == 1),
-            REPLY => Answer::Reply(Some(fault).filter(|fault| *fault > 0)),
-            REFUSED => Answer::Refused(fault),
+            STARTED => MasterAnswer::Started(span),
+            ALIVE => MasterAnswer::Alive(span, brings == 1),
+            REPLY => MasterAnswer::Reply(Some(fault).filter(|fault| *fault > 0)),
+            REFUSED => MasterAnswer::Refused(fault),
             _ => return None,
         };
         Some(Said { client, number, answer })
@@ -56,7 +56,7 @@ impl Said {
     /// Whether it says that another master is up.
     #[must_use]
     pub fn is_of_old_epoch(&self) -> bool {
-        self.answer == Answer::Refused(OLD_EPOCH)
+        self.answer == MasterAnswer::Refused(OLD_EPOCH)
     }
 }
 
@@ -75,26 +75,26 @@ mod tests {
         let parts = |what, fault, brings| SaidParts { what, fault, brings, client: 7, epoch: 2, number: 5, span: 12_000 };
         let span = Duration::from_millis(12_000);
         let rows = [
-            (parts(1, 0, 0), Some(Answer::Started(span))),
-            (parts(2, 0, 0), Some(Answer::Alive(span, false))),
-            (parts(2, 0, 1), Some(Answer::Alive(span, true))),
-            (parts(3, 0, 0), Some(Answer::Reply(None))),
-            (parts(3, 15, 0), Some(Answer::Reply(Some(15)))),
-            (parts(4, 28, 0), Some(Answer::Refused(28))),
-            (parts(4, 29, 0), Some(Answer::Refused(29))),
+            (parts(1, 0, 0), Some(MasterAnswer::Started(span))),
+            (parts(2, 0, 0), Some(MasterAnswer::Alive(span, false))),
+            (parts(2, 0, 1), Some(MasterAnswer::Alive(span, true))),
+            (parts(3, 0, 0), Some(MasterAnswer::Reply(None))),
+            (parts(3, 15, 0), Some(MasterAnswer::Reply(Some(15)))),
+            (parts(4, 28, 0), Some(MasterAnswer::Refused(28))),
+            (parts(4, 29, 0), Some(MasterAnswer::Refused(29))),
             (parts(0, 0, 0), None),
         ];
         for (parts, answer) in rows {
             let said = answer.map(|answer| Said { client: 7, number: 5, answer });
             assert_eq!(Said::of(parts), said, "{parts:?}");
-            assert_eq!(said.is_some_and(|said| said.is_of_old_epoch()), answer == Some(Answer::Refused(28)));
+            assert_eq!(said.is_some_and(|said| said.is_of_old_epoch()), answer == Some(MasterAnswer::Refused(28)));
         }
     }
 
     #[test]
     fn a_reply_that_the_store_refused_is_read_as_it_was_written() {
         let said = |client| write_store_refused(client, 2, 5).map(|bytes| Said::read(&bytes));
-        assert_eq!(said(7), Some(Some(Said { client: 7, number: 5, answer: Answer::Reply(Some(15)) })));
+        assert_eq!(said(7), Some(Some(Said { client: 7, number: 5, answer: MasterAnswer::Reply(Some(15)) })));
         assert_eq!((said(0), Said::read(b""), Said::read(b"said")), (None, None, None));
     }
 }

@@ -43,7 +43,7 @@ pub struct RecoveryShown {
     pub waits_for: Vec<SessionShown>,
     /// How many these are.
     pub count: usize,
-    /// So many milliseconds it lasts at most: then their sessions end.
+    /// How many milliseconds it lasts at most: then their sessions end.
     pub left: u64,
 }
 
@@ -56,7 +56,7 @@ pub struct SessionShown {
     pub principal: String,
     /// Whether it has a connection.
     pub is_connected: bool,
-    /// So many milliseconds its last lease still runs, 0 where it has ended; None where this server gave none.
+    /// How many milliseconds its last lease still runs, 0 where it has ended; None where this server gave none.
     pub lease_left: Option<u64>,
 }
 

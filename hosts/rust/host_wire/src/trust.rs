@@ -16,10 +16,10 @@ use std::os::unix::ffi::OsStrExt;
 use std::path::Path;
 use std::ptr;
 
-/// So many authorities stand between a certificate that is shown and one that is trusted, at most.
+/// How many authorities stand between a certificate that is shown and one that is trusted, at most.
 const DEPTH: u32 = 4;
 
-/// So many bytes have the certificates in all that the other end shows, at most: those of five with keys of 4,096 bits.
+/// How many bytes have the certificates in all that the other end shows, at most: those of five with keys of 4,096 bits.
 const CHAIN: c_long = 16_384;
 
 /// What `SSL_CTX_set_max_cert_list` of OpenSSL's `ssl.h` stands for.
@@ -32,8 +32,8 @@ fn fault(text: String) -> io::Error {
     io::Error::new(ErrorKind::InvalidInput, text)
 }
 
-fn read(path: &Path) -> io::Result<Vec<u8>> {
-    fs::read(path).map_err(|error| io::Error::new(error.kind(), format!("reading {}: {error}", path.display())))
+fn read(path: &Path, what: &str) -> io::Result<Vec<u8>> {
+    fs::read(path).map_err(|error| fault(format!("{} has to be a file with {what} in PEM: {error}", path.display())))
 }
 
 /// The certificates of a file in PEM, of which there is one at least.
@@ -42,11 +42,11 @@ fn read(path: &Path) -> io::Result<Vec<u8>> {
 ///
 /// Where it can't be read, or has none.
 pub fn certificates(path: &Path) -> io::Result<Vec<X509>> {
-    let found = X509::stack_from_pem(&read(path)?).map_err(|error| fault(format!("{}: {error}", path.display())))?;
-    if found.is_empty() { Err(fault(format!("{} has no certificate", path.display()))) } else { Ok(found) }
+    let found = X509::stack_from_pem(&read(path, "a certificate")?).map_err(|error| fault(format!("{}: {error}", path.display())))?;
+    if found.is_empty() { Err(fault(format!("{} has no certificate in PEM", path.display()))) } else { Ok(found) }
 }
 
-/// Shows itself by the first certificate of a file, with those behind it as the authorities between, and by its key.
+/// Shows itself by the first certificate of a file, with those after it as the authorities between, and by its key.
 ///
 /// # Errors
 ///
@@ -54,8 +54,8 @@ pub fn certificates(path: &Path) -> io::Result<Vec<X509>> {
 pub fn show_by(context: &mut SslContextBuilder, certificate: &Path, key: &Path) -> io::Result<()> {
     let mut chain = certificates(certificate)?.into_iter();
     // (a key that wants a word is none: nobody is there to be asked for it)
-    let own_key =
-        PKey::private_key_from_pem_callback(&read(key)?, |_| Ok(0)).map_err(|_| fault(format!("{} has no key", key.display())))?;
+    let own_key = PKey::private_key_from_pem_callback(&read(key, "a key")?, |_| Ok(0))
+        .map_err(|_| fault(format!("{} has no key in PEM", key.display())))?;
     let mut show = || -> Result<(), ErrorStack> {
         chain.next().iter().try_for_each(|own| context.set_certificate(own))?;
         chain.try_for_each(|authority| context.add_extra_chain_cert(authority))?;
@@ -92,7 +92,7 @@ pub fn trust(context: &mut SslContextBuilder, authorities: &Path, revoked: Optio
 fn add_lists(store: &mut X509StoreBuilder, lists: &Path) -> io::Result<()> {
     let none = || fault(format!("{} has no lists of revoked certificates, or something else too", lists.display()));
     // (a certificate there would be trusted)
-    if String::from_utf8_lossy(&read(lists)?).contains("CERTIFICATE-----") {
+    if String::from_utf8_lossy(&read(lists, "lists of revoked certificates")?).contains("CERTIFICATE-----") {
         return Err(none());
     }
     let path = CString::new(lists.as_os_str().as_bytes())?;

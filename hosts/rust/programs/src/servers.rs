@@ -20,7 +20,7 @@ pub enum Kill {
     Server,
 }
 
-/// So long a server may take to say what is waited for, where it says it into a file.
+/// How long a server may take to say what is waited for, where it says it into a file.
 const SAYING: Duration = Duration::from_secs(60);
 
 /// A server that runs.
@@ -178,7 +178,7 @@ impl Start {
         self.megabytes.and_then(|_| Some(self.store.parent()?.to_owned()))
     }
 
-    // The command that another one goes behind.
+    // The command that another one goes after.
     fn inside(&self) -> Command {
         let (Some(disk), Some(megabytes)) = (self.disk(), self.megabytes) else {
             return Command::new(program("tillermossd"));

@@ -7,16 +7,16 @@ use crate::operating::{answers, backup, end, locks, sessions, status_of};
 use crate::output::write;
 use crate::waiting::Waiting;
 use crate::watching::watch;
-use crate::words::{Output, Reach, Verb, Words};
+use crate::words::{Output, Target, Verb, Words};
 use clap::CommandFactory;
 use host_wire::is_name;
-use tillermoss::{Admin, Client, Error};
+use tillermoss::{Client, Error};
 
 /// Who asks: where, and how answers are printed.
 pub struct Asker<'a> {
     words: &'a Words,
     /// Where the server is, for whom it is asked, and whose names are short.
-    pub reach: &'a Reach,
+    pub reach: &'a Target,
     /// How answers are printed.
     pub output: Output,
 }
@@ -58,10 +58,6 @@ impl Asker<'_> {
         }
         Ok(status)
     }
-
-    fn operators(&self) -> Result<Admin, Fault> {
-        self.reach.operators()?.ok_or(Fault::Admin)
-    }
 }
 
 /// Does what the words ask for; gives the status.
@@ -95,16 +91,17 @@ pub fn run(words: &Words) -> Result<u8, Fault> {
 }
 
 fn operate(asker: &Asker<'_>, verb: &Verb) -> Result<(), Fault> {
-    match verb {
-        Verb::Sessions => sessions(&asker.operators()?, asker.output),
-        Verb::Locks => locks(&asker.operators()?, asker.output),
-        Verb::End { client, principal } => end(&asker.operators()?, asker.output, *client, principal.as_deref()),
-        Verb::Backup { file } => backup(&asker.operators()?, asker.output, file),
-        _ => match asker.reach.operators()? {
-            Some(admin) => status_of(&admin, asker.output),
-            None => answers(asker),
-        },
-    }
+    let Some(admin) = asker.reach.operators()? else {
+        return if matches!(verb, Verb::Status) { answers(asker) } else { Err(Fault::Admin) };
+    };
+    let done = match verb {
+        Verb::Sessions => sessions(&admin, asker.output),
+        Verb::Locks => locks(&admin, asker.output),
+        Verb::End { client, principal } => end(&admin, asker.output, *client, principal.as_deref()),
+        Verb::Backup { file } => backup(&admin, asker.output, file),
+        _ => status_of(&admin, asker.output),
+    };
+    done.map_err(Fault::at_operators)
 }
 
 fn completions(shell: clap_complete::Shell) -> Result<(), Fault> {

@@ -4,14 +4,15 @@ use crate::commands::Asker;
 use crate::faults::{Fault, at_making};
 use crate::input::read_input;
 use crate::output::{print, print_acl, print_content, print_json, print_names, print_stat, shown, write};
-use crate::words::{Acl, Output, Put};
+use crate::words::{Acl, Output, PutWords};
+use host_wire::is_component;
 use serde_json::json;
 use std::ffi::OsStr;
 use std::fs;
 use std::os::unix::ffi::OsStrExt;
 use tillermoss::{Client, Create, Error, Handle, Kind, Mode, Opening, Refusal, Stat, View};
 
-/// So often a file that comes, goes or is written meanwhile is tried to be written.
+/// How often a file that comes, goes or is written meanwhile is tried to be written.
 const TRIES: u32 = 10;
 
 /// Prints the content of a file.
@@ -143,7 +144,20 @@ pub fn acl(asker: &Asker<'_>, act: &Acl) -> Result<(), Fault> {
     }
 }
 
+// An ACL that isn't there lets nobody in.
+fn find_acl(client: &Client, file: String) -> Result<(), Fault> {
+    match client.open(&file, Mode::READ) {
+        Ok(found) => Ok(client.close(found)?),
+        Err(Error::Refused(Refusal::NotFound)) => Err(Fault::NoAcl(file)),
+        // (it is there, and others read it)
+        Err(Error::Refused(Refusal::Denied(_))) => Ok(()),
+        Err(error) => Err(error.into()),
+    }
+}
+
 fn change_acl(client: &Client, name: &str, wanted: &[Option<&str>; 3], generation: Option<u64>) -> Result<(), Fault> {
+    let cell = name.split('/').nth(2).unwrap_or_default();
+    wanted.iter().flatten().try_for_each(|acl| find_acl(client, format!("/ls/{cell}/acl/{acl}")))?;
     let node = client.open(name, Mode::CHANGE)?;
     let mut last = Refusal::WrongGeneration(0);
     for _ in 0..TRIES {
@@ -158,9 +172,12 @@ fn change_acl(client: &Client, name: &str, wanted: &[Option<&str>; 3], generatio
 }
 
 /// Writes the content of a file, and makes it where there is none.
-pub fn put(asker: &Asker<'_>, asked: &Put) -> Result<(), Fault> {
+pub fn put(asker: &Asker<'_>, asked: &PutWords) -> Result<(), Fault> {
     let content = content(asked)?;
     let name = asker.reach.whole(&asked.name);
+    if let Some(line) = other_line(&name, &content) {
+        return Err(Fault::AclLine(line));
+    }
     let client = asker.connect()?;
     let _waiting = asker.wait_by(&client);
     let is_told = asker.output == Output::Json;
@@ -178,8 +195,16 @@ pub fn put(asker: &Asker<'_>, asked: &Put) -> Result<(), Fault> {
     }
 }
 
-// The bytes that are to be written: those of the word, of the file that it names behind an @, or of the standard input.
-fn content(asked: &Put) -> Result<Vec<u8>, Fault> {
+// The first line of an ACL file's content that is no principal, by which the file would let nobody in, also nobody who could mend it.
+fn other_line(name: &str, content: &[u8]) -> Option<String> {
+    let is_acl_file = matches!(name.split('/').collect::<Vec<_>>()[..], ["", "ls", _, "acl", _]);
+    let text = String::from_utf8_lossy(content);
+    let mut lines = text.split_terminator('\n').filter(|_| is_acl_file);
+    lines.find(|line| !is_component(line)).map(str::to_owned)
+}
+
+// The bytes that are to be written: those of the word, of the file that it names after an @, or of the standard input.
+fn content(asked: &PutWords) -> Result<Vec<u8>, Fault> {
     match asked.content.as_deref().map(OsStr::as_bytes) {
         None | Some(b"-") => read_input(),
         Some([b'@', path @ ..]) => {
@@ -251,4 +276,29 @@ fn replace(client: &Client, name: &str, content: &[u8], wish: &Wish) -> Result<W
     let present = wish.generation.unwrap_or(content_generation);
     client.set(file, content, Some(present))?;
     Ok(Written { before, instance, generation: present + 1 })
+}
+
+#[cfg(test)]
+mod tests {
+    use super::*;
+
+    #[test]
+    fn an_acl_file_has_principals_alone() {
+        let rows: &[(&str, &[u8], Option<&str>)] = &[
+            ("/ls/c/acl/base", b"ann\nbob\n", None),
+            ("/ls/c/acl/base", b"ann\nbob", None),
+            ("/ls/c/acl/base", b"", None),
+            ("/ls/c/acl/base", b"ann bob\n", Some("ann bob")),
+            ("/ls/c/acl/base", b"ann\n\nbob\n", Some("")),
+            ("/ls/c/acl/base", b"ann\r\n", Some("ann\r")),
+            ("/ls/c/acl/base", b"Ann", Some("Ann")),
+            ("/ls/c/acl/base", b"ann\n\xff", Some("\u{fffd}")),
+            ("/ls/c/f", b"Ann", None),
+            ("/ls/c/d/acl/f", b"Ann", None),
+            ("/ls/c/acl/d/f", b"Ann", None),
+        ];
+        for (name, content, wanted) in rows {
+            assert_eq!(other_line(name, content).as_deref(), *wanted, "{name} {content:?}");
+        }
+    }
 }

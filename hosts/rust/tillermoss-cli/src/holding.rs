@@ -4,7 +4,7 @@ use crate::commands::Asker;
 use crate::faults::{Fault, at_making};
 use crate::output::{print, print_json, print_sequencer, say};
 use crate::running::{Command, Until, run, signals, wait_for};
-use crate::words::{Elect, Ending, Hold, Lock, Output};
+use crate::words::{Elect, Ending, Hold, LockWords, Output};
 use serde_json::json;
 use signal_hook::iterator::Signals;
 use std::os::unix::ffi::OsStrExt;
@@ -12,14 +12,14 @@ use std::thread;
 use std::time::{Duration, Instant};
 use tillermoss::{Client, Create, Error, Events, Handle, Life, LockMode, Mode, Opening, Refusal, Sequencer, Watch};
 
-/// So long until a file that is there is tried again to be made, where nothing was told of it.
+/// How long until a file that is there is tried again to be made, where nothing was told of it.
 const AGAIN: Duration = Duration::from_secs(1);
 
-/// So long until a lock is asked for again, by one who waits for a time.
+/// How long until a lock is asked for again, by one who waits for a time.
 const ASKING: Duration = Duration::from_millis(100);
 
 /// Waits for the lock of a file, runs the command, and lets the lock go; gives the command's status.
-pub fn lock(asker: &Asker<'_>, name: &str, asked: &Lock) -> Result<u8, Fault> {
+pub fn lock(asker: &Asker<'_>, name: &str, asked: &LockWords) -> Result<u8, Fault> {
     let client = &asker.connect()?;
     let mut signals = signals()?;
     let mode = if asked.shared { LockMode::Shared } else { LockMode::Exclusive };
@@ -121,7 +121,7 @@ fn announce(output: Output, asked: &Hold, word: &str, name: &str) -> Result<(), 
 enum Patience {
     /// Not at all.
     None,
-    /// So long.
+    /// How long.
     For(Duration),
     /// As long as it takes.
     Any,
@@ -152,6 +152,7 @@ fn take_in_time(client: &Client, held: Handle, mode: LockMode, most: Duration, s
     loop {
         match client.try_acquire(held, mode) {
             Err(Error::Refused(Refusal::Held(_) | Refusal::Delayed(_))) if begun.elapsed() < most => {}
+            Err(Error::Refused(refusal @ (Refusal::Held(_) | Refusal::Delayed(_)))) => return Err(Fault::Late(refusal)),
             result => return Ok(result?),
         }
         if let Some(signal) = signals.pending().next() {

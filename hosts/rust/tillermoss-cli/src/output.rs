@@ -22,7 +22,7 @@ pub fn write(bytes: &[u8]) -> io::Result<()> {
     out.flush()
 }
 
-/// Writes bytes, and a line feed behind them where their last is none.
+/// Writes bytes, and a line feed after them where their last is none.
 pub fn print(bytes: &[u8]) -> io::Result<()> {
     let mut line = bytes.to_vec();
     if !line.ends_with(b"\n") {

@@ -17,10 +17,10 @@ use std::thread;
 use std::time::Duration;
 use tillermoss::{Client, Error, Event, Handle, Refusal, Watch};
 
-/// So long between two looks at the command, the session and the signals.
+/// The time between two looks at the command, the session and the signals.
 pub const LOOK: Duration = Duration::from_millis(20);
 
-/// So long a command has to end behind SIGTERM where the session is lost.
+/// How long a command has to end after SIGTERM where the session is lost.
 const LAST: Duration = Duration::from_secs(2);
 
 /// The signals that end what is held, or are passed on to the command.

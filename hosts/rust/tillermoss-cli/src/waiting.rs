@@ -1,7 +1,7 @@
 //! Whom a command waits for, where that takes long.
 
 use crate::output::say;
-use crate::words::Reach;
+use crate::words::Target;
 use std::sync::Arc;
 use std::sync::atomic::{AtomicU64, Ordering};
 use std::sync::mpsc::{Receiver, RecvTimeoutError, Sender, TryRecvError, channel};
@@ -9,7 +9,7 @@ use std::thread;
 use std::time::Duration;
 use tillermoss::{Admin, Client, SessionShown, Shown};
 
-/// So long a command waits before it says for whom, and until it looks again.
+/// How long a command waits before it says for whom, and until it looks again.
 const AWHILE: Duration = Duration::from_secs(2);
 
 /// As long as it lives, something is waited for: after two seconds it is said on the standard error for whom, and again whenever that
@@ -21,7 +21,7 @@ pub struct Waiting {
 
 impl Waiting {
     /// From now on this verb waits for what it asks of these names.
-    pub fn begin(reach: &Reach, what: &str) -> Waiting {
+    pub fn begin(reach: &Target, what: &str) -> Waiting {
         let (done, is_done) = channel();
         let client = Arc::new(AtomicU64::new(0));
         // (without an address for operators it says what it knows by itself)
@@ -38,7 +38,7 @@ impl Waiting {
     }
 }
 
-/// So many of those that it waits for are named.
+/// How many of those that it waits for are named.
 const NAMED: usize = 10;
 
 fn follow(is_done: &Receiver<()>, client: &AtomicU64, admin: Option<&Admin>, server: &str, what: &str) {

@@ -15,7 +15,7 @@ pub fn watch(client: &Client, output: Output, name: &str, prev: bool, count: Opt
     let mut signals = signals()?;
     let watched = client.watch(name, Events::CONTENTS.and(Events::CHILDREN))?;
     let seen = client.read(watched.handle)?;
-    let mut teller = Teller { output, prev, left: count, name: name.to_owned(), seen };
+    let mut teller = ContentTeller { output, prev, left: count, name: name.to_owned(), seen };
     note(&format!("watching {name}"));
     while teller.left != Some(0) {
         let event = next(&watched.events, &mut signals)?;
@@ -40,7 +40,7 @@ fn next(events: &Receiver<Event>, signals: &mut Signals) -> Result<Event, Fault>
 }
 
 /// What was printed of a node, and how more is.
-struct Teller {
+struct ContentTeller {
     output: Output,
     prev: bool,
     left: Option<u64>,
@@ -48,7 +48,7 @@ struct Teller {
     seen: View,
 }
 
-impl Teller {
+impl ContentTeller {
     // Whether the node is still there.
     fn tell(&mut self, client: &Client, watched: &Watch, event: Event) -> Result<bool, Fault> {
         match event {

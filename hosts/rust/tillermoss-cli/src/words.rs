@@ -1,12 +1,13 @@
 //! The words of the command line.
 
-use clap::{Args, Parser, Subcommand, ValueEnum};
+use crate::faults::Fault;
+use clap::{ArgGroup, Args, Parser, Subcommand, ValueEnum};
 use std::ffi::OsString;
 use std::fs;
 use std::os::unix::net::UnixStream;
 use std::path::{Path, PathBuf};
 use std::time::Duration;
-use tillermoss::{Admin, Error, Options, own_principal};
+use tillermoss::{Admin, Options, own_principal};
 
 /// What stands behind the options and the commands.
 const STATUSES: &str = "\
@@ -44,7 +45,7 @@ const LONGEST_GRACE: u64 = 55;
 pub struct Words {
     /// Where the server is and for whom it is asked.
     #[command(flatten)]
-    pub reach: Reach,
+    pub reach: Target,
     /// How answers are printed.
     #[arg(short, long, global = true, value_enum, default_value_t = Output::Text, value_name = "FORM")]
     output: Output,
@@ -65,7 +66,7 @@ impl Words {
 
 /// Where the server is, for whom it is asked, and whose names are short.
 #[derive(Clone, Debug, Args)]
-pub struct Reach {
+pub struct Target {
     /// The server's address: unix:PATH, tls:HOST:PORT, tcp:HOST:PORT or HOST:PORT; of several servers of one cell all, between commas.
     /// Without it unix:/run/tillermoss/cell, where the service of this machine listens, else 127.0.0.1:7171
     #[arg(long, visible_alias = "servers", global = true, env = "TILLERMOSS_SERVER", value_name = "ADDRESS")]
@@ -82,8 +83,8 @@ pub struct Reach {
     /// At tls:, the authorities that sign the server's certificate, in PEM
     #[arg(long, global = true, env = "TILLERMOSS_CA", value_name = "FILE")]
     pub ca: Option<PathBuf>,
-    /// Where the server listens to operators: unix:PATH or tcp:HOST:PORT, for status, sessions, locks and backup. Without it that of the
-    /// service of this machine, where no --server is named
+    /// Where the server listens to operators: unix:PATH, tcp:HOST:PORT or tls:HOST:PORT, for status, sessions, locks, end and backup.
+    /// Without it that of the service of this machine, where no --server is named
     #[arg(long, global = true, env = "TILLERMOSS_ADMIN", value_name = "ADDRESS")]
     admin: Option<String>,
     /// Beyond this machine, a file with the token of operators
@@ -101,7 +102,7 @@ pub struct Reach {
 const SERVICE: &str = "/run/tillermoss/cell";
 const OPERATORS: &str = "/run/tillermoss/admin";
 
-impl Reach {
+impl Target {
     /// The server's address.
     pub fn server(&self) -> String {
         let service = || if Path::new(SERVICE).exists() { format!("unix:{SERVICE}") } else { "127.0.0.1:7171".to_owned() };
@@ -115,15 +116,20 @@ impl Reach {
     }
 
     /// The same, as what it is asked by; None where it isn't known.
-    pub fn operators(&self) -> Result<Option<Admin>, Error> {
-        let Some(admin) = self.admin() else {
+    pub fn operators(&self) -> Result<Option<Admin>, Fault> {
+        let Some(address) = self.admin() else {
             return Ok(None);
         };
-        let admin = Admin::new(&admin)?;
-        Ok(Some(match &self.admin_token {
-            Some(file) => admin.with_token(fs::read_to_string(file)?.trim()),
-            None => admin,
-        }))
+        let mut admin = Admin::new(&address).map_err(Fault::Operators)?;
+        if let Some(authority) = self.ca.as_ref().filter(|_| address.starts_with("tls:")) {
+            let own = self.cert.as_deref().zip(self.key.as_deref());
+            admin = admin.with_certificates(authority, own).map_err(Fault::Operators)?;
+        }
+        if let Some(file) = &self.admin_token {
+            let text = fs::read_to_string(file).map_err(|error| Fault::Token(file.clone(), error))?;
+            admin = admin.with_token(text.trim());
+        }
+        Ok(Some(admin))
     }
 
     /// How a client is connected.
@@ -163,7 +169,7 @@ pub enum Verb {
         /// The file; of several each content in its turn
         #[arg(required = true)]
         names: Vec<String>,
-        /// Prints the bytes as they are, with no line feed added behind them
+        /// Prints the bytes as they are, with no line feed added after them
         #[arg(long)]
         raw: bool,
     },
@@ -171,7 +177,7 @@ pub enum Verb {
     #[command(after_help = "\
 The whole content is written in one change. It waits until no client has the old one in its cache. With --json it prints the
 generation that the content has from then on.")]
-    Put(Put),
+    Put(PutWords),
     /// Lists the children of a directory, one a line
     Ls {
         /// The directory; without it the cell's root. Of several each stands behind its name and a colon
@@ -216,7 +222,7 @@ generation that the content has from then on.")]
     },
     /// Runs a command while it holds the lock of a file
     #[command(after_help = LOCKING)]
-    Lock(Lock),
+    Lock(LockWords),
     /// Waits to be elected, writes a value into the file, and runs a command while it is elected
     #[command(after_help = "\
 The candidates of an election name the same file, whose lock the elected one holds and whose content it writes; who asks for the
@@ -258,9 +264,9 @@ It first says on the standard error that it watches. Where two writes come close
     Locks,
     /// Ends a client, or all of a principal: they are cut off and come back no more, and their sessions end with their leases. Wants
     /// --admin unix:PATH
+    #[command(group(ArgGroup::new("whom").required(true).args(["client", "principal"])))]
     End {
         /// The number of the client, as sessions prints it
-        #[arg(required_unless_present = "principal", conflicts_with = "principal")]
         client: Option<u64>,
         /// All clients that act for this principal now
         #[arg(long)]
@@ -280,7 +286,7 @@ It first says on the standard error that it watches. Where two writes come close
 
 /// The words of a put.
 #[derive(Debug, Args)]
-pub struct Put {
+pub struct PutWords {
     /// The file
     pub name: String,
     /// The content; without it, and as -, what the standard input has; as @FILE what a file has
@@ -331,7 +337,7 @@ impl Acl {
 
 /// The words of a lock.
 #[derive(Debug, Args)]
-pub struct Lock {
+pub struct LockWords {
     /// The file
     pub name: String,
     /// Is refused where the lock is held, in place of waiting for it
@@ -351,10 +357,10 @@ pub struct Lock {
 /// What becomes of a command under a lock where the lease ends.
 #[derive(Clone, Copy, Debug, Args)]
 pub struct Ending {
-    /// So many seconds the command has after SIGTERM to end, before SIGKILL
+    /// How many seconds the command has after SIGTERM to end, before SIGKILL
     #[arg(long, default_value_t = 5, value_name = "SECONDS", value_parser = clap::value_parser!(u64).range(..=LONGEST_GRACE))]
     pub grace: u64,
-    /// So many milliseconds the lock stays closed where this program is lost while it holds it, at most 60000; by default as long as the
+    /// How many milliseconds the lock stays closed where this program is lost while it holds it, at most 60000; by default as long as the
     /// command may take to its end
     #[arg(long, value_name = "MILLISECONDS")]
     pub delay: Option<u64>,
@@ -370,7 +376,7 @@ pub struct Ending {
 }
 
 impl Ending {
-    /// So many milliseconds the lock stays closed. A client's lease ends before the master's view of it does; the grace is counted by the
+    /// How many milliseconds the lock stays closed. A client's lease ends before the master's view of it does; the grace is counted by the
     /// client's clock, which may go slower than the master's, 16 to 17; and a second is for what SIGKILL takes.
     pub fn lock_delay(&self) -> u64 {
         self.delay.unwrap_or(if self.keep_running { 0 } else { (1000 * self.grace * 17).div_ceil(16) + 1000 })
@@ -504,6 +510,8 @@ mod tests {
             "seek f",
             "--who a get f",
             "rm",
+            "end",
+            "end 1 --principal ann",
         ];
         for line in lines {
             let words = ["tillermoss"].into_iter().chain(line.split_whitespace());

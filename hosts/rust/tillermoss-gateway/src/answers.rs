@@ -1,6 +1,6 @@
 //! What is answered.
 
-use crate::faults::Fault;
+use crate::faults::HttpFault;
 use crate::shown;
 use bytes::Bytes;
 use hyper::header::{ALLOW, CACHE_CONTROL, CONTENT_LENGTH, CONTENT_TYPE, ETAG, HeaderName, HeaderValue, RETRY_AFTER, WWW_AUTHENTICATE};
@@ -9,7 +9,7 @@ use serde_json::Value;
 use std::time::Duration;
 use tillermoss::{Sight, Stat};
 
-/// So many milliseconds at most nobody changes what is answered unless the gateway hears of that first.
+/// How many milliseconds at most nobody changes what is answered unless the gateway hears of that first.
 const LEASE: HeaderName = HeaderName::from_static("tillermoss-lease");
 
 const SNIFF: HeaderName = HeaderName::from_static("x-content-type-options");
@@ -83,12 +83,12 @@ pub fn has_mark(named: Option<&HeaderValue>, stat: &Stat) -> bool {
 }
 
 /// Why nothing came of it.
-pub fn fault(fault: &Fault) -> Response<Body> {
+pub fn fault(fault: &HttpFault) -> Response<Body> {
     let mut response = json(fault.status(), &fault.shown());
     let headers = response.headers_mut();
     match fault {
-        Fault::BadMethod(allowed) => _ = headers.insert(ALLOW, HeaderValue::from_static(allowed)),
-        Fault::NoPrincipal => _ = headers.insert(WWW_AUTHENTICATE, HeaderValue::from_static("Bearer")),
+        HttpFault::BadMethod(allowed) => _ = headers.insert(ALLOW, HeaderValue::from_static(allowed)),
+        HttpFault::NoPrincipal => _ = headers.insert(WWW_AUTHENTICATE, HeaderValue::from_static("Bearer")),
         fault if fault.is_for_now() => _ = headers.insert(RETRY_AFTER, HeaderValue::from_static("1")),
         _ => {}
     }

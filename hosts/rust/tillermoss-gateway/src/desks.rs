@@ -1,7 +1,7 @@
 //! The clients by which a principal is acted for: one that reads, and some that write.
 
-use crate::faults::Fault;
-use crate::options::Options;
+use crate::faults::HttpFault;
+use crate::options::GatewayOptions;
 use crate::watches::Watches;
 use std::sync::atomic::{AtomicU64, Ordering};
 use std::sync::{Arc, Mutex, PoisonError, RwLock};
@@ -11,13 +11,13 @@ use tokio::sync::{Mutex as Turns, OwnedSemaphorePermit, Semaphore, oneshot};
 use tokio::task::spawn_blocking;
 use tokio::time::timeout;
 
-/// So many clients of a principal write at once.
+/// How many clients of a principal write at once.
 const WRITERS: usize = 4;
 
-/// So long between two looks whether the lease still runs, while an answer is waited for.
+/// The time between two looks whether the lease still runs, while an answer is waited for.
 const LOOK: Duration = Duration::from_millis(250);
 
-/// So long at most an answer of the cell is waited for: longer than a write waits for a client that is silent.
+/// How long at most an answer of the cell is waited for: longer than a write waits for a client that is silent.
 const LATEST: Duration = Duration::from_secs(100);
 
 /// What is done for one principal.
@@ -37,7 +37,7 @@ pub struct Desk {
 
 impl Desk {
     /// That of this principal; nothing is connected yet.
-    pub fn new(principal: &str, options: &Options) -> Desk {
+    pub fn new(principal: &str, options: &GatewayOptions) -> Desk {
         Desk {
             options: client_options(principal, options),
             reader: RwLock::default(),
@@ -60,7 +60,7 @@ impl Desk {
     }
 
     /// The client that reads; connected anew where it has lost its session.
-    pub async fn reader(&self) -> Result<Arc<Reader>, Fault> {
+    pub async fn reader(&self) -> Result<Arc<Reader>, HttpFault> {
         let live = || self.present().filter(|reader| !reader.is_lost());
         if let Some(reader) = live() {
             return Ok(reader);
@@ -89,7 +89,7 @@ impl Desk {
     }
 
     /// What a name shows at this moment, out of the cache or of the master.
-    pub async fn sight(&self, name: &str) -> Result<Sight, Fault> {
+    pub async fn sight(&self, name: &str) -> Result<Sight, HttpFault> {
         match self.hit(name) {
             Some(sight) => Ok(sight),
             None => {
@@ -99,12 +99,12 @@ impl Desk {
         }
     }
 
-    fn wait(&self) -> Result<OwnedSemaphorePermit, Fault> {
-        self.waiting.clone().try_acquire_owned().map_err(|_| Fault::TooMany("too many requests of this principal wait for the master"))
+    fn wait(&self) -> Result<OwnedSemaphorePermit, HttpFault> {
+        self.waiting.clone().try_acquire_owned().map_err(|_| HttpFault::TooMany("too many requests of this principal wait for the master"))
     }
 
     /// Asks by the client that reads. Where its lease has ended the answer is that, whatever it waits for.
-    pub async fn read<T: Send + 'static>(&self, ask: impl FnOnce(&Reader) -> Result<T, Error> + Send + 'static) -> Result<T, Fault> {
+    pub async fn read<T: Send + 'static>(&self, ask: impl FnOnce(&Reader) -> Result<T, Error> + Send + 'static) -> Result<T, HttpFault> {
         let waiting = self.wait()?;
         let reader = self.reader().await?;
         if reader.lease_left().is_zero() {
@@ -119,25 +119,25 @@ impl Desk {
         while begun.elapsed() < LATEST {
             match timeout(LOOK, &mut asked).await {
                 Ok(answered) => {
-                    let answered = answered.unwrap_or(Err(Error::Closed)).map_err(Fault::from);
-                    return answered.map_err(Fault::of_what_may_be_asked_again);
+                    let answered = answered.unwrap_or(Err(Error::Closed)).map_err(HttpFault::from);
+                    return answered.map_err(HttpFault::of_what_may_be_asked_again);
                 }
                 Err(_) if reader.lease_left().is_zero() => return Err(Refusal::InJeopardy.into()),
                 Err(_) => {}
             }
         }
-        Err(Fault::Late)
+        Err(HttpFault::Late)
     }
 
-    /// Asks by one of the clients that write; what was opened for that is closed behind the answer.
+    /// Asks by one of the clients that write; what was opened for that is closed after the answer.
     pub async fn write<T: Send + 'static>(
         self: &Arc<Self>,
         ask: impl FnOnce(&Client, &mut Vec<Handle>) -> Result<T, Error> + Send + 'static,
-    ) -> Result<T, Fault> {
+    ) -> Result<T, HttpFault> {
         let waiting = self.wait()?;
         let place = timeout(LATEST, self.places.clone().acquire_owned()).await;
         let Ok(Ok(place)) = place else {
-            return Err(Fault::Late);
+            return Err(HttpFault::Late);
         };
         let (answer, answered) = oneshot::channel();
         let desk = self.clone();
@@ -147,7 +147,7 @@ impl Desk {
         });
         match timeout(LATEST, answered).await {
             Ok(Ok(answered)) => answered,
-            Ok(Err(_)) | Err(_) => Err(Fault::Unknown),
+            Ok(Err(_)) | Err(_) => Err(HttpFault::Unknown),
         }
     }
 
@@ -163,7 +163,11 @@ impl Desk {
         Client::connect(&self.options)
     }
 
-    fn write_by_one<T>(&self, ask: impl FnOnce(&Client, &mut Vec<Handle>) -> Result<T, Error>, answer: oneshot::Sender<Result<T, Fault>>) {
+    fn write_by_one<T>(
+        &self,
+        ask: impl FnOnce(&Client, &mut Vec<Handle>) -> Result<T, Error>,
+        answer: oneshot::Sender<Result<T, HttpFault>>,
+    ) {
         // (where nobody waits for the answer any more it is told to nobody)
         let client = match self.writer() {
             Ok(client) => client,
@@ -180,19 +184,19 @@ impl Desk {
     }
 
     /// A client of its own for a session.
-    pub async fn connect(&self) -> Result<Client, Fault> {
+    pub async fn connect(&self) -> Result<Client, HttpFault> {
         let options = self.options.clone();
         self.work(move || Ok(Client::connect(&options)?)).await
     }
 
     /// Work on a thread that may wait for the master.
-    pub async fn work<T: Send + 'static>(&self, work: impl FnOnce() -> Result<T, Fault> + Send + 'static) -> Result<T, Fault> {
+    pub async fn work<T: Send + 'static>(&self, work: impl FnOnce() -> Result<T, HttpFault> + Send + 'static) -> Result<T, HttpFault> {
         let waiting = self.wait()?;
         let working = spawn_blocking(move || {
             let _waiting = waiting;
             work()
         });
-        working.await.unwrap_or(Err(Fault::Unknown))
+        working.await.unwrap_or(Err(HttpFault::Unknown))
     }
 
     /// Ends what is connected, each client by a thread of its own.
@@ -205,15 +209,15 @@ impl Desk {
 }
 
 // What is refused wasn't done. Of what isn't answered nobody knows.
-fn outcome(error: Error) -> Fault {
+fn outcome(error: Error) -> HttpFault {
     match error {
-        Error::Refused(Refusal::SessionExpired | Refusal::Unknown) => Fault::Unknown,
+        Error::Refused(Refusal::SessionExpired | Refusal::Unknown) => HttpFault::Unknown,
         Error::Refused(_) | Error::Limited(_) => error.into(),
-        _ => Fault::Unknown,
+        _ => HttpFault::Unknown,
     }
 }
 
-fn client_options(principal: &str, options: &Options) -> tillermoss::Options {
+fn client_options(principal: &str, options: &GatewayOptions) -> tillermoss::Options {
     let file = |end: &str| options.credentials.as_ref().map(|folder| folder.join(format!("{principal}.{end}")));
     tillermoss::Options {
         patience: Duration::from_secs(options.patience),

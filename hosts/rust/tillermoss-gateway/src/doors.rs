@@ -1,43 +1,36 @@
 //! Where requests come in: the sockets, and whom each connection shows.
 
 use crate::gateway::Gateway;
-use crate::options::Options;
-use anyhow::{Context, Result, bail};
-use host_wire::handshakes::{Handshakes, Trusted, server_config};
+use crate::options::GatewayOptions;
+use anyhow::{Result, bail};
+use host_wire::handshakes::{Certificates, Trusted, server_config};
 use host_wire::lobby::Lobby;
-use host_wire::sockets::{listen_unix, user_name};
-use host_wire::trust::common_name;
+use host_wire::sockets::{Stream, listen_unix, not_listening, user_name};
 use host_wire::{Address, is_component};
 use hyper::server::conn::Http;
 use hyper::service::service_fn;
 use openssl::ssl::SslContext;
 use std::io;
-use std::sync::{Arc, PoisonError, RwLock};
+use std::sync::Arc;
 use std::time::Duration;
-use tokio::io::{AsyncRead, AsyncWrite};
 use tokio::net::{TcpListener, TcpStream, UnixListener, UnixStream};
 use tokio::sync::{Notify, Semaphore};
 use tokio::time::{sleep, timeout};
 use tracing::debug;
 
-/// So many connections there are at once of which nobody knows yet who asks; with one more the oldest of them is cut off.
+/// How many connections there are at once of which nobody knows yet who asks; with one more the oldest of them is cut off.
 const STRANGERS: usize = 1024;
 
-/// So long a handshake lasts at most, and so long a connection says nothing that is a request.
+/// How long a handshake lasts at most, and so long a connection says nothing that is a request.
 const HANDSHAKE: Duration = Duration::from_secs(5);
 const SILENCE: Duration = Duration::from_secs(60);
 
-/// So many bytes the head of a request has at most.
+/// How many bytes the head of a request has at most.
 const HEAD: usize = 32 << 10;
-
-/// A stream of bytes to a client.
-trait Stream: AsyncRead + AsyncWrite + Send + Unpin {}
-
-impl<S: AsyncRead + AsyncWrite + Send + Unpin> Stream for S {}
 
 /// Whom a connection shows.
 #[derive(Clone, Debug, PartialEq, Eq)]
-pub enum Shown {
+pub enum ShownName {
     /// Nobody, as at `tcp:`; whether it comes from this machine alone.
     Nobody { is_local: bool },
     /// This principal, and it acts for no other.
@@ -46,57 +39,29 @@ pub enum Shown {
     Other,
 }
 
-impl Shown {
-    fn of(name: &str) -> Shown {
-        if is_component(name) { Shown::Principal(name.into()) } else { Shown::Other }
+impl ShownName {
+    fn of(name: &str) -> ShownName {
+        if is_component(name) { ShownName::Principal(name.into()) } else { ShownName::Other }
     }
 }
 
-/// What the gateway shows by TLS, as it was last read.
-pub struct Certificates {
-    context: RwLock<SslContext>,
-    handshakes: Handshakes,
-}
-
-impl Certificates {
-    fn read(options: &Options) -> Result<SslContext> {
-        let (Some(cert), Some(key)) = (&options.cert, &options.key) else {
-            bail!("tls: wants --cert and --key");
-        };
-        // (who may show a token need show no certificate)
-        let takes_none = options.tokens.is_some();
-        let clients = options.client_ca.as_deref();
-        if clients.is_none() && !takes_none {
-            bail!("tls: wants --client-ca or --tokens, else nobody knows who asks");
-        }
-        let clients = clients.map(|authority| Trusted { authority, revoked: options.client_crl.as_deref(), takes_none });
-        Ok(server_config(cert, key, clients)?)
+/// What the gateway shows by TLS, by the files of the options, as they are now.
+pub fn context(options: &GatewayOptions) -> Result<SslContext> {
+    let (Some(cert), Some(key)) = (&options.cert, &options.key) else {
+        bail!("tls: wants --cert and --key");
+    };
+    // (who may show a token need show no certificate)
+    let takes_none = options.tokens.is_some();
+    let clients = options.client_ca.as_deref();
+    if clients.is_none() && !takes_none {
+        bail!("tls: wants --client-ca or --tokens, else nobody knows who asks");
     }
-
-    /// Those of the options.
-    pub fn new(options: &Options) -> Result<Certificates> {
-        Ok(Certificates { context: RwLock::new(Certificates::read(options)?), handshakes: Handshakes::new()? })
-    }
-
-    /// Reads them again; where that fails the old ones stay.
-    pub fn renew(&self, options: &Options) -> Result<()> {
-        *self.context.write().unwrap_or_else(PoisonError::into_inner) = Certificates::read(options)?;
-        Ok(())
-    }
-
-    async fn greet(&self, stream: TcpStream) -> Result<(Box<dyn Stream>, Shown)> {
-        let context = self.context.read().unwrap_or_else(PoisonError::into_inner).clone();
-        let stream = self.handshakes.make(&context, stream).await?;
-        let shown = match stream.ssl().peer_certificate() {
-            Some(certificate) => Shown::of(&common_name(&certificate).unwrap_or_default()),
-            None => Shown::Nobody { is_local: false },
-        };
-        Ok((Box::new(stream), shown))
-    }
+    let clients = clients.map(|authority| Trusted { authority, revoked: options.client_crl.as_deref(), takes_none });
+    Ok(server_config(cert, key, clients)?)
 }
 
 /// A socket that takes connections.
-pub enum Door {
+pub enum HttpDoor {
     Unix(UnixListener),
     Tls(TcpListener, Arc<Certificates>),
     // (whether only this machine reaches it)
@@ -104,40 +69,44 @@ pub enum Door {
 }
 
 /// A connection that was taken, and nothing was said yet.
-enum Guest {
+enum HttpGuest {
     Unix(UnixStream),
     Tls(TcpStream, Arc<Certificates>),
     Tcp(TcpStream, bool),
 }
 
-impl Door {
+impl HttpDoor {
     /// Listens at an address; gives it with the port that it has.
-    pub async fn open(address: &Address, options: &Options, certificates: Option<&Arc<Certificates>>) -> Result<(Door, Address)> {
+    pub async fn open(
+        address: &Address,
+        options: &GatewayOptions,
+        certificates: Option<&Arc<Certificates>>,
+    ) -> Result<(HttpDoor, Address)> {
         let place = match address {
-            Address::Unix(path) => return Ok((Door::Unix(listen_unix(path, 0o666)?), address.clone())),
+            Address::Unix(path) => return Ok((HttpDoor::Unix(listen_unix(path, 0o666)?), address.clone())),
             Address::Tls(place) => place,
             Address::Tcp(place) if address.is_local() || options.insecure => place,
             Address::Tcp(_) => bail!("{address}: nothing is encrypted there, tokens neither; only with --insecure"),
         };
-        let listener = TcpListener::bind(place).await.with_context(|| format!("listening at {address}"))?;
+        let listener = TcpListener::bind(place).await.map_err(|error| not_listening(&address.to_string(), &error))?;
         let bound = address.at(listener.local_addr()?);
         match (address, certificates) {
-            (Address::Tls(_), Some(certificates)) => Ok((Door::Tls(listener, certificates.clone()), bound)),
+            (Address::Tls(_), Some(certificates)) => Ok((HttpDoor::Tls(listener, certificates.clone()), bound)),
             (Address::Tls(_), None) => bail!("tls: wants --cert and --key"),
-            _ => Ok((Door::Tcp(listener, address.is_local()), bound)),
+            _ => Ok((HttpDoor::Tcp(listener, address.is_local()), bound)),
         }
     }
 
-    async fn take(&self) -> io::Result<Guest> {
+    async fn take(&self) -> io::Result<HttpGuest> {
         match self {
-            Door::Unix(listener) => Ok(Guest::Unix(listener.accept().await?.0)),
-            Door::Tls(listener, certificates) => Ok(Guest::Tls(listener.accept().await?.0, certificates.clone())),
-            Door::Tcp(listener, is_local) => Ok(Guest::Tcp(listener.accept().await?.0, *is_local)),
+            HttpDoor::Unix(listener) => Ok(HttpGuest::Unix(listener.accept().await?.0)),
+            HttpDoor::Tls(listener, certificates) => Ok(HttpGuest::Tls(listener.accept().await?.0, certificates.clone())),
+            HttpDoor::Tcp(listener, is_local) => Ok(HttpGuest::Tcp(listener.accept().await?.0, *is_local)),
         }
     }
 
     /// Answers those who come, until the gateway goes.
-    pub async fn serve(self, gateway: Arc<Gateway>, hall: Arc<Hall>) {
+    pub async fn serve(self, gateway: Arc<Gateway>, hall: Arc<HttpHall>) {
         loop {
             let Ok(guest) = self.take().await else {
                 sleep(Duration::from_millis(20)).await;
@@ -158,39 +127,40 @@ impl Door {
 
 /// The connections of all doors.
 #[derive(Debug)]
-pub struct Hall {
+pub struct HttpHall {
     lobby: Lobby,
     places: Arc<Semaphore>,
 }
 
-impl Hall {
+impl HttpHall {
     /// Room for so many.
-    pub fn new(most: usize) -> Hall {
-        Hall { lobby: Lobby::default(), places: Arc::new(Semaphore::new(most)) }
+    pub fn new(most: usize) -> HttpHall {
+        HttpHall { lobby: Lobby::default(), places: Arc::new(Semaphore::new(most)) }
     }
 }
 
-impl Guest {
-    async fn come_in(self) -> Result<(Box<dyn Stream>, Shown)> {
+impl HttpGuest {
+    async fn come_in(self) -> Result<(Box<dyn Stream>, ShownName)> {
         match self {
-            Guest::Unix(stream) => {
+            HttpGuest::Unix(stream) => {
                 let name = user_name(stream.peer_cred()?.uid()).await?;
-                Ok((Box::new(stream), Shown::of(&name)))
+                Ok((Box::new(stream), ShownName::of(&name)))
             }
-            Guest::Tls(stream, certificates) => {
-                stream.set_nodelay(true)?;
-                certificates.greet(stream).await
+            HttpGuest::Tls(stream, certificates) => {
+                let (stream, shown) = certificates.greet(stream).await?;
+                let shown = shown.map_or(ShownName::Nobody { is_local: false }, |name| ShownName::of(&name));
+                Ok((Box::new(stream), shown))
             }
-            Guest::Tcp(stream, is_local) => {
+            HttpGuest::Tcp(stream, is_local) => {
                 stream.set_nodelay(true)?;
-                Ok((Box::new(stream), Shown::Nobody { is_local }))
+                Ok((Box::new(stream), ShownName::Nobody { is_local }))
             }
         }
     }
 }
 
 // Answers one connection until it ends, or gives way to others before anybody knows who asks.
-async fn attend(guest: Guest, gateway: Arc<Gateway>, lobby: &Lobby) {
+async fn attend(guest: HttpGuest, gateway: Arc<Gateway>, lobby: &Lobby) {
     let place = lobby.enter(STRANGERS);
     let known = Arc::new(Notify::new());
     let answering = async {
@@ -212,7 +182,7 @@ async fn attend(guest: Guest, gateway: Arc<Gateway>, lobby: &Lobby) {
     }
 }
 
-async fn answer(stream: Box<dyn Stream>, gateway: Arc<Gateway>, shown: Shown, known: Arc<Notify>) {
+async fn answer(stream: Box<dyn Stream>, gateway: Arc<Gateway>, shown: ShownName, known: Arc<Notify>) {
     let service = service_fn(|request| {
         let (gateway, shown, known) = (gateway.clone(), shown.clone(), known.clone());
         async move { gateway.answer(request, &shown, &known).await }

@@ -6,7 +6,7 @@ use tillermoss::{Error, Refusal, TurnedAway};
 
 /// Why a request came to nothing.
 #[derive(Debug)]
-pub enum Fault {
+pub enum HttpFault {
     /// The cell, the server or the client library.
     Cell(Error),
     /// There is no such path.
@@ -33,15 +33,15 @@ pub enum Fault {
     Late,
 }
 
-impl From<Error> for Fault {
-    fn from(error: Error) -> Fault {
-        Fault::Cell(error)
+impl From<Error> for HttpFault {
+    fn from(error: Error) -> HttpFault {
+        HttpFault::Cell(error)
     }
 }
 
-impl From<Refusal> for Fault {
-    fn from(refusal: Refusal) -> Fault {
-        Fault::Cell(refusal.into())
+impl From<Refusal> for HttpFault {
+    fn from(refusal: Refusal) -> HttpFault {
+        HttpFault::Cell(refusal.into())
     }
 }
 
@@ -92,34 +92,35 @@ const REFUSALS: &[Row] = &[
     (37, 502, FAULT),
     (38, 503, AGAIN),
     (39, 500, FAULT),
+    (43, 429, "delete or release what isn't needed, or ask those who run the cell for more room"),
 ];
 
 const UNREACHED: &str = "the gateway doesn't reach the cell: ask again, or ask another gateway";
 
-impl Fault {
+impl HttpFault {
     // The number of the refusal, else 0; the name; the status; and what to do.
     fn parts(&self) -> (u32, &'static str, u16, &'static str) {
         match self {
-            Fault::Cell(Error::Refused(refusal)) => {
+            HttpFault::Cell(Error::Refused(refusal)) => {
                 let row = REFUSALS.iter().find(|(number, ..)| *number == refusal.number());
                 let (number, status, cure) = row.copied().unwrap_or((refusal.number(), 500, FAULT));
                 (number, refusal.name(), status, cure)
             }
-            Fault::Cell(Error::Limited(_)) => (0, "Limited", 429, "a limit of the cell's server stands against it"),
-            Fault::Cell(Error::TurnedAway(reason)) => turned_away(*reason),
-            Fault::Cell(Error::Malformed(_)) => (0, "Malformed", 502, FAULT),
-            Fault::Cell(_) => (0, "Unreached", 503, UNREACHED),
-            Fault::NoRoute => (0, "NoRoute", 404, "docs/openapi.yaml lists what there is"),
-            Fault::BadMethod(_) => (0, "BadMethod", 405, "the header Allow says which there are"),
-            Fault::BadRequest(_) => (0, "BadRequest", 400, "docs/openapi.yaml says how it is asked"),
-            Fault::NoPrincipal => (0, "NoPrincipal", 401, "show a certificate, or Authorization: Bearer TOKEN"),
-            Fault::OtherPrincipal(_) => (0, "OtherPrincipal", 403, "act as the one that is shown"),
-            Fault::TooMany(_) => (0, "TooMany", 429, "end some, or ask again later"),
-            Fault::NoSuchSession => (0, "NoSuchSession", 404, "its time to live is over, or it is another's: POST /v1/session"),
-            Fault::SessionLost => (0, "SessionLost", 410, "what it held is lost: POST /v1/session begins another"),
-            Fault::Ephemeral => (0, "Ephemeral", 409, "to watch it would keep it there: watch its directory"),
-            Fault::Unknown => (34, "Unknown", 504, "it was done, or not: GET it"),
-            Fault::Late => (0, "Late", 503, AGAIN),
+            HttpFault::Cell(Error::Limited(_)) => (0, "Limited", 429, "a limit of the cell's server stands against it"),
+            HttpFault::Cell(Error::TurnedAway(reason)) => turned_away(*reason),
+            HttpFault::Cell(Error::Malformed(_)) => (0, "Malformed", 502, FAULT),
+            HttpFault::Cell(_) => (0, "Unreached", 503, UNREACHED),
+            HttpFault::NoRoute => (0, "NoRoute", 404, "docs/openapi.yaml lists what there is"),
+            HttpFault::BadMethod(_) => (0, "BadMethod", 405, "the header Allow says which there are"),
+            HttpFault::BadRequest(_) => (0, "BadRequest", 400, "docs/openapi.yaml says how it is asked"),
+            HttpFault::NoPrincipal => (0, "NoPrincipal", 401, "show a certificate, or Authorization: Bearer TOKEN"),
+            HttpFault::OtherPrincipal(_) => (0, "OtherPrincipal", 403, "act as the one that is shown"),
+            HttpFault::TooMany(_) => (0, "TooMany", 429, "end some, or ask again later"),
+            HttpFault::NoSuchSession => (0, "NoSuchSession", 404, "its time to live is over, or it is another's: POST /v1/session"),
+            HttpFault::SessionLost => (0, "SessionLost", 410, "what it held is lost: POST /v1/session begins another"),
+            HttpFault::Ephemeral => (0, "Ephemeral", 409, "to watch it would keep it there: watch its directory"),
+            HttpFault::Unknown => (34, "Unknown", 504, "it was done, or not: GET it"),
+            HttpFault::Late => (0, "Late", 503, AGAIN),
         }
     }
 
@@ -134,26 +135,26 @@ impl Fault {
     }
 
     /// Of what changes nothing, or may be asked for again, it doesn't matter whether it was done.
-    pub fn of_what_may_be_asked_again(self) -> Fault {
+    pub fn of_what_may_be_asked_again(self) -> HttpFault {
         match self {
-            Fault::Unknown | Fault::Cell(Error::Refused(Refusal::Unknown)) => Fault::Late,
+            HttpFault::Unknown | HttpFault::Cell(Error::Refused(Refusal::Unknown)) => HttpFault::Late,
             fault => fault,
         }
     }
 
     fn message(&self) -> String {
         match self {
-            Fault::Cell(error) => error.to_string(),
-            Fault::NoRoute => "there is no such path".to_owned(),
-            Fault::BadMethod(allowed) => format!("this path has {allowed}"),
-            Fault::BadRequest(what) => what.clone(),
-            Fault::NoPrincipal => "nobody knows who asks".to_owned(),
-            Fault::OtherPrincipal(what) | Fault::TooMany(what) => (*what).to_owned(),
-            Fault::NoSuchSession => "there is no such session".to_owned(),
-            Fault::SessionLost => "the session is lost".to_owned(),
-            Fault::Ephemeral => "it is ephemeral".to_owned(),
-            Fault::Unknown => "no answer came: it was done, or not".to_owned(),
-            Fault::Late => "no answer came in time".to_owned(),
+            HttpFault::Cell(error) => error.to_string(),
+            HttpFault::NoRoute => "there is no such path".to_owned(),
+            HttpFault::BadMethod(allowed) => format!("this path has {allowed}"),
+            HttpFault::BadRequest(what) => what.clone(),
+            HttpFault::NoPrincipal => "nobody knows who asks".to_owned(),
+            HttpFault::OtherPrincipal(what) | HttpFault::TooMany(what) => (*what).to_owned(),
+            HttpFault::NoSuchSession => "there is no such session".to_owned(),
+            HttpFault::SessionLost => "the session is lost".to_owned(),
+            HttpFault::Ephemeral => "it is ephemeral".to_owned(),
+            HttpFault::Unknown => "no answer came: it was done, or not".to_owned(),
+            HttpFault::Late => "no answer came in time".to_owned(),
         }
     }
 
@@ -180,12 +181,12 @@ mod tests {
     #[test]
     fn each_refusal_has_a_row() {
         let numbers: Vec<u32> = REFUSALS.iter().map(|(number, ..)| *number).collect();
-        assert_eq!(numbers, (1..=39).collect::<Vec<_>>());
+        assert_eq!(numbers, (1..=39).chain([43]).collect::<Vec<_>>());
     }
 
     #[test]
     fn faults_have_their_statuses() {
-        let rows: [(Fault, u16); 12] = [
+        let rows: [(HttpFault, u16); 13] = [
             (Refusal::NotFound.into(), 404),
             (Refusal::Held(LockMode::Exclusive).into(), 409),
             (Refusal::WrongGeneration(3).into(), 409),
@@ -195,16 +196,17 @@ mod tests {
             (Refusal::Recovering.into(), 503),
             (Refusal::InJeopardy.into(), 503),
             (Refusal::Unknown.into(), 504),
-            (Error::Limited("nodes".to_owned()).into(), 429),
+            (Refusal::NoRoom(4).into(), 429),
+            (Error::Limited("bytes_of_a_principal".to_owned()).into(), 429),
             (Error::Unavailable.into(), 503),
-            (Fault::NoPrincipal, 401),
+            (HttpFault::NoPrincipal, 401),
         ];
         for (fault, status) in rows {
             assert_eq!(fault.status().as_u16(), status, "{fault:?}");
         }
-        assert_eq!(Fault::from(Refusal::Unknown).of_what_may_be_asked_again().status().as_u16(), 503);
-        assert_eq!(Fault::from(Refusal::NotFound).of_what_may_be_asked_again().status().as_u16(), 404);
-        let shown = Fault::from(Refusal::WrongGeneration(3)).shown();
+        assert_eq!(HttpFault::from(Refusal::Unknown).of_what_may_be_asked_again().status().as_u16(), 503);
+        assert_eq!(HttpFault::from(Refusal::NotFound).of_what_may_be_asked_again().status().as_u16(), 404);
+        let shown = HttpFault::from(Refusal::WrongGeneration(3)).shown();
         assert_eq!((shown["number"].as_u64(), shown["name"].as_str()), (Some(11), Some("WrongGeneration")));
     }
 }

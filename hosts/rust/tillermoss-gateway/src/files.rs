@@ -2,7 +2,7 @@
 
 use crate::answers;
 use crate::desks::Desk;
-use crate::faults::Fault;
+use crate::faults::HttpFault;
 use crate::routes::Query;
 use crate::shown;
 use bytes::Bytes;
@@ -11,14 +11,14 @@ use hyper::{Body, Response, StatusCode};
 use std::sync::Arc;
 use tillermoss::{Client, Create, Error, Handle, Kind, Mode, Opening, Refusal};
 
-/// So often a file that comes, goes or is written meanwhile is tried to be written.
+/// How often a file that comes, goes or is written meanwhile is tried to be written.
 const TRIES: u32 = 10;
 
-/// So many names are listed at once, with those below them.
+/// How many names are listed at once, with those below them.
 const MOST: usize = 20_000;
 
 /// A file's content, or what is shown of it.
-pub async fn get(desk: &Desk, name: &str, query: &Query, headers: &HeaderMap, is_head: bool) -> Result<Response<Body>, Fault> {
+pub async fn get(desk: &Desk, name: &str, query: &Query, headers: &HeaderMap, is_head: bool) -> Result<Response<Body>, HttpFault> {
     let sight = desk.sight(name).await?;
     let page = &sight.page;
     if page.stat.kind == Kind::Directory {
@@ -35,7 +35,7 @@ pub async fn get(desk: &Desk, name: &str, query: &Query, headers: &HeaderMap, is
 }
 
 /// The names in a directory; with those below them, where that is asked for.
-pub async fn list(desk: &Desk, name: &str, query: &Query) -> Result<Response<Body>, Fault> {
+pub async fn list(desk: &Desk, name: &str, query: &Query) -> Result<Response<Body>, HttpFault> {
     let sight = desk.sight(name).await?;
     if sight.page.stat.kind == Kind::File {
         return Err(Refusal::WrongKind(Kind::File).into());
@@ -49,27 +49,27 @@ pub async fn list(desk: &Desk, name: &str, query: &Query) -> Result<Response<Bod
 }
 
 // The names of all that stands below a directory, each in front of what stands below it.
-async fn below(desk: &Desk, directory: &str, children: &[String]) -> Result<Vec<String>, Fault> {
+async fn below(desk: &Desk, directory: &str, children: &[String]) -> Result<Vec<String>, HttpFault> {
     let mut found = Vec::new();
     let mut left: Vec<String> = children.iter().rev().cloned().collect();
     while let Some(name) = left.pop() {
         match desk.sight(&format!("{directory}/{name}")).await {
             Ok(sight) => left.extend(sight.page.children.iter().rev().map(|child| format!("{name}/{child}"))),
             // (what is gone meanwhile is left out, and of what may not be read nothing is shown but its name)
-            Err(Fault::Cell(Error::Refused(Refusal::NotFound | Refusal::StaleInstance))) => continue,
-            Err(Fault::Cell(Error::Refused(Refusal::Denied(_)))) => {}
+            Err(HttpFault::Cell(Error::Refused(Refusal::NotFound | Refusal::StaleInstance))) => continue,
+            Err(HttpFault::Cell(Error::Refused(Refusal::Denied(_)))) => {}
             Err(fault) => return Err(fault),
         }
         found.push(name);
         if found.len() > MOST {
-            return Err(Fault::TooMany("too many names stand below it"));
+            return Err(HttpFault::TooMany("too many names stand below it"));
         }
     }
     Ok(found)
 }
 
 /// The numbers of a node, which the master answers.
-pub async fn stat(desk: &Desk, name: &str) -> Result<Response<Body>, Fault> {
+pub async fn stat(desk: &Desk, name: &str) -> Result<Response<Body>, HttpFault> {
     let wanted = name.to_owned();
     let stat = desk.read(move |reader| reader.stat(&wanted)).await?;
     Ok(answers::json(StatusCode::OK, &shown::stat(name, &stat)))
@@ -88,8 +88,8 @@ pub enum Condition {
 
 impl Condition {
     /// That of a request: `If-Match: "INSTANCE.GENERATION"` or `If-Match: GENERATION`, or `If-None-Match: *`.
-    pub fn of(headers: &HeaderMap) -> Result<Condition, Fault> {
-        let wrong = || Fault::BadRequest("If-Match is a generation or an ETag, or If-None-Match is *; one of them".to_owned());
+    pub fn of(headers: &HeaderMap) -> Result<Condition, HttpFault> {
+        let wrong = || HttpFault::BadRequest("If-Match is a generation or an ETag, or If-None-Match is *; one of them".to_owned());
         let text = |value: &HeaderValue| value.to_str().map(|text| text.trim().trim_matches('"').to_owned()).map_err(|_| wrong());
         match (headers.get(IF_MATCH), headers.get(IF_NONE_MATCH)) {
             (None, None) => Ok(Condition::Any),
@@ -106,10 +106,10 @@ impl Condition {
 }
 
 /// What a write came to: whether the file was made, and the mark of what was written, where it is known.
-type Written = (bool, Option<(u64, u64)>);
+type WrittenFile = (bool, Option<(u64, u64)>);
 
 /// Writes a file's whole content, and makes it where there is none.
-pub async fn put(desk: &Arc<Desk>, name: &str, content: Bytes, condition: Condition) -> Result<Response<Body>, Fault> {
+pub async fn put(desk: &Arc<Desk>, name: &str, content: Bytes, condition: Condition) -> Result<Response<Body>, HttpFault> {
     let name = name.to_owned();
     let (is_new, mark) = desk.write(move |client, opened| write_file(client, opened, &name, &content, condition)).await?;
     let response = answers::bare(if is_new { StatusCode::CREATED } else { StatusCode::NO_CONTENT });
@@ -117,7 +117,7 @@ pub async fn put(desk: &Arc<Desk>, name: &str, content: Bytes, condition: Condit
 }
 
 // Again and again where it comes, goes or is written meanwhile.
-fn write_file(client: &Client, opened: &mut Vec<Handle>, name: &str, content: &[u8], condition: Condition) -> Result<Written, Error> {
+fn write_file(client: &Client, opened: &mut Vec<Handle>, name: &str, content: &[u8], condition: Condition) -> Result<WrittenFile, Error> {
     let mut last = Refusal::NotFound;
     for _ in 0..TRIES {
         let replaced = match condition {
@@ -148,7 +148,7 @@ fn open(client: &Client, opened: &mut Vec<Handle>, name: &str) -> Result<Handle,
     Ok(handle)
 }
 
-fn create(client: &Client, opened: &mut Vec<Handle>, name: &str, content: &[u8]) -> Result<Written, Error> {
+fn create(client: &Client, opened: &mut Vec<Handle>, name: &str, content: &[u8]) -> Result<WrittenFile, Error> {
     let create = Create { must: true, content: Some(content.to_vec()), ..Create::default() };
     let made = client.open_with(&Opening { create: Some(create), ..Opening::new(name, Mode::WRITE) })?;
     opened.push(made);
@@ -162,7 +162,7 @@ fn replace(
     name: &str,
     content: &[u8],
     wanted: Option<(Option<u64>, u64)>,
-) -> Result<Written, Error> {
+) -> Result<WrittenFile, Error> {
     let file = open(client, opened, name)?;
     let stat = client.stat(file)?;
     if stat.kind == Kind::Directory {
@@ -177,7 +177,7 @@ fn replace(
 }
 
 /// Makes a directory.
-pub async fn make_directory(desk: &Arc<Desk>, name: &str) -> Result<Response<Body>, Fault> {
+pub async fn make_directory(desk: &Arc<Desk>, name: &str) -> Result<Response<Body>, HttpFault> {
     let opening = Opening { create: Some(Create { must: true, ..Create::default() }), ..Opening::new(name, Mode::READ) };
     let make = move |client: &Client, opened: &mut Vec<Handle>| {
         opened.push(client.open_with(&opening)?);
@@ -188,9 +188,9 @@ pub async fn make_directory(desk: &Arc<Desk>, name: &str) -> Result<Response<Bod
 }
 
 /// Deletes a file, or a directory that has no children.
-pub async fn delete(desk: &Arc<Desk>, name: &str, headers: &HeaderMap) -> Result<Response<Body>, Fault> {
+pub async fn delete(desk: &Arc<Desk>, name: &str, headers: &HeaderMap) -> Result<Response<Body>, HttpFault> {
     if headers.contains_key(IF_MATCH) || headers.contains_key(IF_NONE_MATCH) {
-        return Err(Fault::BadRequest("a DELETE has no condition".to_owned()));
+        return Err(HttpFault::BadRequest("a DELETE has no condition".to_owned()));
     }
     let name = name.to_owned();
     desk.write(move |client, opened| client.delete(open(client, opened, &name)?)).await?;

@@ -2,15 +2,15 @@
 
 use crate::answers;
 use crate::desks::Desk;
-use crate::doors::Shown;
-use crate::faults::Fault;
+use crate::doors::ShownName;
+use crate::faults::HttpFault;
 use crate::files::{self, Condition};
-use crate::locks::{self, Asker};
-use crate::options::Options;
+use crate::locks::{self, SessionAsker};
+use crate::options::GatewayOptions;
 use crate::routes::{Query, Route};
 use crate::sessions::Sessions;
 use crate::tokens::Tokens;
-use anyhow::Result;
+use anyhow::{Context, Result, bail};
 use bytes::Bytes;
 use host_wire::Address;
 use hyper::body::HttpBody;
@@ -24,16 +24,16 @@ use tillermoss::Refusal;
 use tokio::sync::Notify;
 use tokio::time::timeout;
 
-/// So many bytes the body of a request has at most: those of a file.
+/// How many bytes the body of a request has at most: those of a file.
 const BODY: usize = 262_144;
 
-/// So long a body may be on its way.
+/// How long a body may be on its way.
 const SLOWEST: Duration = Duration::from_secs(30);
 
 /// The gateway, as all connections share it.
 #[derive(Debug)]
 pub struct Gateway {
-    options: Options,
+    options: GatewayOptions,
     tokens: RwLock<Tokens>,
     desks: RwLock<HashMap<Arc<str>, Arc<Desk>>>,
     /// The sessions that HTTP clients keep.
@@ -42,13 +42,14 @@ pub struct Gateway {
 
 impl Gateway {
     /// One by these options, that has connected nothing yet.
-    pub fn new(options: Options) -> Result<Gateway> {
+    pub fn new(options: GatewayOptions) -> Result<Gateway> {
+        check_server(&options)?;
         let tokens = Gateway::read(&options)?;
         let sessions = Sessions::new(options.sessions);
         Ok(Gateway { options, tokens: RwLock::new(tokens), desks: RwLock::default(), sessions })
     }
 
-    fn read(options: &Options) -> Result<Tokens> {
+    fn read(options: &GatewayOptions) -> Result<Tokens> {
         options.tokens.as_deref().map_or(Ok(Tokens::default()), Tokens::read)
     }
 
@@ -75,37 +76,37 @@ impl Gateway {
     }
 
     // For whom a request is: whom its connection shows, or whose token it shows; where both stand there they are one.
-    fn principal(&self, headers: &HeaderMap, shown: &Shown) -> Result<Arc<str>, Fault> {
-        let token = headers.get(AUTHORIZATION).map(|shown| bearer(shown).ok_or(Fault::NoPrincipal)).transpose()?;
+    fn principal(&self, headers: &HeaderMap, shown: &ShownName) -> Result<Arc<str>, HttpFault> {
+        let token = headers.get(AUTHORIZATION).map(|shown| bearer(shown).ok_or(HttpFault::NoPrincipal)).transpose()?;
         let tokens = || self.tokens.read().unwrap_or_else(PoisonError::into_inner);
-        let by_token = token.map(|token| tokens().principal(token).ok_or(Fault::NoPrincipal)).transpose()?;
+        let by_token = token.map(|token| tokens().principal(token).ok_or(HttpFault::NoPrincipal)).transpose()?;
         match (shown, by_token, &self.options.everybody) {
-            (Shown::Other, ..) => Err(Fault::OtherPrincipal("the name that is shown is no principal")),
-            (Shown::Principal(one), Some(other), _) if *one != other => {
-                Err(Fault::OtherPrincipal("the token is of another principal than the connection shows"))
+            (ShownName::Other, ..) => Err(HttpFault::OtherPrincipal("the name that is shown is no principal")),
+            (ShownName::Principal(one), Some(other), _) if *one != other => {
+                Err(HttpFault::OtherPrincipal("the token is of another principal than the connection shows"))
             }
-            (Shown::Principal(principal), ..) => Ok(principal.clone()),
-            (Shown::Nobody { .. }, Some(principal), _) => Ok(principal),
-            (Shown::Nobody { is_local: true }, None, Some(everybody)) if is_own_site(headers) => Ok(everybody.as_str().into()),
-            (Shown::Nobody { is_local: true }, None, Some(_)) => {
-                Err(Fault::OtherPrincipal("only under a name of this machine, and from no page of another site"))
+            (ShownName::Principal(principal), ..) => Ok(principal.clone()),
+            (ShownName::Nobody { .. }, Some(principal), _) => Ok(principal),
+            (ShownName::Nobody { is_local: true }, None, Some(everybody)) if is_own_site(headers) => Ok(everybody.as_str().into()),
+            (ShownName::Nobody { is_local: true }, None, Some(_)) => {
+                Err(HttpFault::OtherPrincipal("only under a name of this machine, and from no page of another site"))
             }
-            (Shown::Nobody { .. }, None, _) => Err(Fault::NoPrincipal),
+            (ShownName::Nobody { .. }, None, _) => Err(HttpFault::NoPrincipal),
         }
     }
 
     /// What a request is answered. Once it is known who asks, that is said.
-    pub async fn answer(&self, request: Request<Body>, shown: &Shown, known: &Notify) -> Result<Response<Body>, Infallible> {
+    pub async fn answer(&self, request: Request<Body>, shown: &ShownName, known: &Notify) -> Result<Response<Body>, Infallible> {
         let is_head = request.method() == Method::HEAD;
         let answered = self.answered(request, shown, known).await;
         let response = answered.unwrap_or_else(|fault| answers::fault(&fault));
         Ok(if is_head { response.map(|_| Body::empty()) } else { response })
     }
 
-    async fn answered(&self, request: Request<Body>, shown: &Shown, known: &Notify) -> Result<Response<Body>, Fault> {
+    async fn answered(&self, request: Request<Body>, shown: &ShownName, known: &Notify) -> Result<Response<Body>, HttpFault> {
         let route = Route::of(request.uri().path(), &self.options.cell)?;
         if !route.takes(request.method()) {
-            return Err(Fault::BadMethod(route.methods()));
+            return Err(HttpFault::BadMethod(route.methods()));
         }
         if route == Route::Health {
             return Ok(answers::json(StatusCode::OK, &serde_json::json!({ "healthy": true })));
@@ -113,7 +114,7 @@ impl Gateway {
         let principal = self.principal(request.headers(), shown)?;
         known.notify_one();
         let desk = self.desk(&principal);
-        let asker = Asker { sessions: &self.sessions, desk: &desk, principal: &principal };
+        let asker = SessionAsker { sessions: &self.sessions, desk: &desk, principal: &principal };
         match route {
             Route::File(name) => on_file(&desk, asker, &name, request).await,
             Route::List(name) => on_list(&desk, &name, &request).await,
@@ -123,7 +124,13 @@ impl Gateway {
         }
     }
 
-    async fn on_others(&self, desk: &Arc<Desk>, asker: Asker<'_>, route: Route, request: Request<Body>) -> Result<Response<Body>, Fault> {
+    async fn on_others(
+        &self,
+        desk: &Arc<Desk>,
+        asker: SessionAsker<'_>,
+        route: Route,
+        request: Request<Body>,
+    ) -> Result<Response<Body>, HttpFault> {
         let known: &[&str] = if route == Route::Sessions { &["ttl"] } else { &[] };
         let query = Query::of(request.uri(), known)?;
         match route {
@@ -135,12 +142,24 @@ impl Gateway {
                 Ok(answers::bare(StatusCode::NO_CONTENT))
             }
             Route::Check => locks::check(desk, &body(request).await?).await,
-            _ => Err(Fault::NoRoute),
+            _ => Err(HttpFault::NoRoute),
         }
     }
 }
 
-async fn on_file(desk: &Arc<Desk>, asker: Asker<'_>, name: &str, request: Request<Body>) -> Result<Response<Body>, Fault> {
+// A gateway that reaches no server by these words would say so with each request.
+fn check_server(options: &GatewayOptions) -> Result<()> {
+    for word in options.server.split(',') {
+        let address: Address = word.parse().with_context(|| format!("--server {word}"))?;
+        let is_known = options.credentials.is_some() && options.authority.is_some();
+        if matches!(address, Address::Tls(_)) && !is_known {
+            bail!("--server {word}: wants --credentials and --authority");
+        }
+    }
+    Ok(())
+}
+
+async fn on_file(desk: &Arc<Desk>, asker: SessionAsker<'_>, name: &str, request: Request<Body>) -> Result<Response<Body>, HttpFault> {
     match *request.method() {
         Method::PUT => {
             let (query, condition) = (Query::of(request.uri(), &["session"])?, Condition::of(request.headers())?);
@@ -148,7 +167,9 @@ async fn on_file(desk: &Arc<Desk>, asker: Asker<'_>, name: &str, request: Reques
             match (query.has("session"), condition) {
                 (false, condition) => files::put(desk, name, content, condition).await,
                 (true, Condition::Any) => asker.put(name, content, &query).await,
-                (true, _) => Err(Fault::BadRequest("an ephemeral file is written by its session alone, without a condition".to_owned())),
+                (true, _) => {
+                    Err(HttpFault::BadRequest("an ephemeral file is written by its session alone, without a condition".to_owned()))
+                }
             }
         }
         Method::DELETE => {
@@ -162,7 +183,7 @@ async fn on_file(desk: &Arc<Desk>, asker: Asker<'_>, name: &str, request: Reques
     }
 }
 
-async fn on_list(desk: &Arc<Desk>, name: &str, request: &Request<Body>) -> Result<Response<Body>, Fault> {
+async fn on_list(desk: &Arc<Desk>, name: &str, request: &Request<Body>) -> Result<Response<Body>, HttpFault> {
     if *request.method() == Method::PUT {
         Query::of(request.uri(), &[])?;
         return files::make_directory(desk, name).await;
@@ -170,23 +191,23 @@ async fn on_list(desk: &Arc<Desk>, name: &str, request: &Request<Body>) -> Resul
     files::list(desk, name, &Query::of(request.uri(), &["recursive"])?).await
 }
 
-async fn on_lock(asker: Asker<'_>, name: &str, request: &Request<Body>) -> Result<Response<Body>, Fault> {
+async fn on_lock(asker: SessionAsker<'_>, name: &str, request: &Request<Body>) -> Result<Response<Body>, HttpFault> {
     let answered = if *request.method() == Method::DELETE {
         asker.release(name, &Query::of(request.uri(), &["session"])?).await
     } else {
         asker.acquire(name, &Query::of(request.uri(), &["session", "mode", "wait", "delay"])?).await
     };
-    answered.map_err(Fault::of_what_may_be_asked_again)
+    answered.map_err(HttpFault::of_what_may_be_asked_again)
 }
 
-async fn watch(desk: &Arc<Desk>, name: &str, request: &Request<Body>) -> Result<Response<Body>, Fault> {
+async fn watch(desk: &Arc<Desk>, name: &str, request: &Request<Body>) -> Result<Response<Body>, HttpFault> {
     Query::of(request.uri(), &[])?;
     let last = request.headers().get("last-event-id").and_then(|last| last.to_str().ok()).map(str::to_owned);
     Ok(answers::events(desk.watch(name).await?.into_body(last)))
 }
 
 // The body of a request, where it isn't larger than a file.
-async fn body(request: Request<Body>) -> Result<Bytes, Fault> {
+async fn body(request: Request<Body>) -> Result<Bytes, HttpFault> {
     let mut body = request.into_body();
     if body.size_hint().lower() > BODY as u64 {
         return Err(Refusal::TooLarge.into());
@@ -194,14 +215,14 @@ async fn body(request: Request<Body>) -> Result<Bytes, Fault> {
     let read = async {
         let mut bytes = Vec::new();
         while let Some(part) = body.data().await {
-            bytes.extend_from_slice(&part.map_err(|_| Fault::BadRequest("the body broke off".to_owned()))?);
+            bytes.extend_from_slice(&part.map_err(|_| HttpFault::BadRequest("the body broke off".to_owned()))?);
             if bytes.len() > BODY {
                 return Err(Refusal::TooLarge.into());
             }
         }
         Ok(bytes.into())
     };
-    timeout(SLOWEST, read).await.unwrap_or_else(|_| Err(Fault::BadRequest("the body took too long".to_owned())))
+    timeout(SLOWEST, read).await.unwrap_or_else(|_| Err(HttpFault::BadRequest("the body took too long".to_owned())))
 }
 
 fn bearer(shown: &HeaderValue) -> Option<&str> {
@@ -228,7 +249,7 @@ mod tests {
     use clap::Parser;
 
     fn gateway(words: &str) -> Gateway {
-        Gateway::new(Options::parse_from(["tillermoss-gateway", "0"].into_iter().chain(words.split_whitespace()))).unwrap()
+        Gateway::new(GatewayOptions::parse_from(["tillermoss-gateway", "0"].into_iter().chain(words.split_whitespace()))).unwrap()
     }
 
     fn headers(rows: &[(&'static str, &'static str)]) -> HeaderMap {
@@ -245,8 +266,9 @@ mod tests {
     #[test]
     fn who_asks_is_shown() {
         let (gateway, _file) = with_tokens();
-        let (nobody, ann, bob) = (Shown::Nobody { is_local: true }, Shown::Principal("ann".into()), Shown::Principal("bob".into()));
-        let rows: &[(&Shown, &[(&str, &str)], Result<&str, u16>)] = &[
+        let (nobody, ann, bob) =
+            (ShownName::Nobody { is_local: true }, ShownName::Principal("ann".into()), ShownName::Principal("bob".into()));
+        let rows: &[(&ShownName, &[(&str, &str)], Result<&str, u16>)] = &[
             (&nobody, &[("authorization", "Bearer secret")], Ok("ann")),
             (&nobody, &[("authorization", "bearer secret")], Ok("ann")),
             (&nobody, &[("authorization", "Bearer other")], Err(401)),
@@ -257,7 +279,7 @@ mod tests {
             (&bob, &[("authorization", "Bearer secret")], Err(403)),
             (&bob, &[("authorization", "Bearer other")], Err(401)),
             (&ann, &[("authorization", "Bearer secret")], Ok("ann")),
-            (&Shown::Other, &[("authorization", "Bearer secret")], Err(403)),
+            (&ShownName::Other, &[("authorization", "Bearer secret")], Err(403)),
         ];
         for (shown, rows, wanted) in rows {
             let found = gateway.principal(&headers_of(rows), shown).map_err(|fault| fault.status().as_u16());
@@ -285,7 +307,8 @@ mod tests {
             (false, &[("host", "127.0.0.1:80")], Err(401)),
         ];
         for (is_local, rows, wanted) in rows {
-            let found = gateway.principal(&headers(rows), &Shown::Nobody { is_local: *is_local }).map_err(|fault| fault.status().as_u16());
+            let found =
+                gateway.principal(&headers(rows), &ShownName::Nobody { is_local: *is_local }).map_err(|fault| fault.status().as_u16());
             assert_eq!(found.as_deref(), wanted.as_ref().map(|one| *one), "{rows:?}");
         }
     }

@@ -1,4 +1,4 @@
-//! A cell over HTTP: any number of readers behind one cache, and each answer is what the master holds.
+//! A cell over HTTP: any number of readers share one cache, and each answer is what the master holds.
 //!
 //! What is read comes from [`tillermoss::Reader`], which keeps what the cache answers and publishes it: nothing here knows of leases or
 //! invalidations but the time that a reader tells.
@@ -19,11 +19,12 @@ mod watches;
 
 use anyhow::{Context, Result};
 use clap::Parser;
-use doors::{Certificates, Door, Hall};
+use doors::{HttpDoor, HttpHall, context};
 use gateway::Gateway;
 use host_wire::Address;
+use host_wire::handshakes::Certificates;
 use nix::sys::resource::{Resource, getrlimit, setrlimit};
-use options::{Log, Options};
+use options::{GatewayLog, GatewayOptions};
 use sd_notify::NotifyState;
 use std::io::{self, Write};
 use std::process::ExitCode;
@@ -32,11 +33,11 @@ use tokio::signal::unix::{SignalKind, signal};
 use tracing::{error, info, warn};
 use tracing_subscriber::EnvFilter;
 
-/// So many threads wait for the master at most, for all principals.
+/// How many threads wait for the master at most, for all principals.
 const THREADS: usize = 4096;
 
 fn main() -> ExitCode {
-    let options = Options::parse();
+    let options = GatewayOptions::parse();
     begin_log(options.log);
     match serve(options) {
         Ok(()) => ExitCode::SUCCESS,
@@ -47,16 +48,16 @@ fn main() -> ExitCode {
     }
 }
 
-fn begin_log(log: Log) {
+fn begin_log(log: GatewayLog) {
     let filter = EnvFilter::try_from_default_env().unwrap_or_else(|_| EnvFilter::new("info"));
     let lines = tracing_subscriber::fmt().with_env_filter(filter).with_writer(io::stderr).with_ansi(false);
     match log {
-        Log::Text => lines.init(),
-        Log::Json => lines.json().flatten_event(true).init(),
+        GatewayLog::Text => lines.init(),
+        GatewayLog::Json => lines.json().flatten_event(true).init(),
     }
 }
 
-fn serve(options: Options) -> Result<()> {
+fn serve(options: GatewayOptions) -> Result<()> {
     let (_, most) = getrlimit(Resource::RLIMIT_NOFILE)?;
     setrlimit(Resource::RLIMIT_NOFILE, most, most)?;
     let runtime = tokio::runtime::Builder::new_multi_thread().enable_all().max_blocking_threads(THREADS).build()?;
@@ -69,13 +70,13 @@ fn serve(options: Options) -> Result<()> {
 }
 
 // Serves until it is told to go.
-async fn run(options: &Options, gateway: &Arc<Gateway>) -> Result<()> {
+async fn run(options: &GatewayOptions, gateway: &Arc<Gateway>) -> Result<()> {
     let (mut term, mut int, mut hup) = (signal(SignalKind::terminate())?, signal(SignalKind::interrupt())?, signal(SignalKind::hangup())?);
-    let certificates = options.cert.is_some().then(|| Certificates::new(options)).transpose()?.map(Arc::new);
-    let hall = Arc::new(Hall::new(options.connections));
+    let certificates = options.cert.is_some().then(|| context(options)).transpose()?.map(Certificates::new).transpose()?.map(Arc::new);
+    let hall = Arc::new(HttpHall::new(options.connections));
     let mut listening = Vec::new();
     for address in &options.listen {
-        let (door, bound) = Door::open(address, options, certificates.as_ref()).await?;
+        let (door, bound) = HttpDoor::open(address, options, certificates.as_ref()).await?;
         tokio::spawn(door.serve(gateway.clone(), hall.clone()));
         listening.push(bound);
     }
@@ -93,7 +94,7 @@ async fn run(options: &Options, gateway: &Arc<Gateway>) -> Result<()> {
     Ok(())
 }
 
-fn tell(listening: &[Address], options: &Options) -> Result<()> {
+fn tell(listening: &[Address], options: &GatewayOptions) -> Result<()> {
     if options.everybody.is_some() {
         warn!("who connects at tcp: on this machine acts for the principal of --as");
     }
@@ -106,10 +107,13 @@ fn tell(listening: &[Address], options: &Options) -> Result<()> {
     Ok(())
 }
 
-fn renew(options: &Options, gateway: &Gateway, certificates: Option<&Certificates>) {
-    let read = gateway.renew().and_then(|()| certificates.map_or(Ok(()), |certificates| certificates.renew(options)));
+fn renew(options: &GatewayOptions, gateway: &Gateway, certificates: Option<&Certificates>) {
+    let read = gateway.renew().and_then(|()| certificates.map(|_| context(options)).transpose());
     match read {
-        Ok(()) => info!("tokens and certificates were read again"),
+        Ok(read) => {
+            certificates.into_iter().zip(read).for_each(|(certificates, context)| certificates.renew(context));
+            info!("tokens and certificates were read again");
+        }
         Err(fault) => warn!(reason = %format_args!("{fault:#}"), "tokens and certificates stay as they were"),
     }
 }

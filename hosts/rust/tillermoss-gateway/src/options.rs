@@ -15,7 +15,7 @@ RUST_LOG says what is logged, as `warn` or `tillermoss_gateway=debug`.";
 /// Answers HTTP for a cell: files, lists, watches, sessions and locks, read out of a cache that shows what the master holds.
 #[derive(Clone, Debug, PartialEq, Eq, Parser)]
 #[command(version = tillermoss::VERSION, after_help = AFTER)]
-pub struct Options {
+pub struct GatewayOptions {
     /// Where to listen: unix:PATH, tls:HOST:PORT or tcp:HOST:PORT. PORT alone is tcp: on loopback; 0 is any free one
     #[arg(required = true)]
     pub listen: Vec<Address>,
@@ -52,29 +52,29 @@ pub struct Options {
     /// Listens with tcp: on other addresses than loopback too: nothing is encrypted there, tokens neither
     #[arg(long)]
     pub insecure: bool,
-    /// So many seconds at most what is refused for now is tried again, before the answer is 503
+    /// How many seconds at most what is refused for now is tried again, before the answer is 503
     #[arg(long, default_value_t = 2, value_parser = clap::value_parser!(u64).range(0..=60))]
     pub patience: u64,
-    /// So many connections at once
+    /// How many connections at once
     #[arg(long, default_value_t = 10_000)]
     pub connections: usize,
-    /// So many watches of a principal at once
+    /// How many watches of a principal at once
     #[arg(long, default_value_t = 8_000)]
     pub watches: usize,
-    /// So many sessions of a principal at once
+    /// How many sessions of a principal at once
     #[arg(long, default_value_t = 256)]
     pub sessions: usize,
-    /// So many requests of a principal that wait for the master at once
+    /// How many requests of a principal that wait for the master at once
     #[arg(long, default_value_t = 128)]
     pub waiting: usize,
     /// How the log on the standard error is written
-    #[arg(long, value_enum, default_value_t = Log::Text)]
-    pub log: Log,
+    #[arg(long, value_enum, default_value_t = GatewayLog::Text)]
+    pub log: GatewayLog,
 }
 
 /// How the log is written.
 #[derive(Clone, Copy, Debug, PartialEq, Eq, ValueEnum)]
-pub enum Log {
+pub enum GatewayLog {
     /// A line of text for each event
     Text,
     /// An object of JSON for each, one a line
@@ -89,8 +89,8 @@ fn component(word: &str) -> Result<String, String> {
 mod tests {
     use super::*;
 
-    fn read(line: &str) -> Result<Options, clap::Error> {
-        Options::try_parse_from(["tillermoss-gateway"].into_iter().chain(line.split_whitespace()))
+    fn read(line: &str) -> Result<GatewayOptions, clap::Error> {
+        GatewayOptions::try_parse_from(["tillermoss-gateway"].into_iter().chain(line.split_whitespace()))
     }
 
     #[test]

@@ -1,6 +1,6 @@
 //! What a request asks for, by its method, its path and what stands behind a `?`.
 
-use crate::faults::Fault;
+use crate::faults::HttpFault;
 use host_wire::is_name;
 use hyper::{Method, Uri};
 use tillermoss::Refusal;
@@ -32,12 +32,12 @@ pub enum Route {
 
 impl Route {
     /// That of a path; names that don't begin with a slash are of this cell.
-    pub fn of(path: &str, cell: &str) -> Result<Route, Fault> {
+    pub fn of(path: &str, cell: &str) -> Result<Route, HttpFault> {
         let whole = |name: &str| whole_name(name, cell);
         if path == "/healthz" {
             return Ok(Route::Health);
         }
-        let (kind, rest) = path.strip_prefix("/v1/").map(|rest| rest.split_once('/').unwrap_or((rest, ""))).ok_or(Fault::NoRoute)?;
+        let (kind, rest) = path.strip_prefix("/v1/").map(|rest| rest.split_once('/').unwrap_or((rest, ""))).ok_or(HttpFault::NoRoute)?;
         match (kind, rest) {
             ("file", name) => whole(name).map(Route::File),
             ("list", name) => whole(name).map(Route::List),
@@ -49,9 +49,9 @@ impl Route {
             ("session", rest) => match rest.split_once('/') {
                 None => Ok(Route::Session(rest.to_owned())),
                 Some((number, "renew")) => Ok(Route::Renew(number.to_owned())),
-                Some(_) => Err(Fault::NoRoute),
+                Some(_) => Err(HttpFault::NoRoute),
             },
-            _ => Err(Fault::NoRoute),
+            _ => Err(HttpFault::NoRoute),
         }
     }
 
@@ -74,7 +74,7 @@ impl Route {
     }
 }
 
-fn whole_name(name: &str, cell: &str) -> Result<String, Fault> {
+fn whole_name(name: &str, cell: &str) -> Result<String, HttpFault> {
     let name = unescaped(name)?;
     let whole = match name.as_str() {
         "" => format!("/ls/{cell}"),
@@ -85,7 +85,7 @@ fn whole_name(name: &str, cell: &str) -> Result<String, Fault> {
 }
 
 // With each `%XX` as the byte that it stands for.
-fn unescaped(text: &str) -> Result<String, Fault> {
+fn unescaped(text: &str) -> Result<String, HttpFault> {
     if !text.contains('%') {
         return Ok(text.to_owned());
     }
@@ -94,7 +94,7 @@ fn unescaped(text: &str) -> Result<String, Fault> {
     for part in parts {
         let byte = part.get(..2).filter(|digits| digits.bytes().all(|digit| digit.is_ascii_hexdigit()));
         let byte = byte.and_then(|digits| u8::from_str_radix(digits, 16).ok());
-        bytes.push(byte.ok_or_else(|| Fault::BadRequest("a % without two hexadecimal digits".to_owned()))?);
+        bytes.push(byte.ok_or_else(|| HttpFault::BadRequest("a % without two hexadecimal digits".to_owned()))?);
         bytes.extend(&part.as_bytes()[2..]);
     }
     String::from_utf8(bytes).map_err(|_| Refusal::BadName.into())
@@ -106,13 +106,13 @@ pub struct Query(Vec<(String, Option<String>)>);
 
 impl Query {
     /// That of a request, which has none but these words.
-    pub fn of(uri: &Uri, known: &[&str]) -> Result<Query, Fault> {
+    pub fn of(uri: &Uri, known: &[&str]) -> Result<Query, HttpFault> {
         let parts = uri.query().unwrap_or_default().split('&').filter(|part| !part.is_empty());
         let mut words: Vec<(String, Option<String>)> = Vec::new();
         for part in parts {
             let (word, value) = part.split_once('=').map_or((part, None), |(word, value)| (word, Some(value)));
             if !known.contains(&word) || words.iter().any(|(other, _)| other == word) {
-                return Err(Fault::BadRequest(format!("{word}: there is no such word behind the ?, or twice")));
+                return Err(HttpFault::BadRequest(format!("{word}: there is no such word behind the ?, or twice")));
             }
             words.push((word.to_owned(), value.map(unescaped).transpose()?));
         }
@@ -130,9 +130,9 @@ impl Query {
     }
 
     /// The number that a word has, at most so large.
-    pub fn number(&self, word: &str, most: u64) -> Result<Option<u64>, Fault> {
+    pub fn number(&self, word: &str, most: u64) -> Result<Option<u64>, HttpFault> {
         let read = |text: &str| text.parse().ok().filter(|number| *number <= most);
-        let wrong = || Fault::BadRequest(format!("{word}: it is a number up to {most}"));
+        let wrong = || HttpFault::BadRequest(format!("{word}: it is a number up to {most}"));
         self.value(word).map(|text| read(text).ok_or_else(wrong)).transpose()
     }
 }

@@ -1,7 +1,7 @@
 //! Sessions that HTTP clients keep: a client of the cell each, with the locks that it holds and the ephemeral files that it made.
 
 use crate::desks::Desk;
-use crate::faults::Fault;
+use crate::faults::HttpFault;
 use std::collections::HashMap;
 use std::sync::{Arc, Mutex, MutexGuard, PoisonError, RwLock};
 use std::time::{Duration, Instant};
@@ -10,19 +10,19 @@ use tokio::sync::{Mutex as Turns, MutexGuard as TurnsGuard};
 use tokio::task::spawn_blocking;
 use tokio::time::sleep;
 
-/// So long between two tries to take a lock that is waited for.
+/// The time between two tries to take a lock that is waited for.
 const ASKING: Duration = Duration::from_millis(100);
 
-/// So long between two looks for sessions whose time is over.
+/// The time between two looks for sessions whose time is over.
 const LOOK: Duration = Duration::from_millis(250);
 
 /// A session.
 #[derive(Debug)]
-pub struct Session {
+pub struct HttpSession {
     principal: Arc<str>,
     // (None: it has left)
     client: RwLock<Option<Client>>,
-    /// So long it lives behind the last request that names it.
+    /// How long it lives after the last request that names it.
     pub span: Duration,
     until: Mutex<Instant>,
     locks: Turns<Candidates>,
@@ -45,9 +45,9 @@ pub struct Wanted {
     pub name: String,
     /// How it is held.
     pub mode: LockMode,
-    /// So long it is waited for.
+    /// How long it is waited for.
     pub wait: Duration,
-    /// So many milliseconds it stays closed where the session is lost.
+    /// How many milliseconds it stays closed where the session is lost.
     pub delay: u64,
 }
 
@@ -55,10 +55,10 @@ fn lock<T>(mutex: &Mutex<T>) -> MutexGuard<'_, T> {
     mutex.lock().unwrap_or_else(PoisonError::into_inner)
 }
 
-impl Session {
+impl HttpSession {
     /// One of this client.
-    pub fn new(principal: Arc<str>, client: Client, span: Duration) -> Session {
-        Session {
+    pub fn new(principal: Arc<str>, client: Client, span: Duration) -> HttpSession {
+        HttpSession {
             principal,
             client: RwLock::new(Some(client)),
             span,
@@ -78,17 +78,17 @@ impl Session {
     }
 
     // Asks by its client, which nobody ends meanwhile.
-    fn with<T>(&self, ask: impl FnOnce(&Client) -> Result<T, Error>) -> Result<T, Fault> {
+    fn with<T>(&self, ask: impl FnOnce(&Client) -> Result<T, Error>) -> Result<T, HttpFault> {
         let client = self.client.read().unwrap_or_else(PoisonError::into_inner);
-        let client = client.as_ref().ok_or(Fault::NoSuchSession)?;
+        let client = client.as_ref().ok_or(HttpFault::NoSuchSession)?;
         match ask(client) {
-            Err(_) if client.is_lost() => Err(Fault::SessionLost),
+            Err(_) if client.is_lost() => Err(HttpFault::SessionLost),
             asked => Ok(asked?),
         }
     }
 
-    /// So long the cell lets it hold what it holds, unless it hears of it again.
-    pub fn lease_left(&self) -> Result<Duration, Fault> {
+    /// How long the cell lets it hold what it holds, unless it hears of it again.
+    pub fn lease_left(&self) -> Result<Duration, HttpFault> {
         self.with(|client| if client.is_lost() { Err(Refusal::SessionExpired.into()) } else { Ok(client.lease_left()) })
     }
 
@@ -97,25 +97,25 @@ impl Session {
         self: &Arc<Self>,
         desk: &Desk,
         ask: impl FnOnce(&Client) -> Result<T, Error> + Send + 'static,
-    ) -> Result<T, Fault> {
+    ) -> Result<T, HttpFault> {
         let session = self.clone();
         desk.work(move || session.with(ask)).await
     }
 
-    fn turn(&self) -> Result<TurnsGuard<'_, Candidates>, Fault> {
-        self.locks.try_lock().map_err(|_| Fault::TooMany("another request of this session is about a lock"))
+    fn turn(&self) -> Result<TurnsGuard<'_, Candidates>, HttpFault> {
+        self.locks.try_lock().map_err(|_| HttpFault::TooMany("another request of this session is about a lock"))
     }
 
     /// Takes a lock, and waits for it where that is asked for; the bytes of its sequencer. One that it holds so already it goes on
     /// holding. (Where nobody waits for the answer any more, what is open then is found by the next request for the lock.)
-    pub async fn acquire(self: &Arc<Self>, desk: &Desk, wanted: &Wanted) -> Result<Vec<u8>, Fault> {
+    pub async fn acquire(self: &Arc<Self>, desk: &Desk, wanted: &Wanted) -> Result<Vec<u8>, HttpFault> {
         let mut locks = self.turn()?;
         if let Some(found) = locks.get(&wanted.name).copied() {
             match self.ask(desk, move |client| client.sequencer(found.handle)).await {
                 Ok(bytes) if found.mode == wanted.mode => return Ok(bytes),
                 Ok(_) => return Err(Refusal::Held(found.mode).into()),
                 // (it isn't held, or the file was deleted)
-                Err(Fault::Cell(Error::Refused(Refusal::StaleInstance | Refusal::NotHolder | Refusal::BadHandle))) => {}
+                Err(HttpFault::Cell(Error::Refused(Refusal::StaleInstance | Refusal::NotHolder | Refusal::BadHandle))) => {}
                 Err(fault) => return Err(fault),
             }
             self.close(desk, &mut locks, &wanted.name).await;
@@ -138,14 +138,14 @@ impl Session {
         }
     }
 
-    async fn take(self: &Arc<Self>, desk: &Desk, handle: Handle, wanted: &Wanted) -> Result<Vec<u8>, Fault> {
+    async fn take(self: &Arc<Self>, desk: &Desk, handle: Handle, wanted: &Wanted) -> Result<Vec<u8>, HttpFault> {
         let (begun, mode) = (Instant::now(), wanted.mode);
         loop {
             match self.ask(desk, move |client| client.try_acquire(handle, mode)).await {
                 Ok(()) => return self.ask(desk, move |client| client.sequencer(handle)).await,
                 // (it may be held already: then it is let go, and asked for again)
-                Err(Fault::Cell(Error::Refused(Refusal::Unknown))) => _ = self.ask(desk, move |client| client.release(handle)).await,
-                Err(Fault::Cell(Error::Refused(Refusal::Held(_) | Refusal::Delayed(_))) | Fault::TooMany(_))
+                Err(HttpFault::Cell(Error::Refused(Refusal::Unknown))) => _ = self.ask(desk, move |client| client.release(handle)).await,
+                Err(HttpFault::Cell(Error::Refused(Refusal::Held(_) | Refusal::Delayed(_))) | HttpFault::TooMany(_))
                     if begun.elapsed() < wanted.wait => {}
                 Err(fault) => return Err(fault),
             }
@@ -155,19 +155,19 @@ impl Session {
     }
 
     /// Lets a lock go.
-    pub async fn release(self: &Arc<Self>, desk: &Desk, name: &str) -> Result<(), Fault> {
+    pub async fn release(self: &Arc<Self>, desk: &Desk, name: &str) -> Result<(), HttpFault> {
         let mut locks = self.turn()?;
         let Candidate { handle, .. } = *locks.get(name).ok_or(Refusal::NotHolder)?;
         // (a close lets it go too)
         let released = self.ask(desk, move |client| client.close(handle)).await;
-        if !matches!(released, Err(Fault::Cell(Error::Refused(Refusal::Unknown | Refusal::InJeopardy)))) {
+        if !matches!(released, Err(HttpFault::Cell(Error::Refused(Refusal::Unknown | Refusal::InJeopardy)))) {
             locks.remove(name);
         }
         released
     }
 
     /// Makes an ephemeral file, or writes the one that it made; whether it was made, and its instance and generation.
-    pub fn write(&self, name: &str, content: &[u8]) -> Result<(bool, u64, u64), Fault> {
+    pub fn write(&self, name: &str, content: &[u8]) -> Result<(bool, u64, u64), HttpFault> {
         let mut files = lock(&self.files);
         if let Some(handle) = files.get(name).copied() {
             let written = self.with(|client| {
@@ -176,7 +176,7 @@ impl Session {
                 Ok((false, stat.instance, stat.content_generation + 1))
             });
             match written {
-                Err(Fault::Cell(Error::Refused(Refusal::StaleInstance | Refusal::BadHandle))) => _ = files.remove(name),
+                Err(HttpFault::Cell(Error::Refused(Refusal::StaleInstance | Refusal::BadHandle))) => _ = files.remove(name),
                 written => return written,
             }
         }
@@ -208,7 +208,7 @@ impl Session {
 /// All sessions, by their numbers, which nobody guesses.
 #[derive(Debug)]
 pub struct Sessions {
-    all: Mutex<HashMap<String, Arc<Session>>>,
+    all: Mutex<HashMap<String, Arc<HttpSession>>>,
     most: usize,
 }
 
@@ -219,13 +219,13 @@ impl Sessions {
     }
 
     /// Whether one more of this principal may come.
-    pub fn check(&self, principal: &str) -> Result<(), Fault> {
+    pub fn check(&self, principal: &str) -> Result<(), HttpFault> {
         let count = lock(&self.all).values().filter(|session| *session.principal == *principal).count();
-        if count < self.most { Ok(()) } else { Err(Fault::TooMany("too many sessions of this principal")) }
+        if count < self.most { Ok(()) } else { Err(HttpFault::TooMany("too many sessions of this principal")) }
     }
 
     /// One more; its number.
-    pub fn add(&self, session: Session) -> Result<String, Fault> {
+    pub fn add(&self, session: HttpSession) -> Result<String, HttpFault> {
         self.check(&session.principal)?;
         let number = hex::encode(rand::random::<[u8; 16]>());
         lock(&self.all).insert(number.clone(), Arc::new(session));
@@ -233,16 +233,16 @@ impl Sessions {
     }
 
     /// The one of this number and principal, which is renewed.
-    pub fn find(&self, number: &str, principal: &str) -> Result<Arc<Session>, Fault> {
+    pub fn find(&self, number: &str, principal: &str) -> Result<Arc<HttpSession>, HttpFault> {
         let all = lock(&self.all);
         let session =
-            all.get(number).filter(|session| *session.principal == *principal && !session.is_over()).ok_or(Fault::NoSuchSession)?;
+            all.get(number).filter(|session| *session.principal == *principal && !session.is_over()).ok_or(HttpFault::NoSuchSession)?;
         session.renew();
         Ok(session.clone())
     }
 
     /// Ends the one of this number and principal.
-    pub async fn end(&self, number: &str, principal: &str) -> Result<(), Fault> {
+    pub async fn end(&self, number: &str, principal: &str) -> Result<(), HttpFault> {
         let session = self.find(number, principal)?;
         lock(&self.all).remove(number);
         // (a thread that fails has told why)

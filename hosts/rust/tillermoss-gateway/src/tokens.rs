@@ -15,8 +15,8 @@ pub struct Tokens(HashMap<[u8; 32], Arc<str>>);
 impl Tokens {
     /// Those of a file.
     pub fn read(path: &Path) -> Result<Tokens> {
-        let at = || format!("the tokens of {}", path.display());
-        Tokens::of_text(&fs::read_to_string(path).with_context(at)?).with_context(at)
+        let text = fs::read_to_string(path).with_context(|| format!("--tokens names a file that can be read: {}", path.display()))?;
+        Tokens::of_text(&text).with_context(|| format!("the tokens of {}", path.display()))
     }
 
     fn of_text(text: &str) -> Result<Tokens> {

@@ -1,7 +1,7 @@
 //! What is watched: each name by one watch of the cell, of which all who watch it hear.
 
 use crate::desks::Desk;
-use crate::faults::Fault;
+use crate::faults::HttpFault;
 use crate::shown;
 use bytes::Bytes;
 use hyper::Body;
@@ -14,15 +14,15 @@ use tokio::sync::{Mutex as Turns, OwnedSemaphorePermit, Semaphore, watch};
 use tokio::task::spawn_blocking;
 use tokio::time::{sleep, timeout};
 
-/// So long a stream stays silent at most: then who is gone is noticed.
+/// How long a stream stays silent at most: then who is gone is noticed.
 const SILENCE: Duration = Duration::from_secs(15);
 
-/// So long until a name that can't be read for now is read again.
+/// How long until a name that can't be read for now is read again.
 const AGAIN: Duration = Duration::from_millis(200);
 
 /// What is told of a name: who hears of it late hears of the last alone.
 #[derive(Clone, Debug)]
-struct Told {
+struct LastTold {
     // What it shows, the mark of that, and its event.
     page: Arc<Page>,
     mark: String,
@@ -35,7 +35,7 @@ struct Told {
 /// What is watched for a principal.
 #[derive(Debug)]
 pub struct Watches {
-    all: Mutex<HashMap<String, Arc<watch::Sender<Told>>>>,
+    all: Mutex<HashMap<String, Arc<watch::Sender<LastTold>>>>,
     // Who begins to watch a name has the turn.
     beginning: Turns<()>,
     places: Arc<Semaphore>,
@@ -44,7 +44,7 @@ pub struct Watches {
 /// One who watches a name.
 #[derive(Debug)]
 pub struct Watcher {
-    told: watch::Receiver<Told>,
+    told: watch::Receiver<LastTold>,
     _place: OwnedSemaphorePermit,
 }
 
@@ -52,8 +52,8 @@ fn event(name: &str, data: &str) -> Bytes {
     format!("event: {name}\ndata: {data}\n\n").into()
 }
 
-impl Told {
-    fn of(name: &str, sight: &Sight) -> Told {
+impl LastTold {
+    fn of(name: &str, sight: &Sight) -> LastTold {
         let page = &sight.page;
         let mark = shown::mark(&page.stat);
         let text = match page.stat.kind {
@@ -62,17 +62,17 @@ impl Told {
         };
         // (a directory has no generation: it is what it shows)
         let mark = if page.stat.kind == Kind::File { mark } else { format!("{mark} {}", page.children.join(" ")) };
-        Told { page: page.clone(), mark, text, is_safe: true, end: None }
+        LastTold { page: page.clone(), mark, text, is_safe: true, end: None }
     }
 }
 
 // Tells what was read, unless something later was told; whoever reads it.
-fn show(told: &watch::Sender<Told>, name: &str, sight: &Sight) {
+fn show(told: &watch::Sender<LastTold>, name: &str, sight: &Sight) {
     told.send_if_modified(|last| {
         if sight.page.order <= last.page.order {
             return false;
         }
-        let next = Told { is_safe: last.is_safe, end: last.end.take(), ..Told::of(name, sight) };
+        let next = LastTold { is_safe: last.is_safe, end: last.end.take(), ..LastTold::of(name, sight) };
         let is_other = next.mark != last.mark;
         *last = next;
         is_other
@@ -85,16 +85,16 @@ impl Watches {
         Watches { all: Mutex::default(), beginning: Turns::default(), places: Arc::new(Semaphore::new(most)) }
     }
 
-    fn all(&self) -> MutexGuard<'_, HashMap<String, Arc<watch::Sender<Told>>>> {
+    fn all(&self) -> MutexGuard<'_, HashMap<String, Arc<watch::Sender<LastTold>>>> {
         self.all.lock().unwrap_or_else(PoisonError::into_inner)
     }
 
-    fn join(&self, name: &str) -> Option<(Arc<watch::Sender<Told>>, watch::Receiver<Told>)> {
+    fn join(&self, name: &str) -> Option<(Arc<watch::Sender<LastTold>>, watch::Receiver<LastTold>)> {
         self.all().get(name).map(|told| (told.clone(), told.subscribe()))
     }
 
     // Where nobody watches the name any more it is forgotten.
-    fn forget(&self, name: &str, told: &Arc<watch::Sender<Told>>, is_over: bool) -> bool {
+    fn forget(&self, name: &str, told: &Arc<watch::Sender<LastTold>>, is_over: bool) -> bool {
         let mut all = self.all();
         let is_left = is_over || told.receiver_count() == 0;
         if is_left && all.get(name).is_some_and(|other| Arc::ptr_eq(other, told)) {
@@ -106,9 +106,9 @@ impl Watches {
 
 impl Desk {
     /// Watches a name.
-    pub async fn watch(self: &Arc<Self>, name: &str) -> Result<Watcher, Fault> {
+    pub async fn watch(self: &Arc<Self>, name: &str) -> Result<Watcher, HttpFault> {
         let places = self.watches.places.clone();
-        let _place = places.try_acquire_owned().map_err(|_| Fault::TooMany("too many watches of this principal"))?;
+        let _place = places.try_acquire_owned().map_err(|_| HttpFault::TooMany("too many watches of this principal"))?;
         if let Some(told) = self.join(name).await? {
             return Ok(Watcher { told, _place });
         }
@@ -121,7 +121,7 @@ impl Desk {
     }
 
     // Where others watch the name already, what it shows now is read for all of them: what was told last may be old.
-    async fn join(&self, name: &str) -> Result<Option<watch::Receiver<Told>>, Fault> {
+    async fn join(&self, name: &str) -> Result<Option<watch::Receiver<LastTold>>, HttpFault> {
         let Some((told, heard)) = self.watches.join(name) else {
             return Ok(None);
         };
@@ -130,7 +130,7 @@ impl Desk {
     }
 
     // (watched first and read then, so that no change between is missed)
-    async fn begin_watch(self: &Arc<Self>, name: String) -> Result<watch::Receiver<Told>, Fault> {
+    async fn begin_watch(self: &Arc<Self>, name: String) -> Result<watch::Receiver<LastTold>, HttpFault> {
         let wanted = name.clone();
         let (watch, sight) = self
             .read(move |reader| {
@@ -144,16 +144,16 @@ impl Desk {
         if sight.page.stat.is_ephemeral {
             // (one that can't be closed is closed with the session)
             let _ = self.read(|reader| reader.end_watch(watch)).await;
-            return Err(Fault::Ephemeral);
+            return Err(HttpFault::Ephemeral);
         }
-        let (told, heard) = watch::channel(Told::of(&name, &sight));
+        let (told, heard) = watch::channel(LastTold::of(&name, &sight));
         let told = Arc::new(told);
         self.watches.all().insert(name.clone(), told.clone());
         tokio::spawn(self.clone().follow(name, watch, told));
         Ok(heard)
     }
 
-    async fn follow(self: Arc<Self>, name: String, mut watch: TaskWatch, told: Arc<watch::Sender<Told>>) {
+    async fn follow(self: Arc<Self>, name: String, mut watch: TaskWatch, told: Arc<watch::Sender<LastTold>>) {
         let mut is_due = false;
         loop {
             tokio::select! {
@@ -179,14 +179,14 @@ impl Desk {
     }
 
     // Tells what the name shows now; whether that has to be read again.
-    async fn tell(&self, name: &str, told: &watch::Sender<Told>) -> bool {
+    async fn tell(&self, name: &str, told: &watch::Sender<LastTold>) -> bool {
         let wanted = name.to_owned();
         match self.read(move |reader| reader.read(&wanted)).await {
             Ok(sight) => {
                 show(told, name, &sight);
                 false
             }
-            Err(Fault::Cell(Error::Refused(Refusal::NotFound | Refusal::StaleInstance))) => {
+            Err(HttpFault::Cell(Error::Refused(Refusal::NotFound | Refusal::StaleInstance))) => {
                 end(told, event("deleted", &shown::named(name).to_string()));
                 false
             }
@@ -199,15 +199,15 @@ impl Desk {
     }
 }
 
-fn end(told: &watch::Sender<Told>, last: Bytes) {
+fn end(told: &watch::Sender<LastTold>, last: Bytes) {
     told.send_modify(|told| told.end = Some(last));
 }
 
-// Whether the name has to be read behind this event.
-fn hear(event: Option<Event>, told: &watch::Sender<Told>) -> bool {
+// Whether the name has to be read after this event.
+fn hear(event: Option<Event>, told: &watch::Sender<LastTold>) -> bool {
     match event {
         None => {
-            end(told, self::event("error", &Fault::SessionLost.shown().to_string()));
+            end(told, self::event("error", &HttpFault::SessionLost.shown().to_string()));
             false
         }
         Some(Event::Jeopardy) => {
@@ -224,7 +224,7 @@ fn hear(event: Option<Event>, told: &watch::Sender<Told>) -> bool {
 }
 
 impl Watcher {
-    /// What is told from here on, as server-sent events; behind the event of this number, where one is named.
+    /// What is told from here on, as server-sent events; after the event of this number, where one is named.
     pub fn into_body(self, last: Option<String>) -> Body {
         let (sender, body) = Body::channel();
         tokio::spawn(self.tell_all(sender, last.unwrap_or_default()));

@@ -1,10 +1,13 @@
 //! What an operator asks a server for, where `tillermossd --admin` listens.
 
 use crate::errors::Error;
+use crate::reaching::{connector, encrypted};
+use host_wire::trust::worded;
 use host_wire::{Address, LockShown, SessionShown, Shown, Status};
 use hyper::body::HttpBody;
 use hyper::client::conn::handshake;
 use hyper::{Body, Method, Request, Response};
+use openssl::ssl::SslConnector;
 use serde::de::DeserializeOwned;
 use std::fs::{self, File};
 use std::future::Future;
@@ -12,11 +15,12 @@ use std::io::{self, ErrorKind, Write};
 use std::os::unix::fs::OpenOptionsExt;
 use std::path::Path;
 use std::time::Duration;
+use tokio::io::{AsyncRead, AsyncWrite};
 use tokio::net::{TcpStream, UnixStream};
 use tokio::runtime::Builder;
 use tokio::time::timeout;
 
-/// So long an answer may take to begin; a copy is taken meanwhile.
+/// How long an answer may take to begin; a copy is taken meanwhile.
 const PATIENCE: Duration = Duration::from_secs(60);
 
 /// A server, as its operators reach it. Each call is a connection of its own.
@@ -33,19 +37,23 @@ const PATIENCE: Duration = Duration::from_secs(60);
 pub struct Admin {
     address: Address,
     token: Option<String>,
+    connector: Option<SslConnector>,
 }
 
+// (the fault of the stream, if it is one: what the server has against this end is told with what is read first)
 fn io_error(error: hyper::Error) -> Error {
-    io::Error::other(error).into()
+    let text = error.to_string();
+    let inner = error.into_cause().and_then(|cause| cause.downcast::<io::Error>().ok());
+    inner.map_or_else(|| io::Error::other(text), |inner| worded(*inner)).into()
 }
 
 impl Admin {
-    /// The one at this address, `unix:PATH` or `tcp:HOST:PORT`, as `tillermossd` prints it behind `admin`.
+    /// The one at this address, `unix:PATH`, `tls:HOST:PORT` or `tcp:HOST:PORT`, as `tillermossd` prints it behind `admin`.
     ///
     /// ```
     /// # use tillermoss::Admin;
     /// assert!(Admin::new("unix:/run/tillermoss/admin").is_ok());
-    /// assert!(Admin::new("tls:h.example:7").is_err());
+    /// assert!(Admin::new("h.example").is_err());
     /// ```
     ///
     /// # Errors
@@ -53,9 +61,27 @@ impl Admin {
     /// Where that is no such address. Nothing is connected yet.
     pub fn new(address: &str) -> Result<Admin, Error> {
         match address.parse() {
-            Ok(address @ (Address::Unix(_) | Address::Tcp(_))) => Ok(Admin { address, token: None }),
-            _ => Err(io::Error::new(ErrorKind::InvalidInput, format!("{address}: not unix:PATH or tcp:HOST:PORT")).into()),
+            Ok(address) => Ok(Admin { address, token: None, connector: None }),
+            Err(error) => Err(io::Error::new(ErrorKind::InvalidInput, format!("{address}: {error}")).into()),
         }
+    }
+
+    /// The same at `tls:`, where the server's certificate is signed by one of the authorities of this file; and with the files of a
+    /// certificate and its key, by which this end shows who it is (`tillermossd --operator`). All are in PEM.
+    ///
+    /// ```no_run
+    /// # use tillermoss::Admin;
+    /// # use std::path::Path;
+    /// let own = Some((Path::new("ann.pem"), Path::new("ann.key")));
+    /// let admin = Admin::new("tls:cell.example:7173")?.with_certificates(Path::new("ca.pem"), own)?;
+    /// # Ok::<(), tillermoss::Error>(())
+    /// ```
+    ///
+    /// # Errors
+    ///
+    /// Where a file can't be read, or doesn't have what it is named for.
+    pub fn with_certificates(self, authority: &Path, own: Option<(&Path, &Path)>) -> Result<Admin, Error> {
+        Ok(Admin { connector: Some(connector(authority, own)?), ..self })
     }
 
     /// The same, which shows this token: a server beyond this machine wants it (`tillermossd --admin-token`).
@@ -83,7 +109,7 @@ impl Admin {
     ///
     /// # Errors
     ///
-    /// Where it can't be reached.
+    /// Where it can't be reached, or doesn't let this operator in.
     pub fn status(&self) -> Result<Status, Error> {
         self.get("/status")
     }
@@ -271,22 +297,26 @@ impl Admin {
         if answer.status().is_success() {
             return Ok(answer);
         }
+        let status = answer.status().as_u16();
         let said = hyper::body::to_bytes(answer.into_body()).await.map_err(io_error)?;
-        Err(io::Error::other(String::from_utf8_lossy(&said).trim_end().to_owned()).into())
+        Err(Error::NotDone { status, reason: String::from_utf8_lossy(&said).trim_end().to_owned() })
     }
 
     async fn send(&self, request: Request<Body>) -> Result<Response<Body>, Error> {
-        let (mut sender, connection) = match &self.address {
-            Address::Unix(path) => {
-                let (sender, connection) = handshake(UnixStream::connect(path).await?).await.map_err(io_error)?;
-                (sender, Box::pin(connection) as std::pin::Pin<Box<dyn Future<Output = hyper::Result<()>> + Send>>)
+        match (&self.address, &self.connector) {
+            (Address::Unix(path), _) => ask_over(UnixStream::connect(path).await?, request).await,
+            (Address::Tls(place), Some(connector)) => ask_over(encrypted(connector, place).await?, request).await,
+            (Address::Tls(_), None) => {
+                Err(io::Error::new(ErrorKind::InvalidInput, format!("{}: wants the server's authorities", self.address)).into())
             }
-            Address::Tls(place) | Address::Tcp(place) => {
-                let (sender, connection) = handshake(TcpStream::connect(place).await?).await.map_err(io_error)?;
-                (sender, Box::pin(connection) as std::pin::Pin<Box<dyn Future<Output = hyper::Result<()>> + Send>>)
-            }
-        };
-        tokio::spawn(connection);
-        sender.send_request(request).await.map_err(io_error)
+            (Address::Tcp(place), _) => ask_over(TcpStream::connect(place).await?, request).await,
+        }
     }
+}
+
+async fn ask_over(stream: impl AsyncRead + AsyncWrite + Unpin + Send + 'static, request: Request<Body>) -> Result<Response<Body>, Error> {
+    let (mut sender, connection) = handshake(stream).await.map_err(io_error)?;
+    // (how it ends is told with the answer)
+    tokio::spawn(connection);
+    sender.send_request(request).await.map_err(io_error)
 }

@@ -2,7 +2,7 @@
 
 use crate::calls::{Call, Opening};
 use crate::errors::Error;
-use crate::library::{Library, Status};
+use crate::library::{Library, StepStatus};
 use crate::lines::{Answer, Line};
 
 /// A client without a connection: what it has to say is handed out as bytes, and what it is told is handed in, at moments that the caller
@@ -85,7 +85,7 @@ impl Bare {
         self.library.leased_until()
     }
 
-    fn sent(&mut self, status: Status) -> Option<Vec<u8>> {
-        (status == Status::Send).then(|| self.library.message()).flatten()
+    fn sent(&mut self, status: StepStatus) -> Option<Vec<u8>> {
+        (status == StepStatus::Send).then(|| self.library.message()).flatten()
     }
 }

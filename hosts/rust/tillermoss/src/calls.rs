@@ -68,7 +68,7 @@ pub struct Opening {
     pub mode: Mode,
     /// What is made where there is no node.
     pub create: Option<Create>,
-    /// So many milliseconds, at most 60,000, its lock stays closed where the session ends while the handle holds it.
+    /// How many milliseconds, at most 60,000, its lock stays closed where the session ends while the handle holds it.
     pub lock_delay: u64,
     /// Of which events the client is told.
     pub events: Events,

@@ -5,9 +5,9 @@ use crate::clock;
 use crate::core::{Core, End, Mark, Reply, Standing, State, Teller, Tried};
 use crate::errors::Error;
 use crate::events::{Event, Events};
-use crate::keeper::{Keeper, greet_any};
+use crate::keeper::{SessionKeeper, greet_any};
 use crate::library::Library;
-use crate::lines::{Answer, Shown};
+use crate::lines::{Answer, ShownView};
 use crate::nodes::{LockMode, Mode, Stat, View};
 use crate::reaching::Reach;
 use crate::refusals::Refusal;
@@ -22,10 +22,10 @@ use std::time::{Duration, Instant};
 use tokio::runtime::Builder;
 use tokio::sync::mpsc::{UnboundedReceiver, unbounded_channel};
 
-/// So long between two tries of a call that was refused for now.
+/// The time between two tries of a call that was refused for now.
 const PAUSE: Duration = Duration::from_millis(50);
 
-/// So long at most a client that is dropped waits until its session has ended.
+/// How long at most a client that is dropped waits until its session has ended.
 const PARTING: Duration = Duration::from_secs(2);
 
 /// How a client is connected.
@@ -44,7 +44,7 @@ pub struct Options {
     pub server: String,
     /// Whom the client acts for: 1 to 64 of `a-z 0-9 . _ -`.
     pub principal: String,
-    /// So long a call that is refused for now is tried again: while the session isn't safe, a recovery lasts, or too many changes
+    /// How long a call that is refused for now is tried again: while the session isn't safe, a recovery lasts, or too many changes
     /// wait. A call that was sent is waited for as long as the session lasts.
     pub patience: Duration,
     /// At `tls:`, the file of the client's certificate, in PEM, whose common name is the principal; with those of the authorities
@@ -110,7 +110,7 @@ pub struct Watch {
 
 /// A client of a cell (Burrows 2006, section 2): a session that a thread keeps, and a cache that answers what the master would.
 ///
-/// One call at a time waits for the master, others behind it; what the cache answers doesn't wait. A client that is dropped ends its
+/// One call at a time waits for the master, others after it; what the cache answers doesn't wait. A client that is dropped ends its
 /// session as [`leave`](Client::leave) does, and waits for that for 2 s at most. Where no master answers within them, or one of its
 /// calls that was poisoned waits still, the session ends when its lease has run out, as that of a program that is killed.
 ///
@@ -160,7 +160,7 @@ impl Client {
             Library::open(client, &principal).map_err(|status| Error::Malformed(format!("the client's number, as {status:?}")))?;
         let core = Arc::new(Core::new(library));
         let hello = Hello::Again { principal, client, token };
-        let keeper = Keeper { core: core.clone(), reach, hello };
+        let keeper = SessionKeeper { core: core.clone(), reach, hello };
         let opened = Client { core, number: client, patience: options.patience };
         thread::Builder::new().name("tillermoss".to_owned()).spawn(move || runtime.block_on(keeper.run(connection)))?;
         opened.wait_for_session()?;
@@ -211,7 +211,7 @@ impl Client {
         !self.core.lock().goes_on()
     }
 
-    /// So long this client trusts its lease still, by its own clock, which goes on while the machine sleeps: zero where it has ended, and
+    /// How long this client trusts its lease still, by its own clock, which goes on while the machine sleeps: zero where it has ended, and
     /// where the session is lost. What was held before that may be another's then, once a lock-delay is over.
     ///
     /// ```
@@ -284,7 +284,7 @@ impl Client {
         }
     }
 
-    // None where the session is over; or the refusal behind which that may be asked for again. Where the reply got lost the next answer
+    // None where the session is over; or the refusal after which that may be asked for again. Where the reply got lost the next answer
     // is that there is no session.
     fn parted(&self, reply: &Receiver<Result<Reply, Error>>, until: Instant) -> Result<Option<Refusal>, Error> {
         match reply.recv_timeout(until.saturating_duration_since(Instant::now())) {
@@ -328,7 +328,7 @@ impl Client {
         }
     }
 
-    // The reply to a call that was sent; or the refusal behind which it may be made again.
+    // The reply to a call that was sent; or the refusal after which it may be made again.
     fn wait_for(&self, reply: &Receiver<Result<Reply, Error>>, only_reads: bool) -> Result<Result<Reply, Refusal>, Error> {
         let result = reply.recv().unwrap_or_else(|_| Err(self.core.lock().fault().unwrap_or(Error::Closed)));
         self.core.tell();
@@ -549,7 +549,7 @@ impl Client {
     pub fn read(&self, handle: Handle) -> Result<View, Error> {
         let reply = self.call(&Call::Read(self.own(handle)?), None)?;
         match reply.answer {
-            Answer::Viewed(Shown { stat, content, children }) => Ok(View { stat, content, children, is_served: reply.is_own }),
+            Answer::Viewed(ShownView { stat, content, children }) => Ok(View { stat, content, children, is_served: reply.is_own }),
             other => Err(unfit(&other)),
         }
     }
@@ -660,7 +660,7 @@ impl Client {
     /// As the master refuses it: `WrongKind` for a file, and others.
     pub fn list(&self, handle: Handle) -> Result<Vec<String>, Error> {
         match self.call(&Call::List(self.own(handle)?), None)?.answer {
-            Answer::Names(names) | Answer::Viewed(Shown { children: names, .. }) => Ok(names),
+            Answer::Names(names) | Answer::Viewed(ShownView { children: names, .. }) => Ok(names),
             other => Err(unfit(&other)),
         }
     }

@@ -17,7 +17,7 @@ mod tests {
     use super::*;
     use std::fs;
 
-    // (what the kernel says of the same clock, in seconds with two digits behind the point)
+    // (what the kernel says of the same clock, in seconds with two digits after the point)
     #[test]
     fn moments_are_those_since_the_start_of_the_machine() {
         let before = now();

@@ -4,7 +4,7 @@ use crate::calls::Call;
 use crate::clock;
 use crate::errors::Error;
 use crate::events::Event;
-use crate::library::{Library, Status};
+use crate::library::{Library, StepStatus};
 use crate::lines::{Answer, Line};
 use crate::outgoing::Outgoing;
 use crate::refusals::Refusal;
@@ -15,7 +15,7 @@ use std::sync::{Arc, Condvar, Mutex, MutexGuard, PoisonError};
 use std::time::Duration;
 use tokio::sync::mpsc::UnboundedSender;
 
-/// So long at most who waits for a change doesn't look again.
+/// How long at most who waits for a change doesn't look again.
 const LOOK: Duration = Duration::from_millis(50);
 
 /// How a call ended.
@@ -84,7 +84,7 @@ impl Mark {
     /// That of an answer which holds for no moment.
     pub const NEVER: Mark = Mark { turn: 0, leased_until: 0 };
 
-    /// So long at most it holds from this moment on.
+    /// How long at most it holds from this moment on.
     pub fn left(self, now: u64) -> Duration {
         Duration::from_millis(self.leased_until.saturating_sub(now))
     }
@@ -111,7 +111,7 @@ impl Teller {
 
 /// Who is told of the events of a handle.
 #[derive(Debug)]
-struct Watcher {
+struct EventWatcher {
     opened: u64,
     handle: u64,
     events: Teller,
@@ -126,7 +126,7 @@ pub struct State {
     notice: Option<Notice>,
     waiter: Option<Sender<Result<Reply, Error>>>,
     new_watcher: Option<Teller>,
-    watchers: Vec<Watcher>,
+    watchers: Vec<EventWatcher>,
     standing: Standing,
     end: Option<End>,
 }
@@ -252,7 +252,7 @@ impl State {
         self.turn();
         let status = self.library.beat(clock::now());
         self.learn(status);
-        let message = if status == Status::Send { self.library.message() } else { None };
+        let message = if status == StepStatus::Send { self.library.message() } else { None };
         let number = message.as_deref().and_then(Asked::read).map(|asked| asked.number());
         self.send(message);
         (number, self.library.leased_until())
@@ -296,7 +296,7 @@ impl State {
         }
         self.turn();
         let status = self.library.read(clock::now(), handle, room);
-        if status == Status::Served {
+        if status == StepStatus::Served {
             return Ok(Tried::Served);
         }
         let own = self.learn(status);
@@ -317,9 +317,9 @@ impl State {
         self.tried(status, own, watcher)
     }
 
-    fn tried(&mut self, status: Status, own: Option<Reply>, watcher: Option<&Teller>) -> Result<Tried, Error> {
+    fn tried(&mut self, status: StepStatus, own: Option<Reply>, watcher: Option<&Teller>) -> Result<Tried, Error> {
         match status {
-            Status::Send => {
+            StepStatus::Send => {
                 let (waiter, reply) = channel();
                 self.waiter = Some(waiter);
                 self.new_watcher = watcher.cloned();
@@ -327,9 +327,11 @@ impl State {
                 self.send(message);
                 Ok(Tried::Sent(reply))
             }
-            Status::Served | Status::Done => own.map(Tried::Answered).ok_or_else(|| Error::Malformed("the client's own answer".to_owned())),
-            Status::Bad(code) => Err(Error::Malformed(format!("the call, as {code}"))),
-            Status::Refused(refusal) => self.refused(refusal),
+            StepStatus::Served | StepStatus::Done => {
+                own.map(Tried::Answered).ok_or_else(|| Error::Malformed("the client's own answer".to_owned()))
+            }
+            StepStatus::Bad(code) => Err(Error::Malformed(format!("the call, as {code}"))),
+            StepStatus::Refused(refusal) => self.refused(refusal),
         }
     }
 
@@ -348,14 +350,14 @@ impl State {
         let status = self.library.poison(clock::now(), handle);
         self.learn(status);
         match status {
-            Status::Refused(refusal) => Err(refusal.into()),
-            Status::Bad(code) => Err(Error::Malformed(format!("the handle, as {code}"))),
+            StepStatus::Refused(refusal) => Err(refusal.into()),
+            StepStatus::Bad(code) => Err(Error::Malformed(format!("the handle, as {code}"))),
             _ => Ok(()),
         }
     }
 
     // Does what the lines of a step tell, and gives the client's own answer where one stands among them.
-    fn learn(&mut self, status: Status) -> Option<Reply> {
+    fn learn(&mut self, status: StepStatus) -> Option<Reply> {
         if status.is_without_effect() {
             return None;
         }
@@ -380,7 +382,7 @@ impl State {
         let watcher = self.new_watcher.take();
         let notice = self.notice.take().filter(|notice| notice.number == number);
         if let (Answer::Opened(handle), Some(events)) = (&answer, watcher) {
-            self.watchers.push(Watcher { opened: number, handle: *handle, events });
+            self.watchers.push(EventWatcher { opened: number, handle: *handle, events });
         }
         let result = match answer {
             Answer::Refused(refusal) => Err(notice.map_or(refusal.into(), |notice| Error::Limited(notice.reason))),

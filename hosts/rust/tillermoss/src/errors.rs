@@ -27,6 +27,14 @@ pub enum Error {
     /// The client can't be connected, or its thread can't be started.
     #[error(transparent)]
     Io(#[from] io::Error),
+    /// What an operator asked for isn't done.
+    #[error("{reason}")]
+    NotDone {
+        /// The status of the answer, as HTTP has them: 404 if there is no such client, 401 and 403 if this operator may not.
+        status: u16,
+        /// Why.
+        reason: String,
+    },
     /// No session began, or none was safe, for as long as the client waits for it.
     #[error("the cell can't be reached")]
     Unavailable,

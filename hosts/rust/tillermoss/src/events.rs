@@ -1,6 +1,6 @@
 //! What a client is told of a node that it watches.
 
-use crate::library::Numbers;
+use crate::library::LineNumbers;
 use crate::numbers;
 
 /// Of which events the client of a handle is told.
@@ -140,7 +140,7 @@ pub enum Event {
 
 impl Event {
     // That of the number in `include/cell_client.h`, with what belongs to it.
-    pub(crate) fn of(told: &Numbers, name: String) -> Option<Event> {
+    pub(crate) fn of(told: &LineNumbers, name: String) -> Option<Event> {
         Some(match u32::try_from(told.event).ok()? {
             numbers::FAIL_OVER => Event::Failover,
             numbers::CONTENTS_SET => Event::Contents { instance: told.instance, generation: told.content_generation },
@@ -177,7 +177,7 @@ mod tests {
             (10, None),
         ];
         for (event, wanted) in rows {
-            let numbers = Numbers { event, instance: 4, content_generation: 3, ..Numbers::default() };
+            let numbers = LineNumbers { event, instance: 4, content_generation: 3, ..LineNumbers::default() };
             assert_eq!(Event::of(&numbers, name()), wanted, "{event}");
         }
     }

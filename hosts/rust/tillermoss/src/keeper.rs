@@ -4,9 +4,10 @@ use crate::clock;
 use crate::core::{Core, End};
 use crate::errors::Error;
 use crate::outgoing::Outgoing;
-use crate::reaching::{Reach, Stream};
+use crate::reaching::Reach;
+use host_wire::sockets::Stream;
 use host_wire::trust::worded;
-use host_wire::{ANSWER_LIMIT, Answer, Blocks, Hello, Notice, Said, TurnedAway, Welcome, framed};
+use host_wire::{ANSWER_LIMIT, Blocks, Hello, MasterAnswer, Notice, Said, TurnedAway, Welcome, framed};
 use rand::Rng;
 use std::io::{self, ErrorKind};
 use std::sync::Arc;
@@ -14,27 +15,27 @@ use std::time::{Duration, Instant};
 use tokio::io::{AsyncRead, AsyncWriteExt};
 use tokio::time::{sleep, timeout};
 
-/// So long a connection may take to be made, and a greeting to be answered.
+/// How long a connection may take to be made, and a greeting to be answered.
 const CONNECTING: Duration = Duration::from_secs(5);
 
-/// So many milliseconds between two tries to connect, at first and at most; of each a random part, half at least, so that not all clients
+/// How many milliseconds between two tries to connect, at first and at most; of each a random part, half at least, so that not all clients
 /// of a server that is gone come back at once.
 const PAUSES: (u64, u64) = (20, 500);
 
-/// So many milliseconds at least between two Beats that have nothing to acknowledge.
+/// How many milliseconds at least between two Beats that have nothing to acknowledge.
 const PACE: u64 = 20;
 
-/// So many milliseconds an answer is waited for at least, and so many at most where the lease has ended: each time in a row twice as
+/// How many milliseconds an answer is waited for at least, and so many at most where the lease has ended: each time in a row twice as
 /// many, else a session couldn't go on where an answer takes longer.
 const AGAIN: (u64, u64) = (200, 10_000);
 
-/// So many milliseconds behind the end of its lease a client waits for an answer before it tries another server.
+/// How many milliseconds after the end of its lease a client waits for an answer before it tries another server.
 const SILENCE: u64 = 3_000;
 
-/// So many milliseconds a master has kept a Beat where the next one is sent once more in the middle.
+/// How many milliseconds a master has kept a Beat where the next one is sent once more in the middle.
 const LONG: u64 = 20_000;
 
-/// A connection that is bound to a client, with what was read of it behind the welcome.
+/// A connection that is bound to a client, with what was read of it after the welcome.
 pub struct Connection {
     stream: Box<dyn Stream>,
     blocks: Blocks,
@@ -74,7 +75,7 @@ pub async fn greet_any(reach: &Reach, hello: &Hello, patience: Duration) -> Resu
                 if !has_several {
                     return Err(error);
                 }
-                pause = Keeper::rest(pause).await;
+                pause = SessionKeeper::rest(pause).await;
             }
             greeted => return greeted,
         }
@@ -107,14 +108,14 @@ async fn welcomed(mut stream: Box<dyn Stream>, hello: &Hello, master: &mut Optio
 struct Schedule {
     /// The number of the last one.
     number: Option<u64>,
-    /// When that was sent, and when the first one behind an answer; and until when the lease lasted then.
+    /// When that was sent, and when the first one after an answer; and until when the lease lasted then.
     sent: u64,
     first: u64,
     until: u64,
     due: u64,
-    /// So many milliseconds an answer is waited for at least.
+    /// How many milliseconds an answer is waited for at least.
     pause: u64,
-    /// So many milliseconds the last answer took: a master keeps a Beat until the lease is near its end.
+    /// How many milliseconds the last answer took: a master keeps a Beat until the lease is near its end.
     usual: u64,
     /// Whether an answer came.
     is_answered: bool,
@@ -122,18 +123,18 @@ struct Schedule {
 
 // What came from the server, as far as the schedule goes by it.
 #[derive(Clone, Copy, Debug)]
-enum Heard {
+enum Answering {
     Said(Said),
     NewMaster,
     Other,
 }
 
-impl Heard {
-    fn read(message: &[u8]) -> Heard {
+impl Answering {
+    fn read(message: &[u8]) -> Answering {
         match Said::read(message) {
-            Some(said) => Heard::Said(said),
-            None if Notice::read(message).is_some_and(|notice| notice.is_of_new_master()) => Heard::NewMaster,
-            None => Heard::Other,
+            Some(said) => Answering::Said(said),
+            None if Notice::read(message).is_some_and(|notice| notice.is_of_new_master()) => Answering::NewMaster,
+            None => Answering::Other,
         }
     }
 }
@@ -161,22 +162,22 @@ impl Schedule {
         if self.is_answered { u64::MAX } else { self.first.max(self.until).saturating_add(SILENCE) }
     }
 
-    // A message came. Behind the answer to the last Beat the next one goes: at once where there is something to acknowledge. Where another
+    // A message came. After the answer to the last Beat the next one goes: at once where there is something to acknowledge. Where another
     // master is up the last one is lost.
-    fn give(&mut self, now: u64, heard: Heard) {
+    fn give(&mut self, now: u64, heard: Answering) {
         let said = match heard {
-            Heard::Said(said) => said,
-            Heard::NewMaster => {
+            Answering::Said(said) => said,
+            Answering::NewMaster => {
                 self.due = now;
                 return;
             }
-            Heard::Other => return,
+            Answering::Other => return,
         };
         let is_answer = self.number == Some(said.number);
         let paced = now.max(self.sent.saturating_add(PACE));
         self.due = match said.answer {
-            Answer::Reply(_) => return,
-            Answer::Alive(_, true) if is_answer => now,
+            MasterAnswer::Reply(_) => return,
+            MasterAnswer::Alive(_, true) if is_answer => now,
             _ if is_answer || said.is_of_old_epoch() => self.due.min(paced),
             _ => return,
         };
@@ -189,7 +190,7 @@ impl Schedule {
 
 /// What the thread knows.
 #[derive(Debug)]
-pub struct Keeper {
+pub struct SessionKeeper {
     /// What it shares with those who call.
     pub core: Arc<Core>,
     /// How the server is reached.
@@ -198,7 +199,7 @@ pub struct Keeper {
     pub hello: Hello,
 }
 
-impl Keeper {
+impl SessionKeeper {
     /// Keeps the session over this connection and later ones, until it is lost, or the client is closed or turned away.
     pub async fn run(&self, connection: Connection) {
         let mut next = Some(connection);
@@ -215,7 +216,7 @@ impl Keeper {
                     let _ = self.keep(connection, &mut has_heard).await;
                     self.core.lock().disconnect();
                     self.core.tell();
-                    pause = if has_heard { PAUSES.0 } else { Keeper::rest(pause).await };
+                    pause = if has_heard { PAUSES.0 } else { SessionKeeper::rest(pause).await };
                 }
                 Err(Error::TurnedAway(reason)) if !reason.is_for_now() => {
                     self.core.end(End::TurnedAway(reason));
@@ -224,7 +225,7 @@ impl Keeper {
                     // (a Beat without a connection notes the time)
                     self.core.lock().beat();
                     self.core.tell();
-                    pause = Keeper::rest(pause).await;
+                    pause = SessionKeeper::rest(pause).await;
                 }
             }
         }
@@ -277,7 +278,7 @@ impl Keeper {
     fn give(&self, schedule: &mut Schedule, message: &[u8]) {
         self.core.lock().give(message);
         self.core.tell();
-        schedule.give(clock::now(), Heard::read(message));
+        schedule.give(clock::now(), Answering::read(message));
     }
 
     // Beats; and sends the call that has no reply yet again, where its message or the reply may be lost.
@@ -298,21 +299,21 @@ impl Keeper {
 mod tests {
     use super::*;
 
-    fn said(number: u64, answer: Answer) -> Heard {
-        Heard::Said(Said { client: 7, number, answer })
+    fn said(number: u64, answer: MasterAnswer) -> Answering {
+        Answering::Said(Said { client: 7, number, answer })
     }
 
     // An Alive; whether it comes with invalidations or events.
-    fn alive(number: u64, brings: bool) -> Heard {
-        said(number, Answer::Alive(Duration::ZERO, brings))
+    fn alive(number: u64, brings: bool) -> Answering {
+        said(number, MasterAnswer::Alive(Duration::ZERO, brings))
     }
 
-    fn started(number: u64) -> Heard {
-        said(number, Answer::Started(Duration::ZERO))
+    fn started(number: u64) -> Answering {
+        said(number, MasterAnswer::Started(Duration::ZERO))
     }
 
-    fn refused(number: u64, refusal: u32) -> Heard {
-        said(number, Answer::Refused(refusal))
+    fn refused(number: u64, refusal: u32) -> Answering {
+        said(number, MasterAnswer::Refused(refusal))
     }
 
     #[test]
@@ -349,7 +350,7 @@ mod tests {
         assert_eq!((schedule.usual, schedule.sent(40_020, (Some(9), 0)).due), (40_000, 40_220));
     }
 
-    // (one that didn't answer the Beat of moment 1000: 3 s behind that, or behind the lease)
+    // (one that didn't answer the Beat of moment 1000: 3 s after that, or after the lease)
     #[test]
     fn a_silent_server_is_left() {
         for (leased_until, silent_from) in [(0, 4000), (5000, 8000)] {
@@ -365,7 +366,7 @@ mod tests {
 
     #[test]
     fn the_next_beat_goes_behind_an_answer() {
-        let notice = |number| Heard::read(&Notice { number, reason: String::new() }.write());
+        let notice = |number| Answering::read(&Notice { number, reason: String::new() }.write());
         let rows = [
             (1005, alive(7, false), 1020, true),
             (1050, alive(7, false), 1050, true),
@@ -378,7 +379,7 @@ mod tests {
             (1005, refused(6, 1), 5000, false),
             (1005, started(6), 5000, false),
             (1005, alive(6, true), 5000, false),
-            (1005, said(7, Answer::Reply(None)), 5000, false),
+            (1005, said(7, MasterAnswer::Reply(None)), 5000, false),
         ];
         for (now, heard, due, is_answered) in rows {
             let mut schedule = Schedule::new().sent(1000, (Some(7), 5000));

@@ -10,7 +10,7 @@ use std::ptr::{self, NonNull};
 
 /// A struct of one pointer, as the library declares it. It owns the client there.
 #[repr(C)]
-struct Handle {
+struct RawHandle {
     at: *mut u8,
 }
 
@@ -29,7 +29,7 @@ pub struct OpenParts {
 /// A line of the last step in plain numbers, as the library declares it.
 #[repr(C)]
 #[derive(Clone, Copy, Debug, Default, PartialEq, Eq)]
-pub struct Numbers {
+pub struct LineNumbers {
     pub what: u32,
     pub fault: u32,
     pub call: u64,
@@ -49,8 +49,8 @@ pub struct Numbers {
 
 /// The same, with what belongs to it; what doesn't is empty.
 #[derive(Clone, Debug, Default)]
-pub struct Told {
-    pub numbers: Numbers,
+pub struct ToldLine {
+    pub numbers: LineNumbers,
     /// The content, or the sequencer.
     pub bytes: Vec<u8>,
     /// The last components of the children's names.
@@ -61,16 +61,16 @@ pub struct Told {
     pub name: String,
 }
 
-type Shown = unsafe extern "C" fn(*mut Handle, *mut u8, usize, *mut usize) -> u32;
+type ShowCall = unsafe extern "C" fn(*mut RawHandle, *mut u8, usize, *mut usize) -> u32;
 
 unsafe extern "C" {
     fn cell_client_open(number: u64, principal: *const u8, length: usize, out: *mut *mut u8) -> u32;
-    fn cell_client_beat(handle: *mut Handle, now: u64) -> u32;
-    fn cell_client_read(handle: *mut Handle, now: u64, number: u64, room: *mut u8, room_length: usize, length: *mut usize) -> u32;
-    fn cell_client_hit(handle: *mut Handle, now: u64, number: u64, room: *mut u8, room_length: usize, length: *mut usize) -> u32;
-    fn cell_client_poison(handle: *mut Handle, now: u64, number: u64) -> u32;
+    fn cell_client_beat(handle: *mut RawHandle, now: u64) -> u32;
+    fn cell_client_read(handle: *mut RawHandle, now: u64, number: u64, room: *mut u8, room_length: usize, length: *mut usize) -> u32;
+    fn cell_client_hit(handle: *mut RawHandle, now: u64, number: u64, room: *mut u8, room_length: usize, length: *mut usize) -> u32;
+    fn cell_client_poison(handle: *mut RawHandle, now: u64, number: u64) -> u32;
     fn cell_client_open_node(
-        handle: *mut Handle,
+        handle: *mut RawHandle,
         now: u64,
         name: *const u8,
         name_length: usize,
@@ -79,7 +79,7 @@ unsafe extern "C" {
         content_length: usize,
     ) -> u32;
     fn cell_client_open_under(
-        handle: *mut Handle,
+        handle: *mut RawHandle,
         now: u64,
         name: *const u8,
         name_length: usize,
@@ -93,12 +93,12 @@ unsafe extern "C" {
         change: *const u8,
         change_length: usize,
     ) -> u32;
-    fn cell_client_close_handle(handle: *mut Handle, now: u64, number: u64) -> u32;
-    fn cell_client_stat(handle: *mut Handle, now: u64, number: u64) -> u32;
-    fn cell_client_list(handle: *mut Handle, now: u64, number: u64) -> u32;
-    fn cell_client_set(handle: *mut Handle, now: u64, number: u64, content: *const u8, content_length: usize, generation: u64) -> u32;
+    fn cell_client_close_handle(handle: *mut RawHandle, now: u64, number: u64) -> u32;
+    fn cell_client_stat(handle: *mut RawHandle, now: u64, number: u64) -> u32;
+    fn cell_client_list(handle: *mut RawHandle, now: u64, number: u64) -> u32;
+    fn cell_client_set(handle: *mut RawHandle, now: u64, number: u64, content: *const u8, content_length: usize, generation: u64) -> u32;
     fn cell_client_set_acl(
-        handle: *mut Handle,
+        handle: *mut RawHandle,
         now: u64,
         number: u64,
         read: *const u8,
@@ -109,30 +109,30 @@ unsafe extern "C" {
         change_length: usize,
         generation: u64,
     ) -> u32;
-    fn cell_client_delete(handle: *mut Handle, now: u64, number: u64) -> u32;
-    fn cell_client_acquire(handle: *mut Handle, now: u64, number: u64, mode: u32) -> u32;
-    fn cell_client_try_acquire(handle: *mut Handle, now: u64, number: u64, mode: u32) -> u32;
-    fn cell_client_release(handle: *mut Handle, now: u64, number: u64) -> u32;
-    fn cell_client_get_sequencer(handle: *mut Handle, now: u64, number: u64) -> u32;
-    fn cell_client_set_sequencer(handle: *mut Handle, now: u64, number: u64, sequencer: *const u8, sequencer_length: usize) -> u32;
-    fn cell_client_check_sequencer(handle: *mut Handle, now: u64, sequencer: *const u8, sequencer_length: usize) -> u32;
-    fn cell_client_leave(handle: *mut Handle, now: u64) -> u32;
-    fn cell_client_give(handle: *mut Handle, now: u64, message: *const u8, length: usize) -> u32;
-    fn cell_client_message(handle: *mut Handle, room: *mut u8, room_length: usize, length: *mut usize) -> u32;
-    fn cell_client_line(handle: *mut Handle, place: usize, out: *mut Numbers);
-    fn cell_client_line_bytes(handle: *mut Handle, place: usize, room: *mut u8, room_length: usize) -> usize;
-    fn cell_client_line_child(handle: *mut Handle, place: usize, index: usize, room: *mut u8, room_length: usize) -> usize;
-    fn cell_client_line_acl(handle: *mut Handle, place: usize, right: u32, room: *mut u8, room_length: usize) -> usize;
-    fn cell_client_line_name(handle: *mut Handle, place: usize, room: *mut u8, room_length: usize) -> usize;
-    fn cell_client_content(handle: *mut Handle, room: *mut u8, room_length: usize) -> usize;
-    fn cell_client_again(handle: *mut Handle, room: *mut u8, room_length: usize, length: *mut usize) -> u32;
-    fn cell_client_leased_until(handle: *mut Handle) -> u64;
-    fn cell_client_close(handle: Handle);
+    fn cell_client_delete(handle: *mut RawHandle, now: u64, number: u64) -> u32;
+    fn cell_client_acquire(handle: *mut RawHandle, now: u64, number: u64, mode: u32) -> u32;
+    fn cell_client_try_acquire(handle: *mut RawHandle, now: u64, number: u64, mode: u32) -> u32;
+    fn cell_client_release(handle: *mut RawHandle, now: u64, number: u64) -> u32;
+    fn cell_client_get_sequencer(handle: *mut RawHandle, now: u64, number: u64) -> u32;
+    fn cell_client_set_sequencer(handle: *mut RawHandle, now: u64, number: u64, sequencer: *const u8, sequencer_length: usize) -> u32;
+    fn cell_client_check_sequencer(handle: *mut RawHandle, now: u64, sequencer: *const u8, sequencer_length: usize) -> u32;
+    fn cell_client_leave(handle: *mut RawHandle, now: u64) -> u32;
+    fn cell_client_give(handle: *mut RawHandle, now: u64, message: *const u8, length: usize) -> u32;
+    fn cell_client_message(handle: *mut RawHandle, room: *mut u8, room_length: usize, length: *mut usize) -> u32;
+    fn cell_client_line(handle: *mut RawHandle, place: usize, out: *mut LineNumbers);
+    fn cell_client_line_bytes(handle: *mut RawHandle, place: usize, room: *mut u8, room_length: usize) -> usize;
+    fn cell_client_line_child(handle: *mut RawHandle, place: usize, index: usize, room: *mut u8, room_length: usize) -> usize;
+    fn cell_client_line_acl(handle: *mut RawHandle, place: usize, right: u32, room: *mut u8, room_length: usize) -> usize;
+    fn cell_client_line_name(handle: *mut RawHandle, place: usize, room: *mut u8, room_length: usize) -> usize;
+    fn cell_client_content(handle: *mut RawHandle, room: *mut u8, room_length: usize) -> usize;
+    fn cell_client_again(handle: *mut RawHandle, room: *mut u8, room_length: usize, length: *mut usize) -> u32;
+    fn cell_client_leased_until(handle: *mut RawHandle) -> u64;
+    fn cell_client_close(handle: RawHandle);
 }
 
 /// What a step came to.
 #[derive(Clone, Copy, Debug, PartialEq, Eq)]
-pub enum Status {
+pub enum StepStatus {
     /// There is nothing to send.
     Done,
     /// There is a message to send.
@@ -145,19 +145,19 @@ pub enum Status {
     Bad(u32),
 }
 
-impl Status {
-    fn of(code: u32) -> Status {
+impl StepStatus {
+    fn of(code: u32) -> StepStatus {
         match code {
-            numbers::DONE => Status::Done,
-            numbers::SEND => Status::Send,
-            numbers::SERVED => Status::Served,
-            _ => Refusal::of_code(code).map_or(Status::Bad(code), Status::Refused),
+            numbers::DONE => StepStatus::Done,
+            numbers::SEND => StepStatus::Send,
+            numbers::SERVED => StepStatus::Served,
+            _ => Refusal::of_code(code).map_or(StepStatus::Bad(code), StepStatus::Refused),
         }
     }
 
     /// Whether the step changed nothing, so that what it would show is that of the step before.
     pub fn is_without_effect(self) -> bool {
-        matches!(self, Status::Bad(_) | Status::Refused(Refusal::NoMemory | Refusal::Exhausted))
+        matches!(self, StepStatus::Bad(_) | StepStatus::Refused(Refusal::NoMemory | Refusal::Exhausted))
     }
 }
 
@@ -172,29 +172,29 @@ unsafe impl Send for Library {}
 
 impl Library {
     /// Opens a client of this number, for this principal; or the code of why there is none.
-    pub fn open(number: u64, principal: &str) -> Result<Library, Status> {
+    pub fn open(number: u64, principal: &str) -> Result<Library, StepStatus> {
         let mut at = ptr::null_mut();
         // SAFETY: the text is there for the call, and the address is written over a pointer, which may be null.
         match unsafe { cell_client_open(number, principal.as_ptr(), principal.len(), &raw mut at) } {
             0 => Ok(Library { at }),
-            code => Err(Status::of(code)),
+            code => Err(StepStatus::of(code)),
         }
     }
 
     // The handle for one call. (It isn't changed: the client is where it points to.)
-    fn handle(&mut self) -> Handle {
-        Handle { at: self.at }
+    fn handle(&mut self) -> RawHandle {
+        RawHandle { at: self.at }
     }
 
     /// Asks for a Start or a Beat.
-    pub fn beat(&mut self, now: u64) -> Status {
+    pub fn beat(&mut self, now: u64) -> StepStatus {
         let mut handle = self.handle();
         // SAFETY: the handle is that of an open client, and `&mut self` is one call at a time; so too below.
-        Status::of(unsafe { cell_client_beat(&raw mut handle, now) })
+        StepStatus::of(unsafe { cell_client_beat(&raw mut handle, now) })
     }
 
     /// Asks for a call.
-    pub fn call(&mut self, now: u64, call: &Call) -> Status {
+    pub fn call(&mut self, now: u64, call: &Call) -> StepStatus {
         let mut handle = self.handle();
         let at = &raw mut handle;
         let mut length = 0;
@@ -221,21 +221,21 @@ impl Library {
                 Call::Leave => cell_client_leave(at, now),
             }
         };
-        Status::of(code)
+        StepStatus::of(code)
     }
 
-    fn open_node(&mut self, now: u64, opening: &Opening) -> Status {
+    fn open_node(&mut self, now: u64, opening: &Opening) -> StepStatus {
         let mut handle = self.handle();
         let at = &raw mut handle;
         let (name, content, parts) = (opening.name.as_bytes(), opening.content(), opening.parts());
         let Some([read, write, change]) = opening.acl() else {
             // SAFETY: as above.
-            return Status::of(unsafe {
+            return StepStatus::of(unsafe {
                 cell_client_open_node(at, now, name.as_ptr(), name.len(), &raw const parts, content.as_ptr(), content.len())
             });
         };
         // SAFETY: as above.
-        Status::of(unsafe {
+        StepStatus::of(unsafe {
             cell_client_open_under(
                 at,
                 now,
@@ -254,11 +254,11 @@ impl Library {
         })
     }
 
-    fn set_acl(&mut self, now: u64, number: u64, [read, write, change]: &[String; 3], generation: Option<u64>) -> Status {
+    fn set_acl(&mut self, now: u64, number: u64, [read, write, change]: &[String; 3], generation: Option<u64>) -> StepStatus {
         let mut handle = self.handle();
         let generation = wanted(generation);
         // SAFETY: as above.
-        Status::of(unsafe {
+        StepStatus::of(unsafe {
             cell_client_set_acl(
                 &raw mut handle,
                 now,
@@ -275,17 +275,17 @@ impl Library {
     }
 
     /// Reads the node of a handle. Served, its content stands in the room; else the room is empty.
-    pub fn read(&mut self, now: u64, number: u64, room: &mut Vec<u8>) -> Status {
+    pub fn read(&mut self, now: u64, number: u64, room: &mut Vec<u8>) -> StepStatus {
         let mut handle = self.handle();
         room.clear();
         let mut length = 0;
         // SAFETY: as above; the room is there for the call, and nothing else has it. It is written and isn't read.
         let code = unsafe { cell_client_read(&raw mut handle, now, number, room.as_mut_ptr(), room.capacity(), &raw mut length) };
-        let status = Status::of(code);
-        if status == Status::Served && length <= room.capacity() {
+        let status = StepStatus::of(code);
+        if status == StepStatus::Served && length <= room.capacity() {
             // SAFETY: so many bytes were written to the room's front.
             unsafe { room.set_len(length) };
-        } else if status == Status::Served {
+        } else if status == StepStatus::Served {
             *room = self.content();
         }
         status
@@ -300,7 +300,7 @@ impl Library {
             let mut length = 0;
             // SAFETY: as above; the room is there for the call, and nothing else has it. It is written and isn't read.
             let code = unsafe { cell_client_hit(&raw mut handle, now, number, room.as_mut_ptr(), room.capacity(), &raw mut length) };
-            if Status::of(code) != Status::Served {
+            if StepStatus::of(code) != StepStatus::Served {
                 return false;
             }
             if length <= room.capacity() {
@@ -318,21 +318,21 @@ impl Library {
         let mut length = 0;
         // SAFETY: as above; into no room nothing is written.
         let code = unsafe { cell_client_hit(&raw mut handle, now, number, NonNull::dangling().as_ptr(), 0, &raw mut length) };
-        Status::of(code) == Status::Served
+        StepStatus::of(code) == StepStatus::Served
     }
 
     /// Poisons a handle.
-    pub fn poison(&mut self, now: u64, number: u64) -> Status {
+    pub fn poison(&mut self, now: u64, number: u64) -> StepStatus {
         let mut handle = self.handle();
         // SAFETY: as above.
-        Status::of(unsafe { cell_client_poison(&raw mut handle, now, number) })
+        StepStatus::of(unsafe { cell_client_poison(&raw mut handle, now, number) })
     }
 
     /// Gives the client a message of the master.
-    pub fn give(&mut self, now: u64, message: &[u8]) -> Status {
+    pub fn give(&mut self, now: u64, message: &[u8]) -> StepStatus {
         let mut handle = self.handle();
         // SAFETY: as above; the bytes are there for the call.
-        Status::of(unsafe { cell_client_give(&raw mut handle, now, message.as_ptr(), message.len()) })
+        StepStatus::of(unsafe { cell_client_give(&raw mut handle, now, message.as_ptr(), message.len()) })
     }
 
     /// The message that the last step gave to be sent.
@@ -346,17 +346,17 @@ impl Library {
     }
 
     /// The lines of the last step.
-    pub fn lines(&mut self) -> Vec<Told> {
+    pub fn lines(&mut self) -> Vec<ToldLine> {
         (0..).map_while(|place| self.line(place)).collect()
     }
 
-    // The line at this place; None behind the last.
-    fn line(&mut self, place: usize) -> Option<Told> {
+    // The line at this place; None after the last.
+    fn line(&mut self, place: usize) -> Option<ToldLine> {
         let mut handle = self.handle();
-        let mut numbers = Numbers::default();
+        let mut numbers = LineNumbers::default();
         // SAFETY: as above; what is written is there for the call, and nothing else has it.
         unsafe { cell_client_line(&raw mut handle, place, &raw mut numbers) };
-        (numbers.what != 0).then(|| Told {
+        (numbers.what != 0).then(|| ToldLine {
             numbers,
             // SAFETY: as `filled` says; so too below.
             bytes: self.filled(|at, room, length| unsafe { cell_client_line_bytes(at, place, room, length) }),
@@ -378,13 +378,13 @@ impl Library {
     }
 
     // (a name is ASCII)
-    fn text(&mut self, shows: impl Fn(*mut Handle, *mut u8, usize) -> usize) -> String {
+    fn text(&mut self, shows: impl Fn(*mut RawHandle, *mut u8, usize) -> usize) -> String {
         String::from_utf8_lossy(&self.filled(shows)).into_owned()
     }
 
     // All that one of the calls shows which answer how long that is, and write it where there is room for it. It is handed the handle of an
     // open client, and room that is there for the call and that nothing else has.
-    fn filled(&mut self, shows: impl Fn(*mut Handle, *mut u8, usize) -> usize) -> Vec<u8> {
+    fn filled(&mut self, shows: impl Fn(*mut RawHandle, *mut u8, usize) -> usize) -> Vec<u8> {
         let mut handle = self.handle();
         let mut room = Vec::new();
         loop {
@@ -405,7 +405,7 @@ impl Library {
     }
 
     // What one of the calls shows that change nothing; None for want of memory.
-    fn shown(&mut self, shows: Shown) -> Option<Vec<u8>> {
+    fn shown(&mut self, shows: ShowCall) -> Option<Vec<u8>> {
         let mut handle = self.handle();
         let mut room = vec![0; 256];
         loop {
@@ -436,7 +436,7 @@ fn wanted(generation: Option<u64>) -> u64 {
 impl Drop for Library {
     fn drop(&mut self) {
         // SAFETY: the handle is that of an open client, and is used no more.
-        unsafe { cell_client_close(Handle { at: self.at }) }
+        unsafe { cell_client_close(RawHandle { at: self.at }) }
     }
 }
 
@@ -445,7 +445,7 @@ mod tests {
     use super::*;
     use crate::calls::{Create, Life};
     use crate::events::{Event, Events};
-    use crate::lines::{Answer, Line, Shown};
+    use crate::lines::{Answer, Line, ShownView};
     use crate::nodes::{Kind, LockMode, Mode, Right, Stat};
     use host_wire::Asked;
     use programs::Master;
@@ -462,14 +462,14 @@ mod tests {
     fn serve<const N: usize>(master: &mut Master, message: &[u8], mut clients: [(u64, &mut Library); N]) {
         for (number, said) in master.ask(1100, message).unwrap() {
             let (_, library) = clients.iter_mut().find(|(client, _)| *client == number).unwrap();
-            assert_eq!(library.give(1100, &said), Status::Done);
+            assert_eq!(library.give(1100, &said), StepStatus::Done);
         }
     }
 
     // A client that was given a session at 1000 ms, of 12,000 ms: it is trusted until 11,293 have passed.
     fn began(master: &mut Master, number: u64) -> Library {
         let mut library = Library::open(number, "ann").unwrap();
-        assert_eq!(library.beat(1000), Status::Send);
+        assert_eq!(library.beat(1000), StepStatus::Send);
         let start = library.message().unwrap();
         serve(master, &start, [(number, &mut library)]);
         library
@@ -483,7 +483,7 @@ mod tests {
 
     // Makes a call that the master does, and gives the lines that came of it.
     fn call(master: &mut Master, library: &mut Library, number: u64, call: &Call) -> Vec<Line> {
-        assert_eq!(library.call(1100, call), Status::Send, "{call:?}");
+        assert_eq!(library.call(1100, call), StepStatus::Send, "{call:?}");
         let message = library.message().unwrap();
         serve(master, &message, [(number, library)]);
         lines(library)
@@ -508,7 +508,7 @@ mod tests {
     // The same, and its content cached.
     fn cached() -> (Master, Library) {
         let (mut master, mut library) = opened();
-        assert_eq!(library.read(1100, 1, &mut Vec::new()), Status::Send);
+        assert_eq!(library.read(1100, 1, &mut Vec::new()), StepStatus::Send);
         let read = library.message().unwrap();
         serve(&mut master, &read, [(CLIENT, &mut library)]);
         (master, library)
@@ -535,14 +535,14 @@ mod tests {
     fn a_session_is_begun_and_kept() {
         let mut library = Library::open(CLIENT, "ann").unwrap();
         assert_eq!((library.leased_until(), library.message(), lines(&mut library)), (0, None, vec![]));
-        assert_eq!(library.beat(1000), Status::Send);
+        assert_eq!(library.beat(1000), StepStatus::Send);
         let start = Asked::read(&library.message().unwrap()).unwrap();
         assert!(start.is_start() && start.is_from(CLIENT, "ann"));
-        assert_eq!((start.number(), library.call(1000, &Call::Read(1))), (1, Status::Refused(Refusal::NoSession)));
+        assert_eq!((start.number(), library.call(1000, &Call::Read(1))), (1, StepStatus::Refused(Refusal::NoSession)));
         let (_, mut library) = started();
         assert_eq!(library.leased_until(), 12_294);
-        assert_eq!(library.call(1100, &Call::Read(1)), Status::Refused(Refusal::BadHandle));
-        assert_eq!(library.beat(1100), Status::Send);
+        assert_eq!(library.call(1100, &Call::Read(1)), StepStatus::Refused(Refusal::BadHandle));
+        assert_eq!(library.beat(1100), StepStatus::Send);
         let beat = Asked::read(&library.message().unwrap()).unwrap();
         assert!(!beat.is_start() && beat.is_from(CLIENT, "ann"));
         assert_eq!((beat.number(), beat.epoch()), (2, 1));
@@ -553,10 +553,10 @@ mod tests {
         let (_, mut library) = started();
         let opening = Opening::new("/ls/c/f", Mode::READ);
         assert_eq!(library.again(), None);
-        assert_eq!(library.call(1100, &Call::Open(&opening)), Status::Send);
+        assert_eq!(library.call(1100, &Call::Open(&opening)), StepStatus::Send);
         let sent = library.message();
         assert!(sent.is_some() && library.again() == sent);
-        assert_eq!(library.call(1100, &Call::Open(&opening)), Status::Refused(Refusal::CallOutstanding));
+        assert_eq!(library.call(1100, &Call::Open(&opening)), StepStatus::Refused(Refusal::CallOutstanding));
     }
 
     // Each call with what a master of a new store answers, in this order.
@@ -603,7 +603,7 @@ mod tests {
         let locked = Stat { acl_generation: 2, lock_generation: Some(1), ..stat(Kind::File, 6, 3, 3) };
         done(Call::Stat(3), Answer::Stated(locked.clone()));
         let shown = Stat { lock_generation: None, ..locked };
-        done(Call::Read(3), Answer::Viewed(Shown { stat: shown, content: b"abc".to_vec(), children: Vec::new() }));
+        done(Call::Read(3), Answer::Viewed(ShownView { stat: shown, content: b"abc".to_vec(), children: Vec::new() }));
         done(Call::List(2), Answer::Names(vec!["f".to_owned()]));
         done(Call::Delete(1), refused(Refusal::Denied(Right::Write)));
         done(Call::Open(&making("/ls/c/g", file(b""))), Answer::Opened(6));
@@ -611,7 +611,7 @@ mod tests {
         done(Call::Stat(6), refused(Refusal::StaleInstance));
         done(Call::Open(&Opening::new("/ls/c", Mode::READ)), Answer::Opened(7));
         let children = ["acl", "d", "e"].map(str::to_owned).to_vec();
-        done(Call::Read(7), Answer::Viewed(Shown { stat: stat(Kind::Directory, 1, 0, 0), content: Vec::new(), children }));
+        done(Call::Read(7), Answer::Viewed(ShownView { stat: stat(Kind::Directory, 1, 0, 0), content: Vec::new(), children }));
         done(Call::Close(4), Answer::Closed);
         done(Call::Leave, Answer::Done);
     }
@@ -635,9 +635,9 @@ mod tests {
         let acl = |name: &str| [name, "b", "c"].map(str::to_owned);
         let open = |name, acl| Opening { create: Some(Create { acl: Some(acl), ..Create::default() }), ..Opening::new(name, Mode::READ) };
         for opening in [open("/ls/c/D", acl("a")), open("/ls/c/d", acl("")), open("/ls/c/d", acl("a/b"))] {
-            assert_eq!(library.call(1100, &Call::Open(&opening)), Status::Bad(86), "{opening:?}");
+            assert_eq!(library.call(1100, &Call::Open(&opening)), StepStatus::Bad(86), "{opening:?}");
         }
-        assert_eq!(library.call(1100, &Call::SetAcl(1, &acl(".."), None)), Status::Bad(86));
+        assert_eq!(library.call(1100, &Call::SetAcl(1, &acl(".."), None)), StepStatus::Bad(86));
         assert_eq!(lines(&mut library), [Line::Done(1, Answer::Opened(1))]);
     }
 
@@ -653,7 +653,7 @@ mod tests {
             assert_eq!(told, [Line::Done(number, Answer::Opened(number))]);
         }
         // (it is told of what it made itself)
-        assert_eq!(library.beat(1100), Status::Send);
+        assert_eq!(library.beat(1100), StepStatus::Send);
         let beat = library.message().unwrap();
         serve(&mut master, &beat, [(CLIENT, &mut library)]);
         let own = || "/ls/c/f".to_owned();
@@ -679,10 +679,10 @@ mod tests {
 
     // A Beat of the first waits at the master, and the other makes a call: what that tells the first is given to it.
     fn tell(master: &mut Master, (number, library): (u64, &mut Library), (by, other): (u64, &mut Library), deed: &Call) {
-        assert_eq!(library.beat(1100), Status::Send);
+        assert_eq!(library.beat(1100), StepStatus::Send);
         let beat = library.message().unwrap();
         serve(master, &beat, [(number, library), (by, other)]);
-        assert_eq!(other.call(1100, deed), Status::Send, "{deed:?}");
+        assert_eq!(other.call(1100, deed), StepStatus::Send, "{deed:?}");
         let message = other.message().unwrap();
         serve(master, &message, [(number, library), (by, other)]);
     }
@@ -692,7 +692,7 @@ mod tests {
         let (mut master, mut library) = started();
         master.again().unwrap();
         for wanted in [vec![], vec![Line::Event(None, Event::Failover)]] {
-            assert_eq!(library.beat(1100), Status::Send);
+            assert_eq!(library.beat(1100), StepStatus::Send);
             let beat = library.message().unwrap();
             serve(&mut master, &beat, [(CLIENT, &mut library)]);
             assert_eq!(lines(&mut library), wanted);
@@ -702,17 +702,17 @@ mod tests {
     #[test]
     fn a_read_is_served_while_the_lease_runs() {
         let (_master, mut library) = cached();
-        let shown = Shown { stat: stat(Kind::File, 4, 1, 5), content: b"hello".to_vec(), children: Vec::new() };
+        let shown = ShownView { stat: stat(Kind::File, 4, 1, 5), content: b"hello".to_vec(), children: Vec::new() };
         assert_eq!(lines(&mut library), [Line::Done(2, Answer::Viewed(shown.clone()))]);
         assert_eq!(library.content(), b"hello");
         for capacity in [0, 4, 5, 100] {
             let mut room = Vec::with_capacity(capacity);
-            assert_eq!(library.read(12_293, 1, &mut room), Status::Served);
+            assert_eq!(library.read(12_293, 1, &mut room), StepStatus::Served);
             assert_eq!(room, b"hello");
         }
         assert_eq!(lines(&mut library), [Line::Served(Some(shown))]);
         let mut room = b"old".to_vec();
-        assert_eq!(library.read(12_294, 1, &mut room), Status::Refused(Refusal::InJeopardy));
+        assert_eq!(library.read(12_294, 1, &mut room), StepStatus::Refused(Refusal::InJeopardy));
         assert_eq!((room.as_slice(), lines(&mut library)), (&b""[..], vec![Line::Jeopardy]));
     }
 
@@ -730,7 +730,7 @@ mod tests {
         }
         assert_eq!((lines(&mut library), library.content()), (before, b"hello".to_vec()));
         let mut room = b"old".to_vec();
-        assert_eq!(library.poison(1100, 1), Status::Done);
+        assert_eq!(library.poison(1100, 1), StepStatus::Done);
         assert!(!library.hit(1100, 1, &mut room) && room.is_empty());
         assert!(!started().1.hit(1100, 1, &mut room));
     }
@@ -738,10 +738,10 @@ mod tests {
     #[test]
     fn a_poisoned_handle_is_refused() {
         let (_master, mut library) = cached();
-        assert_eq!(library.poison(1100, 2), Status::Refused(Refusal::BadHandle));
-        assert_eq!(library.poison(1100, 1), Status::Done);
+        assert_eq!(library.poison(1100, 2), StepStatus::Refused(Refusal::BadHandle));
+        assert_eq!(library.poison(1100, 1), StepStatus::Done);
         assert_eq!(lines(&mut library), [Line::Done(0, Answer::Poisoned)]);
-        assert_eq!(library.read(1100, 1, &mut Vec::new()), Status::Refused(Refusal::Poisoned));
+        assert_eq!(library.read(1100, 1, &mut Vec::new()), StepStatus::Refused(Refusal::Poisoned));
     }
 
     #[test]
@@ -749,16 +749,16 @@ mod tests {
         let (mut master, mut library) = cached();
         let before = lines(&mut library);
         let mut other = Library::open(OTHER, "ann").unwrap();
-        assert_eq!(other.beat(1000), Status::Send);
+        assert_eq!(other.beat(1000), StepStatus::Send);
         let said = master.ask(1100, &other.message().unwrap()).unwrap().remove(0).1;
         let rows: &[(&[u8], u32)] =
             &[(b"", 82), (&said[..said.len() - 1], 82), (&[&[1], &said[1..]].concat(), 83), (&[&said[..], b"a"].concat(), 87)];
         for (message, code) in rows {
-            assert_eq!(library.give(9_999_999, message), Status::Bad(*code), "{message:?}");
+            assert_eq!(library.give(9_999_999, message), StepStatus::Bad(*code), "{message:?}");
         }
-        assert_eq!(library.call(9_999_999, &Call::Open(&Opening::new("f", Mode::READ))), Status::Bad(86));
-        assert_eq!(library.beat(1 << 53), Status::Refused(Refusal::Exhausted));
+        assert_eq!(library.call(9_999_999, &Call::Open(&Opening::new("f", Mode::READ))), StepStatus::Bad(86));
+        assert_eq!(library.beat(1 << 53), StepStatus::Refused(Refusal::Exhausted));
         assert_eq!((lines(&mut library), library.content()), (before, b"hello".to_vec()));
-        assert_eq!(library.read(1100, 1, &mut Vec::new()), Status::Served);
+        assert_eq!(library.read(1100, 1, &mut Vec::new()), StepStatus::Served);
     }
 }

@@ -1,14 +1,14 @@
 //! The lines of a client's last step, of the plain numbers and texts in which the library tells them.
 
 use crate::events::Event;
-use crate::library::{Numbers, Told};
+use crate::library::{LineNumbers, ToldLine};
 use crate::nodes::{Kind, Stat};
 use crate::numbers;
 use crate::refusals::Refusal;
 
 /// What a view shows.
 #[derive(Clone, Debug, PartialEq, Eq)]
-pub struct Shown {
+pub struct ShownView {
     pub stat: Stat,
     pub content: Vec<u8>,
     /// The last components of the children's names.
@@ -22,7 +22,7 @@ pub enum Answer {
     Opened(u64),
     Closed,
     Poisoned,
-    Viewed(Shown),
+    Viewed(ShownView),
     Stated(Stat),
     /// The last components of the children's names.
     Names(Vec<String>),
@@ -37,7 +37,7 @@ pub enum Line {
     /// The call of this number ended, 0 where the client answered by itself.
     Done(u64, Answer),
     /// Answered out of the cache: what it shows, None where there is no such node.
-    Served(Option<Shown>),
+    Served(Option<ShownView>),
     /// An event, of the handle whose Open had this number, where it is of one.
     Event(Option<u64>, Event),
     Jeopardy,
@@ -47,7 +47,7 @@ pub enum Line {
 
 impl Line {
     /// The line that is told so; None for one that a client doesn't print of its own.
-    pub fn of(told: Told) -> Option<Line> {
+    pub fn of(told: ToldLine) -> Option<Line> {
         match told.numbers.what {
             numbers::SEEN => Some(Line::Served(Some(shown(told)?))),
             numbers::ABSENT => Some(Line::Served(None)),
@@ -61,11 +61,11 @@ impl Line {
 }
 
 // (no call has the number 0)
-fn opened(numbers: &Numbers) -> Option<u64> {
+fn opened(numbers: &LineNumbers) -> Option<u64> {
     Some(numbers.opened).filter(|&opened| opened != 0)
 }
 
-fn answer(told: Told) -> Option<Answer> {
+fn answer(told: ToldLine) -> Option<Answer> {
     Some(match told.numbers.what {
         numbers::OPENED => Answer::Opened(told.numbers.handle),
         numbers::CLOSED => Answer::Closed,
@@ -80,12 +80,12 @@ fn answer(told: Told) -> Option<Answer> {
     })
 }
 
-fn shown(told: Told) -> Option<Shown> {
-    Some(Shown { stat: stat(&told.numbers, told.acl, None)?, content: told.bytes, children: told.children })
+fn shown(told: ToldLine) -> Option<ShownView> {
+    Some(ShownView { stat: stat(&told.numbers, told.acl, None)?, content: told.bytes, children: told.children })
 }
 
-fn stat(numbers: &Numbers, acl: [String; 3], lock_generation: Option<u64>) -> Option<Stat> {
-    let &Numbers { instance, content_generation, acl_generation, length, .. } = numbers;
+fn stat(numbers: &LineNumbers, acl: [String; 3], lock_generation: Option<u64>) -> Option<Stat> {
+    let &LineNumbers { instance, content_generation, acl_generation, length, .. } = numbers;
     let is_ephemeral = numbers.life == numbers::EPHEMERAL;
     Some(Stat {
         kind: Kind::of(numbers.kind.into())?,
@@ -108,17 +108,27 @@ mod tests {
     }
 
     // What a line of this kind tells of a node, or of a view of one.
-    fn told(what: u32, kind: u32, bytes: &[u8], children: &[&str]) -> Told {
+    fn told(what: u32, kind: u32, bytes: &[u8], children: &[&str]) -> ToldLine {
         let (instance, content_generation, acl_generation, lock_generation) = (4, 2, 1, 7);
         let (length, life, call) = (3, kind, 2);
-        let numbers =
-            Numbers { what, call, instance, content_generation, acl_generation, lock_generation, length, kind, life, ..Numbers::default() };
+        let numbers = LineNumbers {
+            what,
+            call,
+            instance,
+            content_generation,
+            acl_generation,
+            lock_generation,
+            length,
+            kind,
+            life,
+            ..LineNumbers::default()
+        };
         let children = children.iter().map(|name| (*name).to_owned()).collect();
-        Told { numbers, bytes: bytes.to_vec(), children, acl: names(["base", "read", "own"]), name: String::new() }
+        ToldLine { numbers, bytes: bytes.to_vec(), children, acl: names(["base", "read", "own"]), name: String::new() }
     }
 
-    fn numbered(numbers: Numbers) -> Told {
-        Told { numbers, ..Told::default() }
+    fn numbered(numbers: LineNumbers) -> ToldLine {
+        ToldLine { numbers, ..ToldLine::default() }
     }
 
     fn of_node(kind: Kind, lock_generation: Option<u64>) -> Stat {
@@ -127,18 +137,18 @@ mod tests {
         Stat { kind, instance: 4, content_generation: 2, acl_generation: 1, lock_generation, acl, is_ephemeral, length: 3 }
     }
 
-    fn view(kind: Kind, content: &[u8], children: &[&str]) -> Shown {
+    fn view(kind: Kind, content: &[u8], children: &[&str]) -> ShownView {
         let children = children.iter().map(|name| (*name).to_owned()).collect();
-        Shown { stat: of_node(kind, None), content: content.to_vec(), children }
+        ShownView { stat: of_node(kind, None), content: content.to_vec(), children }
     }
 
     #[test]
     fn the_ends_of_calls_are_told() {
-        let ended = |what| Numbers { what, call: 2, ..Numbers::default() };
-        let sequencer = Told { bytes: vec![1, 255], ..numbered(ended(numbers::SEQUENCER)) };
-        let listing = Told { children: names(["a", "b"]).to_vec(), ..numbered(ended(numbers::NAMES)) };
+        let ended = |what| LineNumbers { what, call: 2, ..LineNumbers::default() };
+        let sequencer = ToldLine { bytes: vec![1, 255], ..numbered(ended(numbers::SEQUENCER)) };
+        let listing = ToldLine { children: names(["a", "b"]).to_vec(), ..numbered(ended(numbers::NAMES)) };
         let rows = [
-            (numbered(Numbers { handle: 3, ..ended(numbers::OPENED) }), Some(Answer::Opened(3))),
+            (numbered(LineNumbers { handle: 3, ..ended(numbers::OPENED) }), Some(Answer::Opened(3))),
             (numbered(ended(numbers::CLOSED)), Some(Answer::Closed)),
             (numbered(ended(numbers::HANDLE_POISONED)), Some(Answer::Poisoned)),
             (told(numbers::VIEWED, 0, b"abc", &[]), Some(Answer::Viewed(view(Kind::File, b"abc", &[])))),
@@ -149,8 +159,11 @@ mod tests {
             (listing, Some(Answer::Names(names(["a", "b"]).to_vec()))),
             (sequencer, Some(Answer::Sequencer(vec![1, 255]))),
             (numbered(ended(numbers::OKAY)), Some(Answer::Done)),
-            (numbered(Numbers { fault: 6, ..ended(numbers::REFUSED) }), Some(Answer::Refused(Refusal::NotFound))),
-            (numbered(Numbers { fault: 11, argument: 9, ..ended(numbers::REFUSED) }), Some(Answer::Refused(Refusal::WrongGeneration(9)))),
+            (numbered(LineNumbers { fault: 6, ..ended(numbers::REFUSED) }), Some(Answer::Refused(Refusal::NotFound))),
+            (
+                numbered(LineNumbers { fault: 11, argument: 9, ..ended(numbers::REFUSED) }),
+                Some(Answer::Refused(Refusal::WrongGeneration(9))),
+            ),
             (numbered(ended(numbers::REFUSED)), None),
             (numbered(ended(0)), None),
             (numbered(ended(16)), None),
@@ -163,13 +176,13 @@ mod tests {
 
     #[test]
     fn other_lines_are_told() {
-        let bare = |what| Numbers { what, ..Numbers::default() };
+        let bare = |what| LineNumbers { what, ..LineNumbers::default() };
         let rows = [
             (told(numbers::SEEN, 0, b"abc", &[]), Some(Line::Served(Some(view(Kind::File, b"abc", &[]))))),
             (told(numbers::SEEN, 1, b"", &["acl"]), Some(Line::Served(Some(view(Kind::Directory, b"", &["acl"]))))),
             (numbered(bare(numbers::ABSENT)), Some(Line::Served(None))),
-            (numbered(Numbers { event: 1, ..bare(numbers::EVENT) }), Some(Line::Event(None, Event::Failover))),
-            (numbered(Numbers { event: 6, opened: 2, ..bare(numbers::EVENT) }), Some(Line::Event(Some(2), Event::Invalid))),
+            (numbered(LineNumbers { event: 1, ..bare(numbers::EVENT) }), Some(Line::Event(None, Event::Failover))),
+            (numbered(LineNumbers { event: 6, opened: 2, ..bare(numbers::EVENT) }), Some(Line::Event(Some(2), Event::Invalid))),
             (numbered(bare(numbers::EVENT)), None),
             (numbered(bare(numbers::JEOPARDY)), Some(Line::Jeopardy)),
             (numbered(bare(numbers::SAFE)), Some(Line::Safe)),

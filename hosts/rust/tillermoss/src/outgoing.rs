@@ -12,10 +12,10 @@ use tokio::io::AsyncWrite;
 use tokio::sync::Notify;
 use tokio::time::timeout;
 
-/// So long what waits may take to be written.
+/// How long what waits may take to be written.
 const WRITING: Duration = Duration::from_secs(10);
 
-/// So many bytes of room are kept where nothing is to be written.
+/// How many bytes of room are kept where nothing is to be written.
 const KEPT: usize = 4096;
 
 /// A stream to write to.
@@ -23,16 +23,16 @@ pub type Write = Box<dyn AsyncWrite + Send + Unpin>;
 
 /// The messages to a server, in the order in which they are sent.
 pub struct Outgoing {
-    state: Mutex<State>,
+    state: Mutex<OutgoingState>,
     filled: Notify,
 }
 
-struct State {
+struct OutgoingState {
     stream: Write,
     // (from its begin on it isn't written yet)
     waiting: Vec<u8>,
     begin: usize,
-    /// Whether the task writes; and whether it ends the stream behind that.
+    /// Whether the task writes; and whether it ends the stream after that.
     is_left: bool,
     is_over: bool,
 }
@@ -46,15 +46,15 @@ impl Debug for Outgoing {
 impl Outgoing {
     /// Nothing was sent yet.
     pub fn new(stream: Write) -> Outgoing {
-        let state = State { stream, waiting: Vec::new(), begin: 0, is_left: false, is_over: false };
+        let state = OutgoingState { stream, waiting: Vec::new(), begin: 0, is_left: false, is_over: false };
         Outgoing { state: Mutex::new(state), filled: Notify::new() }
     }
 
-    fn state(&self) -> MutexGuard<'_, State> {
+    fn state(&self) -> MutexGuard<'_, OutgoingState> {
         self.state.lock().unwrap_or_else(PoisonError::into_inner)
     }
 
-    /// Sends a message, behind those that were sent before. One of 2^32 bytes or more, which no client makes, isn't sent.
+    /// Sends a message, after those that were sent before. One of 2^32 bytes or more, which no client makes, isn't sent.
     pub fn send(&self, message: &[u8]) {
         let mut state = self.state();
         if put_block(&mut state.waiting, message).is_err() || state.is_left {
@@ -85,7 +85,7 @@ impl Outgoing {
     }
 }
 
-impl State {
+impl OutgoingState {
     // Writes all that waits, for the task; whether nothing more is sent.
     fn write_left(&mut self, context: &mut Context<'_>) -> Poll<io::Result<bool>> {
         ready!(self.write(context))?;

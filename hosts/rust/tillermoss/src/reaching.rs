@@ -1,6 +1,7 @@
 //! How a server is reached: the stream to it, and whom the client shows there.
 
 use crate::denials::Denials;
+use host_wire::sockets::Stream;
 use host_wire::trust::{certificates, common_name, show_by, trust, why};
 use host_wire::{Address, TurnedAway};
 use nix::unistd::{User, getuid};
@@ -11,26 +12,20 @@ use std::net::IpAddr;
 use std::path::{Path, PathBuf};
 use std::pin::Pin;
 use std::sync::{Arc, Mutex, MutexGuard, PoisonError};
-use tokio::io::{AsyncRead, AsyncWrite};
 use tokio::net::{TcpStream, UnixStream};
 use tokio_openssl::SslStream;
-
-/// A stream of bytes to a server.
-pub trait Stream: AsyncRead + AsyncWrite + Send + Unpin {}
-
-impl<S: AsyncRead + AsyncWrite + Send + Unpin> Stream for S {}
 
 /// Where the servers of a cell are, of which one is master, and by what the client and a server know each other.
 #[derive(Clone)]
 pub struct Reach {
     places: Arc<[Address]>,
-    turn: Arc<Mutex<Turn>>,
+    turn: Arc<Mutex<NextServer>>,
     tls: Option<SslConnector>,
 }
 
 /// Which server is tried next: one of the places, or another that was told.
 #[derive(Default)]
-struct Turn {
+struct NextServer {
     at: usize,
     told: Option<Address>,
     denials: Denials,
@@ -50,10 +45,23 @@ fn config(certificate: Option<&PathBuf>, own_key: Option<&PathBuf>, authority: O
     let (Some(certificate), Some(own_key), Some(authority)) = (certificate, own_key, authority) else {
         return Err(fault("tls: wants a certificate, its key, and the server's authority".to_owned()));
     };
+    connector(authority, Some((certificate.as_path(), own_key.as_path())))
+}
+
+/// Servers whose certificates these authorities have signed; and by which certificate and key this end shows itself there, if it does.
+pub fn connector(authority: &Path, own: Option<(&Path, &Path)>) -> io::Result<SslConnector> {
     let mut connector = SslConnector::builder(SslMethod::tls_client())?;
     trust(&mut connector, authority, None)?;
-    show_by(&mut connector, certificate, own_key)?;
+    own.into_iter().try_for_each(|(certificate, key)| show_by(&mut connector, certificate, key))?;
     Ok(connector.build())
+}
+
+/// A stream by TLS to the server of this place, `HOST:PORT`, whose certificate has to name the host.
+pub async fn encrypted(connector: &SslConnector, place: &str) -> io::Result<SslStream<TcpStream>> {
+    let mut stream = SslStream::new(wanted(connector, server_name(place)?)?, stream(place).await?)?;
+    let connected = Pin::new(&mut stream).connect().await;
+    connected.map_err(|error| why(stream.ssl(), &error))?;
+    Ok(stream)
 }
 
 impl Reach {
@@ -66,7 +74,7 @@ impl Reach {
         Ok(Reach { places, turn: Arc::default(), tls })
     }
 
-    fn lock(&self) -> MutexGuard<'_, Turn> {
+    fn lock(&self) -> MutexGuard<'_, NextServer> {
         self.turn.lock().unwrap_or_else(PoisonError::into_inner)
     }
 
@@ -107,12 +115,7 @@ impl Reach {
     pub async fn connect(&self) -> io::Result<Box<dyn Stream>> {
         match (&self.address(), &self.tls) {
             (Address::Unix(path), _) => Ok(Box::new(UnixStream::connect(path).await?)),
-            (Address::Tls(place), Some(config)) => {
-                let mut stream = SslStream::new(wanted(config, server_name(place)?)?, stream(place).await?)?;
-                let connected = Pin::new(&mut stream).connect().await;
-                connected.map_err(|error| why(stream.ssl(), &error))?;
-                Ok(Box::new(stream))
-            }
+            (Address::Tls(place), Some(connector)) => Ok(Box::new(encrypted(connector, place).await?)),
             (Address::Tls(place) | Address::Tcp(place), _) => Ok(Box::new(stream(place).await?)),
         }
     }

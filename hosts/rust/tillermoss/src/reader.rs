@@ -15,16 +15,16 @@ use std::sync::{Arc, Mutex, MutexGuard, PoisonError, RwLock};
 use std::time::Duration;
 use tokio::sync::mpsc::UnboundedReceiver;
 
-/// So many names are kept at once: with one more the one that was asked for longest ago is let go. (The cache holds as many.)
+/// How many names are kept at once: with one more the one that was asked for longest ago is let go. (The cache holds as many.)
 const MOST: usize = 4096;
 
-/// So many milliseconds a name stays open at most. Then it is opened anew, so that the master says anew who may read it.
+/// How many milliseconds a name stays open at most. Then it is opened anew, so that the master says anew who may read it.
 const OPEN: u64 = 10_000;
 
 /// How many pages were published, by all readers.
 static PAGES: AtomicU64 = AtomicU64::new(0);
 
-/// So often a node that is deleted and made again meanwhile is tried to be read.
+/// How often a node that is deleted and made again meanwhile is tried to be read.
 const TRIES: u32 = 10;
 
 /// What a node shows: all who read it have the same.
@@ -67,7 +67,7 @@ pub struct Page {
 pub struct Sight {
     /// What it showed.
     pub page: Arc<Page>,
-    /// So long at most from that moment on nobody changes it unless the client hears of that first; zero where the cache doesn't hold it.
+    /// How long at most from that moment on nobody changes it unless the client hears of that first; zero where the cache doesn't hold it.
     pub lease_left: Duration,
 }
 
@@ -109,9 +109,9 @@ struct Last {
 
 /// A name that is kept.
 #[derive(Debug, Default)]
-struct Kept {
+struct KeptName {
     last: RwLock<Last>,
-    // Who reads the name of the master has this meanwhile. So nothing comes into the cache under the name but what is published behind it,
+    // Who reads the name of the master has this meanwhile. So nothing comes into the cache under the name but what is published after it,
     // and where the cache holds the name, it holds what was published last.
     open: Mutex<Option<Open>>,
     used: AtomicU64,
@@ -150,7 +150,7 @@ struct Kept {
 pub struct Reader {
     client: Client,
     // (strangers choose the names: not by a hash that they can foresee)
-    kept: RwLock<HashMap<String, Arc<Kept>>>,
+    kept: RwLock<HashMap<String, Arc<KeptName>>>,
 }
 
 impl Reader {
@@ -183,7 +183,7 @@ impl Reader {
         self.client.is_lost()
     }
 
-    /// So long the client trusts its lease still, as [`Client::lease_left`] says.
+    /// How long the client trusts its lease still, as [`Client::lease_left`] says.
     ///
     /// ```
     /// # use tillermoss::*;
@@ -310,7 +310,7 @@ impl Reader {
         self.client.close(watch.handle)
     }
 
-    fn read_kept(&self, name: &str, kept: &Kept, open: &mut Option<Open>) -> Result<Sight, Error> {
+    fn read_kept(&self, name: &str, kept: &KeptName, open: &mut Option<Open>) -> Result<Sight, Error> {
         for _ in 0..TRIES {
             let opened = self.opened(name, open)?;
             // (somebody may have read it meanwhile)
@@ -343,7 +343,7 @@ impl Reader {
     }
 
     // What the master, or the cache, has just answered.
-    fn publish(&self, kept: &Kept, opened: Open, view: View, open: &mut Option<Open>) -> Sight {
+    fn publish(&self, kept: &KeptName, opened: Open, view: View, open: &mut Option<Open>) -> Sight {
         let View { stat, content, children, .. } = view;
         if stat.is_ephemeral {
             self.close(open.take());
@@ -362,7 +362,7 @@ impl Reader {
         open.into_iter().for_each(|open| drop(self.client.close(open.handle)));
     }
 
-    fn keep(&self, name: &str) -> Arc<Kept> {
+    fn keep(&self, name: &str) -> Arc<KeptName> {
         let now = clock::now();
         let mut all = self.kept.write().unwrap_or_else(PoisonError::into_inner);
         let longest = || all.iter().min_by_key(|(_, kept)| kept.used.load(Ordering::Relaxed)).map(|(name, _)| name.clone());
@@ -378,11 +378,11 @@ impl Reader {
         kept
     }
 
-    fn is_kept(&self, name: &str, kept: &Arc<Kept>) -> bool {
+    fn is_kept(&self, name: &str, kept: &Arc<KeptName>) -> bool {
         self.kept.read().unwrap_or_else(PoisonError::into_inner).get(name).is_some_and(|other| Arc::ptr_eq(kept, other))
     }
 
-    fn let_go(&self, name: &str, kept: &Arc<Kept>) {
+    fn let_go(&self, name: &str, kept: &Arc<KeptName>) {
         let mut all = self.kept.write().unwrap_or_else(PoisonError::into_inner);
         if all.get(name).is_some_and(|other| Arc::ptr_eq(kept, other)) {
             all.remove(name);
@@ -390,7 +390,7 @@ impl Reader {
     }
 }
 
-impl Kept {
+impl KeptName {
     fn open(&self) -> MutexGuard<'_, Option<Open>> {
         self.open.lock().unwrap_or_else(PoisonError::into_inner)
     }
@@ -402,7 +402,7 @@ impl Kept {
         last.page.as_ref().filter(|_| holds).map(|page| Sight { page: page.clone(), lease_left: last.mark.left(now) })
     }
 
-    // The same, behind a step of the client after which its cache still holds the name.
+    // The same, after a step of the client after which its cache still holds the name.
     fn confirmed(&self, client: &Client, open: &Open) -> Option<Sight> {
         let (mark, now) = client.holds(open.handle).filter(|(_, now)| *now < open.until)?;
         let mut last = self.last.write().unwrap_or_else(PoisonError::into_inner);

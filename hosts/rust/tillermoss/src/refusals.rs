@@ -139,6 +139,7 @@ refusals! {
     37 NoSuchMessage "no such message"
     38 MasterDown "no master is up"
     39 MasterUp "a master is up"
+    43 NoRoom(u64) "this limit of the cell leaves no room"
 }
 
 impl Refusal {
@@ -147,9 +148,11 @@ impl Refusal {
             Refusal::WrongKind(kind) => Some(kind.to_string()),
             Refusal::Denied(right) => Some(right.to_string()),
             Refusal::Held(mode) => Some(mode.to_string()),
-            Refusal::WrongGeneration(number) | Refusal::BadAck(number) | Refusal::Delayed(number) | Refusal::OldEpoch(number) => {
-                Some(number.to_string())
-            }
+            Refusal::WrongGeneration(number)
+            | Refusal::BadAck(number)
+            | Refusal::Delayed(number)
+            | Refusal::OldEpoch(number)
+            | Refusal::NoRoom(number) => Some(number.to_string()),
             _ => None,
         }
     }
@@ -196,6 +199,8 @@ mod tests {
             (28, u64::MAX, Some(Refusal::OldEpoch(u64::MAX))),
             (34, 0, Some(Refusal::Unknown)),
             (39, 0, Some(Refusal::MasterUp)),
+            (43, 0, Some(Refusal::NoRoom(0))),
+            (43, 20, Some(Refusal::NoRoom(20))),
             (6, 1, None),
             (0, 0, None),
             (40, 0, None),
@@ -207,8 +212,8 @@ mod tests {
 
     #[test]
     fn each_number_has_one_refusal() {
-        let with_argument = [8, 10, 11, 20, 23, 24, 28];
-        for number in 1..=39 {
+        let with_argument = [8, 10, 11, 20, 23, 24, 28, 43];
+        for number in (1..=39).chain([43]) {
             assert_eq!(Refusal::of(number, 0).or(Refusal::of(number, 1)).map(|refusal| refusal.number()), Some(number));
             assert_eq!(Refusal::of_code(number).is_none(), with_argument.contains(&number), "{number}");
         }

@@ -26,7 +26,7 @@ impl Kept {
 /// Reads the files of a client for one thread, as [`Client::read_into`] does: what its cache answers without a lock and without a
 /// copy, so threads that read don't wait for one another. Each thread has a viewer of its own.
 ///
-/// A viewer keeps what the cache answered, until the client does anything at all: a client's next message leaves behind that. So a
+/// A viewer keeps what the cache answered, until the client does anything at all: a client's next message leaves after that. So a
 /// content that is written by anybody is written when no viewer shows the former one any more, as with the cache itself. Where
 /// the client has done something since, or the lease has ended, the viewer asks the client again.
 ///

@@ -1,5 +1,6 @@
 //! What operators see and may do.
 
+pub(crate) mod desks;
 pub(crate) mod metrics;
 pub(crate) mod pages;
 pub(crate) mod processes;

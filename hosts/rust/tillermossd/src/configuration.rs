@@ -1,6 +1,6 @@
 //! The server's own options in the settings: the table `server`, with a key for each option of the command line.
 
-use crate::options::Options;
+use crate::options::ServerOptions;
 use anyhow::{Context, Result, bail};
 use clap::{Arg, ArgAction, CommandFactory};
 use std::ffi::{OsStr, OsString};
@@ -14,7 +14,7 @@ pub const SERVER: &str = "server";
 /// The addresses, which are words without an option's name.
 const LISTEN: &str = "listen";
 
-/// The words of the command line, behind which stand those of the table `server` of the settings that it names: each key is an option,
+/// The words of the command line, after which stand those of the table `server` of the settings that it names: each key is an option,
 /// with `_` for `-`, and what the command line says itself goes before. The file, where it has such a table.
 pub fn complete(mut words: Vec<OsString>) -> Result<(Vec<OsString>, Option<PathBuf>)> {
     let Some(path) = value_of(&words, "settings") else {
@@ -33,7 +33,7 @@ pub fn complete(mut words: Vec<OsString>) -> Result<(Vec<OsString>, Option<PathB
 
 fn words_of(words: &[OsString], table: &Value) -> Result<Vec<OsString>> {
     let mut added = Vec::new();
-    for (key, value) in table.as_table().context("it is no table")? {
+    for (key, value) in table.as_table().context("it is no table: write [server] above its keys")? {
         let arg = argument(key).with_context(|| format!("no key is `{key}`: they are {}", keys()))?;
         let told = words_for(key, &arg, value).with_context(|| format!("the key `{key}`"))?;
         let is_said = if key == LISTEN { has_address(words) } else { is_there(words, &name(key)) };
@@ -68,7 +68,7 @@ fn name(key: &str) -> String {
 
 // The options of the command line that have a key.
 fn arguments() -> impl Iterator<Item = Arg> {
-    let command = Options::command();
+    let command = ServerOptions::command();
     let found: Vec<Arg> =
         command.get_arguments().filter(|arg| !matches!(arg.get_id().as_str(), "settings" | "help" | "version")).cloned().collect();
     found.into_iter()
@@ -123,17 +123,17 @@ mod tests {
     use std::io::Write;
 
     // What a command line and a file say together.
-    fn read(line: &str, text: &str) -> Result<Options> {
+    fn read(line: &str, text: &str) -> Result<ServerOptions> {
         let mut file = tempfile::NamedTempFile::new()?;
         file.write_all(text.as_bytes())?;
         let path = file.path().display().to_string();
         let words = ["tillermossd"].into_iter().chain(line.split_whitespace()).chain(["--settings", &path]).map(OsString::from);
         let (words, _) = complete(words.collect())?;
-        Ok(Options::try_parse_from(words).map(|options| Options { settings: None, ..options })?)
+        Ok(ServerOptions::try_parse_from(words).map(|options| ServerOptions { settings: None, ..options })?)
     }
 
-    fn plain(line: &str) -> Options {
-        Options::try_parse_from(["tillermossd"].into_iter().chain(line.split_whitespace())).unwrap()
+    fn plain(line: &str) -> ServerOptions {
+        ServerOptions::try_parse_from(["tillermossd"].into_iter().chain(line.split_whitespace())).unwrap()
     }
 
     #[test]
@@ -144,7 +144,7 @@ mod tests {
         assert_eq!(read("", all).unwrap(), plain(line));
         assert_eq!(
             read("7 --log text", all).unwrap(),
-            Options { listen: plain("7 --store s").listen, log: plain("7 --store s").log, ..plain(line) }
+            ServerOptions { listen: plain("7 --store s").listen, log: plain("7 --store s").log, ..plain(line) }
         );
         let rows =
             "lease = 2000\n[server]\nlisten = \"7\"\nrows = \"etcd://a:1/c\"\nadvertise = \"h:7\"\nmastership = 9\netcd_ca = \"a\"\n";
@@ -200,6 +200,7 @@ mod tests {
             }
         }
         let told = crate::settings::Settings::of_text(&whole).unwrap();
-        assert_eq!(told.limits, crate::settings::Limits::default());
+        let limits = crate::settings::Limits::default();
+        assert_eq!(told.limits, crate::settings::Limits { locks: Some(limits.locks(false)), ..limits });
     }
 }

@@ -16,10 +16,10 @@ pub mod upkeep;
 pub mod warm;
 
 use crate::etcd::found::Found;
-use crate::etcd::gateway::Gateway;
-use crate::etcd::keeper::Keeper;
+use crate::etcd::gateway::Members;
+use crate::etcd::keeper::RowsKeeper;
 use crate::etcd::mastership::Mastership;
-use crate::etcd::pipes::Kept;
+use crate::etcd::pipes::MasterPipes;
 use crate::net::tls::client_config;
 use anyhow::{Context, Error, bail};
 use clap::Args;
@@ -66,7 +66,8 @@ impl Trust {
         let Some((name, path)) = self.etcd_user.as_ref().zip(self.etcd_password.as_ref()) else {
             return Ok(None);
         };
-        let text = fs::read_to_string(path).with_context(|| format!("reading the password in {}", path.display()))?;
+        let text =
+            fs::read_to_string(path).with_context(|| format!("--etcd-password names the file with the password: {}", path.display()))?;
         let password = text.lines().next().filter(|line| !line.is_empty());
         let password = password.with_context(|| format!("there is no password in the first line of {}", path.display()))?;
         Ok(Some((name.clone(), password.to_owned())))
@@ -91,7 +92,7 @@ impl Trust {
 #[derive(Clone, Debug)]
 pub struct Rows {
     /// How etcd is reached.
-    pub gateway: Arc<Gateway>,
+    pub gateway: Arc<Members>,
     /// What stands in front of the cell's keys.
     pub prefix: String,
     /// The mastership.
@@ -102,9 +103,9 @@ pub struct Rows {
 
 impl Rows {
     /// Makes the pipes by which a master keeps them, once nothing that an earlier keeper sent can be done any more. It waits for etcd.
-    pub fn keep(&self) -> Result<Kept, Error> {
+    pub fn keep(&self) -> Result<MasterPipes, Error> {
         let found = self.found.lock().unwrap_or_else(PoisonError::into_inner).take();
-        pipes::keep(Keeper::open(&self.gateway, &self.prefix, self.mastership.clone(), found)?)
+        pipes::keep(RowsKeeper::open(&self.gateway, &self.prefix, self.mastership.clone(), found)?)
     }
 }
 
@@ -131,10 +132,10 @@ impl FromStr for Place {
 
 impl Place {
     /// How its etcd is reached.
-    pub fn gateway(&self, trust: &Trust) -> Result<Arc<Gateway>, Error> {
+    pub fn gateway(&self, trust: &Trust) -> Result<Arc<Members>, Error> {
         let own = trust.etcd_cert.as_deref().zip(trust.etcd_key.as_deref());
         let config = trust.etcd_ca.as_ref().map(|authority| client_config(authority, own)).transpose()?;
-        Ok(Arc::new(Gateway::new(&self.members, config, trust.user()?)))
+        Ok(Arc::new(Members::new(&self.members, config, trust.user()?)))
     }
 
     /// What stands in front of the cell's keys.

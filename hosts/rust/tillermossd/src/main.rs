@@ -13,7 +13,7 @@ mod settings;
 use clap::error::ErrorKind;
 use clap::{CommandFactory, Parser};
 use nix::sys::stat::{Mode, umask};
-use options::{Command, Log, Options};
+use options::{Job, Log, ServerOptions};
 use std::io::{self, Write};
 use std::process::ExitCode;
 use tracing::error;
@@ -25,11 +25,11 @@ fn main() -> ExitCode {
     umask(Mode::from_bits_truncate(0o077));
     begin_log(&options);
     let done = match &options.command {
-        Some(Command::Restore { copy, store }) => master::restoring::restore(copy, store),
-        Some(Command::Copy { from, to, master, trust }) => {
+        Some(Job::Restore { copy, store }) => master::restoring::restore(copy, store),
+        Some(Job::Copy { from, to, master, trust }) => {
             etcd::copying::copy(from, to, trust, &master.clone().unwrap_or_else(serving::cellctl))
         }
-        Some(Command::Guard { rows, revision, trust }) => etcd::guard::guard(rows, trust, *revision),
+        Some(Job::Guard { rows, revision, trust }) => etcd::guard::guard(rows, trust, *revision),
         None => serving::serve(options),
     };
     match done {
@@ -42,10 +42,11 @@ fn main() -> ExitCode {
 }
 
 // Help, the version and a wrong command line end here, with 0 or 2.
-fn read() -> Options {
+fn read() -> ServerOptions {
     let complete = configuration::complete(std::env::args_os().collect());
-    let (words, file) = complete.unwrap_or_else(|fault| Options::command().error(ErrorKind::InvalidValue, format!("{fault:#}")).exit());
-    Options::try_parse_from(words).unwrap_or_else(|error| {
+    let (words, file) =
+        complete.unwrap_or_else(|fault| ServerOptions::command().error(ErrorKind::InvalidValue, format!("{fault:#}")).exit());
+    ServerOptions::try_parse_from(words).unwrap_or_else(|error| {
         if let Some(file) = file.filter(|_| error.use_stderr()) {
             // (where that is closed, nobody is told)
             let _ = writeln!(io::stderr(), "tillermossd: with the table `server` of {}:", file.display());
@@ -54,7 +55,7 @@ fn read() -> Options {
     })
 }
 
-fn begin_log(options: &Options) {
+fn begin_log(options: &ServerOptions) {
     let default = if options.trace { "info,tillermossd::master=trace" } else { "info" };
     let filter = EnvFilter::try_from_default_env().unwrap_or_else(|_| EnvFilter::new(default));
     let log = tracing_subscriber::fmt().with_env_filter(filter).with_writer(io::stderr).with_ansi(false);

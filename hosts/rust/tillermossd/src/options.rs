@@ -7,13 +7,13 @@ use host_wire::Address;
 use std::path::PathBuf;
 use std::str::FromStr;
 
-/// So long etcd keeps what stood there before, unless an operator says otherwise.
+/// How long etcd keeps what stood there before, unless an operator says otherwise.
 const HISTORY: u64 = 300;
 
 /// Serves a cell: starts `cellctl serve`, and carries the messages of clients to it.
 #[derive(Debug, PartialEq, Eq, Parser)]
 #[command(version, args_conflicts_with_subcommands = true, subcommand_negates_reqs = true, after_help = AFTER)]
-pub struct Options {
+pub struct ServerOptions {
     /// Where to listen: unix:PATH, tls:HOST:PORT or tcp:HOST:PORT. PORT alone is tcp: on loopback, and so is tcp:PORT; 0 is any free one
     #[arg(required = true)]
     pub listen: Vec<Address>,
@@ -27,7 +27,7 @@ pub struct Options {
     /// Where clients find this server, as the others tell them; without it the first address that it listens at
     #[arg(long, requires = "rows", conflicts_with = "store")]
     pub advertise: Option<Address>,
-    /// So many seconds a mastership lasts that its server doesn't renew: for so long a cell has no master whose server was killed
+    /// How many seconds a mastership lasts that its server doesn't renew: for so long a cell has no master whose server was killed
     #[arg(long, requires = "rows", conflicts_with = "store", default_value_t = SPAN, value_parser = clap::value_parser!(u64).range(2..=60))]
     pub mastership: u64,
     /// For so many seconds etcd keeps what stood there before; the server that is master has it forget what is older. 0: it doesn't
@@ -61,10 +61,13 @@ pub struct Options {
     /// Listens with tcp: on other addresses than loopback too: nothing is encrypted there, and who connects acts for anybody
     #[arg(long)]
     pub insecure: bool,
-    /// Where operators look: unix:PATH, which also gives copies of the store, or tcp:HOST:PORT on loopback, or elsewhere with
-    /// --admin-token; or several of these
+    /// Where operators look: unix:PATH, which also gives copies of the store; tls:HOST:PORT with --operator or --admin-token;
+    /// tcp:HOST:PORT on loopback, or elsewhere with --admin-token; or several of these
     #[arg(long)]
     pub admin: Vec<Address>,
+    /// At tls: the common name of an operator's certificate, which an authority of --client-ca has signed; may be given several times
+    #[arg(long, requires = "admin", requires = "client_ca")]
+    pub operator: Vec<String>,
     /// A file whose text operators beyond this machine show, as `Authorization: Bearer TEXT`: 16 characters or more
     #[arg(long, requires = "admin")]
     pub admin_token: Option<PathBuf>,
@@ -76,7 +79,7 @@ pub struct Options {
     pub trace: bool,
     /// What is done instead of serving
     #[command(subcommand)]
-    pub command: Option<Command>,
+    pub command: Option<Job>,
 }
 
 const AFTER: &str = "\
@@ -85,12 +88,12 @@ Beside the store stand FILE-numbers, the next client's number and the last epoch
 At unix: a client acts for the user that the system names, at tls: for the common name of its certificate, at tcp: for whom it says.
 
 It prints `listening ADDRESS` for each once it serves. On SIGTERM or SIGINT the master goes down in order, and the status is 0; on
-SIGHUP limits and certificates are read again. The status is 1 where it can't serve or has to stop, 2 for a wrong command line.
+SIGHUP limits and certificates are read again, save for the limits nodes, bytes and locks. The status is 1 where it can't serve or has to stop, 2 for a wrong command line.
 RUST_LOG says what is logged, as `warn` or `tillermossd=debug`.";
 
 /// What is done instead of serving.
 #[derive(Debug, PartialEq, Eq, Subcommand)]
-pub enum Command {
+pub enum Job {
     /// Makes a store of a copy that `tillermoss backup` took. All sessions of the copy are ended, and all locks free
     Restore {
         /// The copy
@@ -103,10 +106,10 @@ pub enum Command {
     Copy {
         /// Where its rows stand: FILE or etcd://HOST:PORT,HOST:PORT/CELL
         #[arg(long)]
-        from: End,
+        from: CopyEnd,
         /// Where no cell stands yet
         #[arg(long)]
-        to: End,
+        to: CopyEnd,
         /// The program cellctl, as in serving
         #[arg(long)]
         master: Option<PathBuf>,
@@ -131,18 +134,18 @@ pub enum Command {
 
 /// Where the rows of a cell stand that are moved.
 #[derive(Clone, Debug, PartialEq, Eq)]
-pub enum End {
+pub enum CopyEnd {
     /// In a SQLite file.
     File(PathBuf),
     /// In etcd.
     Etcd(Place),
 }
 
-impl FromStr for End {
+impl FromStr for CopyEnd {
     type Err = anyhow::Error;
 
-    fn from_str(word: &str) -> Result<End, anyhow::Error> {
-        if word.starts_with("etcd:") { Ok(End::Etcd(word.parse()?)) } else { Ok(End::File(word.into())) }
+    fn from_str(word: &str) -> Result<CopyEnd, anyhow::Error> {
+        if word.starts_with("etcd:") { Ok(CopyEnd::Etcd(word.parse()?)) } else { Ok(CopyEnd::File(word.into())) }
     }
 }
 
@@ -159,15 +162,15 @@ pub enum Log {
 mod tests {
     use super::*;
 
-    fn read(line: &str) -> Result<Options, clap::Error> {
-        Options::try_parse_from(["tillermossd"].into_iter().chain(line.split_whitespace()))
+    fn read(line: &str) -> Result<ServerOptions, clap::Error> {
+        ServerOptions::try_parse_from(["tillermossd"].into_iter().chain(line.split_whitespace()))
     }
 
     #[test]
     fn each_option_is_read() {
         let line = "7 unix:/s tls:h:8 --store s --settings t --master m --first 5 --cert c --key k --client-ca a --client-crl r --insecure \
-                    --admin unix:/a --log json --trace";
-        let wanted = Options {
+                    --admin unix:/a --operator o --operator p --log json --trace";
+        let wanted = ServerOptions {
             listen: ["7", "unix:/s", "tls:h:8"].map(|word| word.parse().unwrap()).to_vec(),
             store: Some("s".into()),
             rows: None,
@@ -184,6 +187,7 @@ mod tests {
             client_crl: Some("r".into()),
             insecure: true,
             admin: vec!["unix:/a".parse().unwrap()],
+            operator: vec!["o".to_owned(), "p".to_owned()],
             admin_token: None,
             log: Log::Json,
             trace: true,
@@ -199,14 +203,14 @@ mod tests {
         let as_user = read("7 --rows etcd://a:1/c --etcd-user ann --etcd-password p").unwrap().trust;
         assert_eq!(as_user, Trust { etcd_user: Some("ann".to_owned()), etcd_password: Some("p".into()), ..Trust::default() });
         let copy = read(&format!("copy --from s --to etcd://a:1/c {by_tls}")).unwrap().command;
-        let to = End::Etcd(Place { members: vec!["a:1".to_owned()], cell: "c".to_owned() });
-        assert_eq!(copy, Some(Command::Copy { from: End::File("s".into()), to, master: None, trust: trust.clone() }));
+        let to = CopyEnd::Etcd(Place { members: vec!["a:1".to_owned()], cell: "c".to_owned() });
+        assert_eq!(copy, Some(Job::Copy { from: CopyEnd::File("s".into()), to, master: None, trust: trust.clone() }));
         let place = Place { members: vec!["a:1".to_owned(), "b:2".to_owned()], cell: "c".to_owned() };
         let trust = Trust { etcd_user: Some("ann".to_owned()), etcd_password: Some("p".into()), ..trust };
         let words = trust.words().into_iter().map(|word| word.into_string().unwrap()).collect::<Vec<_>>().join(" ");
         let guard = read(&format!("guard --rows {place} --revision 7 {words}")).unwrap().command;
-        assert_eq!(guard, Some(Command::Guard { rows: place, revision: 7, trust }));
-        let restore = Command::Restore { copy: "c".into(), store: "s".into() };
+        assert_eq!(guard, Some(Job::Guard { rows: place, revision: 7, trust }));
+        let restore = Job::Restore { copy: "c".into(), store: "s".into() };
         assert_eq!(read("restore c --store s").unwrap().command, Some(restore));
     }
 
@@ -221,6 +225,8 @@ mod tests {
             "seven --store s",
             "7 --store s --first 0",
             "7 --store s --admin-token t",
+            "7 --store s --client-ca a --operator o",
+            "7 --store s --admin tls:8 --operator o",
         ];
         let rows = rows.into_iter().chain([
             "7 --rows etcd://a:1/c --store s",

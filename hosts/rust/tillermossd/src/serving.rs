@@ -1,25 +1,26 @@
 //! The server, from its start to its end.
 
-use crate::admin::pages::{Admin, Asked, Counter, Desk, Token};
+use crate::admin::desks::{AdminDoor, Counter, Operators};
+use crate::admin::pages::{Office, ServerKind};
 use crate::admin::showing::Showing;
-
-use crate::etcd::gateway::{Gateway, Unanswered};
+use crate::etcd::gateway::Members;
 use crate::etcd::mastership::{Bell, Mastership, Seat};
-use crate::etcd::standby::{self, Known};
+use crate::etcd::standby::{self, KnownMaster, Others};
 use crate::etcd::warm::Warm;
 use crate::etcd::{self, guard, upkeep};
 use crate::etcd::{Place, Rows};
-use crate::master::child::{Ending, Making, Master, Order, StoreRefused};
+use crate::master::child::{Making, Master, MasterEnd, Order, StoreRefused};
 use crate::master::locks::take_lock;
 use crate::master::numbers::{Epochs, Numbers};
 use crate::master::picture::Picture;
 use crate::master::program::Program;
 use crate::master::store::{self, Head, beside};
 use crate::net::connections::{Hall, take_all};
-use crate::net::doors::{Certificates, Door};
-use crate::options::Options;
-use crate::settings::{Limits, Own, Settings};
-use anyhow::{Context, Result, bail};
+use crate::net::doors::{Comer, Door, context};
+use crate::options::ServerOptions;
+use crate::settings::{Limits, MadeWith, Settings};
+use anyhow::{Context, Result, anyhow, bail};
+use host_wire::handshakes::Certificates;
 use host_wire::{Address, Notice};
 use nix::sys::resource::{Resource, getrlimit, setrlimit};
 use sd_notify::NotifyState;
@@ -30,7 +31,7 @@ use std::os::unix::process::CommandExt;
 use std::path::{Path, PathBuf};
 use std::pin::pin;
 use std::process::Command;
-use std::sync::{Arc, OnceLock, PoisonError};
+use std::sync::{Arc, Mutex, OnceLock, PoisonError};
 use std::thread;
 use std::time::{Duration, Instant};
 use tokio::runtime::Runtime;
@@ -39,28 +40,25 @@ use tokio::sync::mpsc;
 use tokio::time::{interval, timeout};
 use tracing::{error, info, warn};
 
-/// So many masters are started in so long at most: more of them don't help.
+/// How many masters are started in so long at most: more of them don't help.
 const MASTERS: usize = 5;
 const WHILE: Duration = Duration::from_secs(60);
 
-/// So many edits a commit may have: all sessions of a cell that end at once, with their locks and nodes.
-const OPERATIONS: usize = 10_000;
-
-/// So long behind a master whose epoch the store refused the next one is tried: each time in a row twice as long, from the first on
+/// How long after a master whose epoch the store refused the next one is tried: each time in a row twice as long, from the first on
 /// until the last.
 const AGAIN: (Duration, Duration) = (Duration::from_millis(500), Duration::from_secs(5));
 
+/// The version of this program.
+const VERSION: &str = env!("CARGO_PKG_VERSION");
+
 /// What is told of a master that says so itself.
 const UNPROVED: &str = "the master was built without proof";
+
 /// By which a server that stands by anew, as a new process, knows the mastership that it had.
 const LAST_SERVER: &str = "TILLERMOSSD_LAST_SERVER";
 
-/// And whether etcd takes as many operations as a commit may have, which this one knows once it was asked.
-const LAST_TAKES: &str = "TILLERMOSSD_LAST_TAKES";
-static TAKES: OnceLock<bool> = OnceLock::new();
-
-/// So long before etcd is asked that again.
-const LOOKING_AHEAD: Duration = Duration::from_secs(15);
+/// The address of the last other server that was master, as far as this one knew.
+const LAST_MASTER: &str = "TILLERMOSSD_LAST_MASTER";
 
 /// How often the service manager hears that the server lives.
 const WATCHDOG: Duration = Duration::from_secs(5);
@@ -77,8 +75,9 @@ struct Found {
 }
 
 /// Serves until it is told to go, and then goes in order; or answers why it can't, or why the master is gone.
-pub fn serve(options: Options) -> Result<()> {
+pub fn serve(options: ServerOptions) -> Result<()> {
     if let Some(place) = &options.rows {
+        check_version(&options)?;
         return serve_rows(place.clone(), options);
     }
     let path = options.store.clone().context("--store is missing")?;
@@ -87,6 +86,10 @@ pub fn serve(options: Options) -> Result<()> {
     if !folder.is_dir() {
         bail!("--store {}: there is no folder {}: make it first, for this user alone", path.display(), folder.display());
     }
+    if path.is_dir() {
+        bail!("{} is a folder: --store names a file in one", path.display());
+    }
+    check_version(&options)?;
     let _lock = take_lock(&beside(&path, "lock"))?;
     store::forget_copies(&path)?;
     let found = look(&options, &path)?;
@@ -119,16 +122,20 @@ fn limits(settings: &Settings) -> Limits {
 }
 
 // Stands by until it is master, and serves then. Where the mastership has ended it stands by anew, as a new process.
-fn serve_rows(place: Place, options: Options) -> Result<()> {
+fn serve_rows(place: Place, options: ServerOptions) -> Result<()> {
+    // (so who stands by for nothing learns it at once)
+    Settings::read(options.settings.as_deref(), true)?;
     let runtime = begin()?;
     let options = Arc::new(options);
     let gateway = place.gateway(&options.trust)?;
     let seat = Seat { address: standby::address(&options), server: hex::encode(rand::random::<[u8; 8]>()) };
     let server = seat.server.clone();
     let warm = Warm::begin(&gateway, &place.prefix());
-    look_ahead(&options, &gateway, &place.prefix());
+    // (so who becomes master doesn't wait for what its program says of itself)
+    let own = options.clone();
+    thread::spawn(move || is_unproved(&own));
     let waited = runtime.block_on(wait_for_mastership(&options, &gateway, &place.prefix(), seat, warm.bell()))?;
-    let Some(Standing { mastership, mut signals, counters }) = waited else {
+    let Some(NewMaster { mastership, mut signals, counters, others }) = waited else {
         // (who waits for the mastership may wait on: it ends with the process)
         runtime.shutdown_background();
         return Ok(());
@@ -149,42 +156,50 @@ fn serve_rows(place: Place, options: Options) -> Result<()> {
     }
     warn!("standing by again");
     let mut again = Command::new(std::env::current_exe()?);
-    again.args(std::env::args_os().skip(1)).env(LAST_SERVER, server).envs(TAKES.get().map(|takes| (LAST_TAKES, takes.to_string())));
+    again.args(std::env::args_os().skip(1)).env(LAST_SERVER, server);
+    again.env(LAST_MASTER, &others.lock().unwrap_or_else(PoisonError::into_inner).last);
     Err(again.exec().into())
 }
 
 // What a server has that stood by, and is master now.
-struct Standing {
+struct NewMaster {
     mastership: Arc<Mastership>,
     signals: Signals,
-    counters: Vec<(Counter, Address)>,
+    counters: Counters,
+    others: KnownMaster,
+}
+
+// Where operators come, and what is shown to them by TLS.
+struct Counters {
+    places: Vec<(Counter, Address)>,
+    certificates: Option<Arc<Certificates>>,
 }
 
 // None where it is told to go first.
 async fn wait_for_mastership(
-    options: &Options,
-    gateway: &Arc<Gateway>,
+    options: &ServerOptions,
+    gateway: &Arc<Members>,
     prefix: &str,
     seat: Seat,
     bell: Arc<Bell>,
-) -> Result<Option<Standing>> {
+) -> Result<Option<NewMaster>> {
     let mut signals = Signals::take()?;
-    let is_tls = options.listen.iter().any(|address| matches!(address, Address::Tls(_)));
-    let certificates = if is_tls { Some(Arc::new(Certificates::new(options)?)) } else { None };
-    let known: Known = Arc::default();
+    let certificates = certificates(options, &options.listen, Comer::Client)?;
+    let last = std::env::var(LAST_MASTER).unwrap_or_default();
+    let known: KnownMaster = Arc::new(Mutex::new(Others { last, ..Others::default() }));
     let mut tasks = standby::stand_by(options, certificates.as_ref(), &known).await?;
     let counters = open_counters(options).await?;
-    for (counter, _) in &counters {
-        counter.turn(Asked::StandsBy(known.clone()));
+    for (counter, _) in &counters.places {
+        counter.turn(ServerKind::StandsBy(known.clone()));
     }
     // (whoever started it may listen no more)
     let _ = writeln!(io::stdout(), "standing by");
-    let _ = tell(&[], &counters);
-    let (gateway, prefix, span) = (gateway.clone(), prefix.to_owned(), options.mastership);
+    let _ = tell(&[], &counters.places);
+    let (gateway, prefix, span, others) = (gateway.clone(), prefix.to_owned(), options.mastership, known.clone());
     let mut waiting = tokio::task::spawn_blocking(move || {
         let last = std::env::var(LAST_SERVER).ok();
         Mastership::wait(&gateway, &prefix, &seat, span, last.as_deref(), &bell, |other| {
-            *known.lock().unwrap_or_else(PoisonError::into_inner) = other
+            known.lock().unwrap_or_else(PoisonError::into_inner).see(other, &seat.address)
         })
     });
     // (where no service manager waits for it nothing is told)
@@ -195,63 +210,40 @@ async fn wait_for_mastership(
             taken = &mut waiting => break taken?,
             () = signals.going.wait() => return Ok(None),
             // (the settings are read when it is master)
-            _ = signals.hangup.recv() => renew_certificates(options, certificates.as_deref()),
+            _ = signals.hangup.recv() => renew_certificates(options, Shows { clients: &certificates, operators: &counters.certificates }),
             _ = beats.tick() => drop(sd_notify::notify(false, &[NotifyState::Watchdog])),
         }
     };
-    // (the addresses are free behind it)
+    // (the addresses are free after it)
     tasks.shutdown().await;
-    Ok(Some(Standing { mastership, signals, counters }))
+    Ok(Some(NewMaster { mastership, signals, counters, others }))
 }
 
-// Where operators come, as that was asked for. (Who gets to an address of this machine is known by the machine, and shows no token.)
-async fn open_counters(options: &Options) -> Result<Vec<(Counter, Address)>> {
-    let token = options.admin_token.as_deref().map(Token::read).transpose()?;
-    let mut counters = Vec::new();
+// What is shown at these addresses to those who come there, if one is by TLS.
+fn certificates(options: &ServerOptions, addresses: &[Address], comer: Comer) -> Result<Option<Arc<Certificates>>> {
+    let is_tls = addresses.iter().any(|address| matches!(address, Address::Tls(_)));
+    if is_tls { Ok(Some(Arc::new(Certificates::new(context(options, comer)?)?))) } else { Ok(None) }
+}
+
+// Where operators come, as that was asked for. (Who gets to a socket or to tcp: on this machine is known by the machine.)
+async fn open_counters(options: &ServerOptions) -> Result<Counters> {
+    let operators = Arc::new(Operators::read(options)?);
+    let certificates = certificates(options, &options.admin, Comer::Operator)?;
+    let mut places = Vec::new();
     for address in &options.admin {
-        let (desk, opened) = Desk::open(address, token.is_some()).await?;
-        let counter = Counter::new(token.clone().filter(|_| !address.is_local()));
+        let (desk, opened) = AdminDoor::open(address, &operators, certificates.as_ref()).await?;
+        let is_known_by_the_machine = address.is_local() && !matches!(address, Address::Tls(_));
+        let counter = Counter::new(Some(operators.clone()).filter(|_| !is_known_by_the_machine));
         tokio::spawn(desk.serve(counter.clone()));
-        counters.push((counter, opened));
+        places.push((counter, opened));
     }
-    Ok(counters)
-}
-
-// What a server that stands by may know before it is master, so that it comes up the sooner.
-fn look_ahead(options: &Arc<Options>, gateway: &Arc<Gateway>, prefix: &str) {
-    let (options, gateway, prefix) = (options.clone(), gateway.clone(), prefix.to_owned());
-    thread::spawn(move || {
-        is_unproved(&options.master.clone().unwrap_or_else(cellctl));
-        // (so who becomes master doesn't ask that first, for which a busy etcd takes seconds)
-        while takes(&gateway, &prefix).is_err_and(|fault| fault.is::<Unanswered>()) {
-            thread::sleep(LOOKING_AHEAD);
-        }
-    });
-}
-
-// Whether etcd takes as many operations in a transaction as a commit may have. It is asked once, also where the server begins anew: the
-// question is a long one.
-fn takes(gateway: &Gateway, prefix: &str) -> Result<bool> {
-    if let Some(takes) = TAKES.get() {
-        return Ok(*takes);
-    }
-    let takes = match std::env::var(LAST_TAKES) {
-        Ok(known) => known == true.to_string(),
-        Err(_) => gateway.takes(OPERATIONS, prefix)?,
-    };
-    Ok(*TAKES.get_or_init(|| takes))
-}
-
-/// Whether etcd takes a transaction of many operations, as far as that was asked.
-#[must_use]
-pub fn takes_many() -> bool {
-    TAKES.get().copied().unwrap_or(false)
+    Ok(Counters { places, certificates })
 }
 
 // What the rows in etcd are, and what stands beside them. It waits for etcd while the mastership lasts.
-fn look_beside(options: &Options, rows: &Rows, warm: &Warm) -> Result<Found> {
+fn look_beside(options: &ServerOptions, rows: &Rows, warm: &Warm) -> Result<Found> {
     let Rows { gateway, prefix, mastership, .. } = rows;
-    let settings = Settings::read(options.settings.as_deref())?;
+    let settings = Settings::read(options.settings.as_deref(), true)?;
     let found = mastership.insist(|| match gateway.get(&format!("{prefix}meta"))?.and_then(|own| warm.take(own.changed)) {
         Some(found) => Ok(found),
         None => etcd::found::Found::read(gateway, prefix, || mastership.check()),
@@ -260,15 +252,6 @@ fn look_beside(options: &Options, rows: &Rows, warm: &Warm) -> Result<Found> {
     let head = Head { epoch: found.epoch(), coming: found.epoch() + 1, has_known_secret: found.has_known_secret() };
     let epochs = head.check(numbers.epochs())?;
     let mut warnings = warnings(options, head.has_known_secret);
-    match takes(gateway, prefix) {
-        Ok(true) => {}
-        Ok(false) => warnings.push(format!(
-            "etcd takes no transaction of {OPERATIONS} operations, and refuses a commit of more than it takes: set --max-txn-ops {OPERATIONS}"
-        )),
-        // (the question is a long one: who comes up doesn't wait for an etcd that is slow to answer it)
-        Err(fault) if fault.is::<Unanswered>() => {}
-        Err(fault) => return Err(fault),
-    }
     if let Some(own) = found.own()? {
         warnings.extend(check(options, &settings, &own)?.iter().map(stranger));
     }
@@ -280,7 +263,7 @@ fn look_beside(options: &Options, rows: &Rows, warm: &Warm) -> Result<Found> {
 }
 
 // What an operator is told of at the start.
-fn warnings(options: &Options, has_known_secret: bool) -> Vec<String> {
+fn warnings(options: &ServerOptions, has_known_secret: bool) -> Vec<String> {
     let mut warnings = Vec::new();
     if has_known_secret {
         warnings.push("the store's secret is all zeros: whoever knows that can forge a handle".to_owned());
@@ -290,19 +273,19 @@ fn warnings(options: &Options, has_known_secret: bool) -> Vec<String> {
         let place = if address.is_local() { "this machine" } else { "everywhere" };
         warnings.push(format!("{address}: who connects from {place} acts for anybody, and nothing is encrypted"));
     }
-    for address in options.admin.iter().filter(|address| !address.is_local()) {
+    for address in options.admin.iter().filter(|address| matches!(address, Address::Tcp(_)) && !address.is_local()) {
         warnings.push(format!("{address}: nothing is encrypted there, so who listens between sees names, principals and the token"));
     }
-    if is_unproved(&options.master.clone().unwrap_or_else(cellctl)) {
+    if is_unproved(options) {
         warnings.push(UNPROVED.to_owned());
     }
     warnings
 }
 
 // Looks at the store and what stands beside it. Nothing is written where they don't go together.
-fn look(options: &Options, path: &Path) -> Result<Found> {
+fn look(options: &ServerOptions, path: &Path) -> Result<Found> {
     let has_store = store::is_there(path)?;
-    let settings = Settings::read(options.settings.as_deref())?;
+    let settings = Settings::read(options.settings.as_deref(), false)?;
     let mut numbers = Numbers::open(&beside(path, "numbers"), has_store, options.first)?;
     let mut picture: Reading = Box::new(|| Ok(Picture::default()));
     let mut epochs = Epochs { last: 0, coming: 1 };
@@ -310,11 +293,12 @@ fn look(options: &Options, path: &Path) -> Result<Found> {
     let mut strangers = Vec::new();
     if has_store {
         let folder = store::copy(path).with_context(|| format!("reading {}", path.display()))?;
-        let connection = store::open(&store::copied(&folder))?;
-        let head = Head::read(&connection)?;
+        let at = || format!("{0} isn't the file of a store that is whole: cellctl check {0} says what is wrong", path.display());
+        let connection = store::open(&store::copied(&folder)).with_context(at)?;
+        let head = Head::read(&connection).with_context(at)?;
         has_known_secret = head.has_known_secret;
         epochs = head.check(numbers.epochs())?;
-        strangers = check(options, &settings, &Own::read(&connection)?)?;
+        strangers = check(options, &settings, &MadeWith::read(&connection)?)?;
         picture = Box::new(move || {
             let _kept = folder;
             Picture::of(&connection)
@@ -337,13 +321,13 @@ fn look(options: &Options, path: &Path) -> Result<Found> {
 }
 
 // A new cell that others than this machine reach trusts those whom its settings name, and nobody else.
-fn wanted_principals(options: &Options, settings: &Settings) -> Result<()> {
+fn wanted_principals(options: &ServerOptions, settings: &Settings) -> Result<()> {
     // (another tcp: isn't listened at)
     let is_reached = |address: &Address| matches!(address, Address::Tls(_)) || (matches!(address, Address::Tcp(_)) && options.insecure);
     match options.listen.iter().find(|address| is_reached(address) && !address.is_local()) {
         Some(address) if !settings.has_principals() => {
             bail!(
-                "{address}: a new cell that others than this machine reach trusts nobody; say whom in its settings, as principals = [\"ann\"]"
+                "{address}: a new cell that others than this machine reach trusts nobody; say whom in the file of --settings, as principals = [\"ann\"]"
             )
         }
         _ => Ok(()),
@@ -351,7 +335,7 @@ fn wanted_principals(options: &Options, settings: &Settings) -> Result<()> {
 }
 
 // Whether the settings are those of the store; whom they name, and its ACL doesn't.
-fn check(options: &Options, settings: &Settings, store: &Own) -> Result<Vec<String>> {
+fn check(options: &ServerOptions, settings: &Settings, store: &MadeWith) -> Result<Vec<String>> {
     let file = options.settings.as_deref().unwrap_or(Path::new(""));
     settings.check(store).with_context(|| format!("the settings of {}", file.display()))
 }
@@ -360,11 +344,29 @@ fn stranger(principal: &String) -> String {
     format!("the settings name {principal}, whom the ACL base doesn't: they are those of a new store")
 }
 
-// Whether the master says so itself; it is asked once. (One that can't be started is told of when it is.)
-fn is_unproved(master: &Path) -> bool {
-    static IS_UNPROVED: OnceLock<bool> = OnceLock::new();
-    let told = || Command::new(master).arg("--version").output();
-    *IS_UNPROVED.get_or_init(|| told().is_ok_and(|told| String::from_utf8_lossy(&told.stdout).contains("without proof")))
+// What the master says of itself; it is asked once.
+fn told_by_master(options: &ServerOptions) -> io::Result<&'static str> {
+    static TOLD: OnceLock<String> = OnceLock::new();
+    if let Some(told) = TOLD.get() {
+        return Ok(told);
+    }
+    let output = Command::new(options.master.clone().unwrap_or_else(cellctl)).arg("--version").output()?;
+    Ok(TOLD.get_or_init(|| String::from_utf8_lossy(&output.stdout).trim().to_owned()))
+}
+
+// The master is cellctl, of this program's own version: another one may say and understand other bytes.
+fn check_version(options: &ServerOptions) -> Result<()> {
+    let path = options.master.clone().unwrap_or_else(cellctl);
+    let wanted = || format!("starting {}: --master names the program cellctl, of the server's own version {VERSION}", path.display());
+    let told = told_by_master(options).with_context(wanted)?;
+    match told.strip_prefix("cellctl ").and_then(|rest| rest.split([',', ' ']).next()) {
+        Some(VERSION) => Ok(()),
+        _ => Err(anyhow!("it says that it is {told:?}").context(wanted())),
+    }
+}
+
+fn is_unproved(options: &ServerOptions) -> bool {
+    told_by_master(options).is_ok_and(|told| told.contains("without proof"))
 }
 
 /// The program beside this one, else the one on the path.
@@ -374,9 +376,8 @@ pub fn cellctl() -> PathBuf {
 }
 
 // Listens at each address, with certificates where one is by TLS.
-async fn open(options: &Options) -> Result<(Vec<(Door, Address)>, Option<Arc<Certificates>>)> {
-    let is_tls = options.listen.iter().any(|address| matches!(address, Address::Tls(_)));
-    let certificates = if is_tls { Some(Arc::new(Certificates::new(options)?)) } else { None };
+async fn open(options: &ServerOptions) -> Result<(Vec<(Door, Address)>, Option<Arc<Certificates>>)> {
+    let certificates = certificates(options, &options.listen, Comer::Client)?;
     let mut doors = Vec::new();
     for address in &options.listen {
         doors.push(Door::open(address, options.insecure, certificates.as_ref()).await?);
@@ -385,12 +386,12 @@ async fn open(options: &Options) -> Result<(Vec<(Door, Address)>, Option<Arc<Cer
 }
 
 async fn run(
-    options: Arc<Options>,
+    options: Arc<ServerOptions>,
     path: PathBuf,
     rows: Option<Rows>,
     found: Found,
     signals: &mut Signals,
-    counters: Option<Vec<(Counter, Address)>>,
+    counters: Option<Counters>,
 ) -> Result<()> {
     for warning in &found.warnings {
         warn!("{warning}");
@@ -423,15 +424,15 @@ async fn run(
     hall.metrics.tell_build(is_unproved)?;
     let showing = Arc::new(Showing { hall: hall.clone(), listening, warnings: found.warnings, begun: Instant::now(), store });
     // (who reads where operators come is answered there at once)
-    for (counter, address) in &counters {
+    for (counter, address) in &counters.places {
         let is_private = matches!(address, Address::Unix(_));
-        counter.turn(Asked::Master(Admin { showing: showing.clone(), orders: orders.clone(), is_private }));
+        counter.turn(ServerKind::Master(Office { showing: showing.clone(), orders: orders.clone(), is_private }));
     }
     // (whoever started it may listen no more, as where it stood by before)
-    let _ = tell(&showing.listening, &counters);
+    let _ = tell(&showing.listening, &counters.places);
     // (where no service manager waits for it nothing is told)
     let _ = sd_notify::notify(false, &[NotifyState::Ready]);
-    wait(&options, &hall, certificates.as_deref(), &orders, ended, signals).await
+    wait(&options, &hall, Shows { clients: &certificates, operators: &counters.certificates }, &orders, ended, signals).await
 }
 
 // The first master. None where the server is told to go meanwhile: one that comes up has served nobody, and is killed.
@@ -477,11 +478,11 @@ async fn keep(mut master: Master, making: Making, hall: Arc<Hall>, mut orders: m
     let mut starts = Vec::new();
     loop {
         let (reason, is_alone) = match master.run(&mut orders).await {
-            Ending::Asked(status) if status.success() => return Ok(()),
-            Ending::Asked(status) => bail!("the master is gone: {status}"),
-            Ending::StoreGone(reason) => bail!("{reason}; nothing more is written"),
-            Ending::Gone(reason) => (reason, false),
-            Ending::Refused(reason) => (format!("{reason}; the store refused what several frames changed"), true),
+            MasterEnd::Asked(status) if status.success() => return Ok(()),
+            MasterEnd::Asked(status) => bail!("the master is gone: {status}"),
+            MasterEnd::StoreGone(reason) => bail!("{reason}; nothing more is written"),
+            MasterEnd::Gone(reason) => (reason, false),
+            MasterEnd::Refused(reason) => (format!("{reason}; the store refused what several frames changed"), true),
         };
         if making.rows.as_ref().is_some_and(|rows| !rows.mastership.holds()) {
             bail!("the mastership has ended");
@@ -584,9 +585,9 @@ impl Going {
 
 // Waits for signals and for the end.
 async fn wait(
-    options: &Options,
+    options: &ServerOptions,
     hall: &Hall,
-    certificates: Option<&Certificates>,
+    shows: Shows<'_>,
     orders: &mpsc::Sender<Order>,
     mut ended: tokio::task::JoinHandle<Result<()>>,
     signals: &mut Signals,
@@ -597,7 +598,7 @@ async fn wait(
             end = &mut ended => return end.context("the master's task is gone")?,
             // (where the master's task is gone the server ends already)
             () = signals.going.wait() => drop(orders.send(Order::Down).await),
-            _ = signals.hangup.recv() => renew(options, hall, certificates),
+            _ = signals.hangup.recv() => renew(options, hall, shows),
             _ = beats.tick() => {
                 // (where no service manager waits for it nothing is told)
                 let _ = sd_notify::notify(false, &[NotifyState::Watchdog]);
@@ -607,21 +608,39 @@ async fn wait(
 }
 
 // Reads limits and certificates again; where that fails what there was stays.
-fn renew(options: &Options, hall: &Hall, certificates: Option<&Certificates>) {
-    match Settings::read(options.settings.as_deref()) {
+fn renew(options: &ServerOptions, hall: &Hall, shows: Shows) {
+    match Settings::read(options.settings.as_deref(), options.rows.is_some()) {
         Ok(settings) => {
-            *hall.limits.write().unwrap_or_else(PoisonError::into_inner) = limits(&settings);
+            let (limits, are_others) = limits(&settings).beside(&hall.limits());
+            *hall.limits.write().unwrap_or_else(PoisonError::into_inner) = limits;
             info!("the limits were read again; what is said of the cell holds from the next start on");
+            if are_others {
+                warn!("nodes, bytes or locks of the limits are others now: they hold from the next start on");
+            }
         }
         Err(error) => error!(reason = %format_args!("{error:#}"), "the settings stay as they were"),
     }
-    renew_certificates(options, certificates);
+    renew_certificates(options, shows);
 }
 
-fn renew_certificates(options: &Options, certificates: Option<&Certificates>) {
-    match certificates.map(|certificates| certificates.renew(options)) {
-        None => {}
-        Some(Ok(())) => info!("the certificates were read again"),
-        Some(Err(error)) => error!(reason = %format_args!("{error:#}"), "the certificates stay as they were"),
+// What is shown by TLS to those who come, where one does by TLS.
+#[derive(Clone, Copy)]
+struct Shows<'a> {
+    clients: &'a Option<Arc<Certificates>>,
+    operators: &'a Option<Arc<Certificates>>,
+}
+
+fn renew_certificates(options: &ServerOptions, shows: Shows) {
+    for (comer, certificates) in [(Comer::Client, shows.clients), (Comer::Operator, shows.operators)] {
+        let Some(certificates) = certificates else {
+            continue;
+        };
+        match context(options, comer) {
+            Ok(context) => {
+                certificates.renew(context);
+                info!("the certificates were read again");
+            }
+            Err(error) => error!(reason = %format_args!("{error:#}"), "the certificates stay as they were"),
+        }
     }
 }

@@ -10,7 +10,7 @@ use std::thread;
 use std::time::{Duration, Instant};
 use ureq::{Agent, AgentBuilder, Response};
 
-/// So long an answer is waited for: longer than a gateway takes for the longest.
+/// How long an answer is waited for: longer than a gateway takes for the longest.
 const LONGEST: Duration = Duration::from_secs(120);
 
 /// One who asks a gateway, over connections that are kept.
@@ -22,7 +22,7 @@ pub struct Asking {
     random: StdRng,
     begun: Instant,
     deeds: Deeds,
-    /// So many answers said that the gateway doesn't know now.
+    /// How many answers said that the gateway doesn't know now.
     refused: usize,
 }
 
@@ -31,7 +31,7 @@ pub struct Asking {
 pub struct Asked {
     /// What it read and wrote.
     pub deeds: Deeds,
-    /// So many answers said that the gateway doesn't know now.
+    /// How many answers said that the gateway doesn't know now.
     pub refused: usize,
 }
 

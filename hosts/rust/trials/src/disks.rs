@@ -1,6 +1,6 @@
 //! What clients notice of a disk that is full.
 
-use crate::fail_overs::{Guest, come};
+use crate::fail_overs::{CachingClient, come};
 use crate::servers::{Start, folder};
 use std::path::Path;
 use std::sync::atomic::{AtomicBool, Ordering};
@@ -8,14 +8,14 @@ use std::thread;
 use std::time::{Duration, Instant};
 use tillermoss::{Client, Error, Options, Refusal};
 
-/// So many bytes are written at once, first and at most, and so many more each time: so the store grows as long as there is room.
+/// How many bytes are written at once, first and at most, and so many more each time: so the store grows as long as there is room.
 const CONTENT: (usize, usize) = (8192, 262_144);
 const MORE: usize = 64;
 
-/// So long writers write before the disk is full, and behind that.
+/// How long writers write before the disk is full, and after that.
 const BEFORE: Duration = Duration::from_secs(2);
 
-/// So long a writer waits for its turn at most.
+/// How long a writer waits for its turn at most.
 const PATIENCE: Duration = Duration::from_secs(300);
 
 /// What clients noticed of a disk that was full for a while.
@@ -23,17 +23,17 @@ const PATIENCE: Duration = Duration::from_secs(300);
 pub struct Filled {
     /// How often a lease ended before it was given again, of clients that only beat.
     pub jeopardies: usize,
-    /// So many sessions were lost, of these and of those that wrote.
+    /// How many sessions were lost, of these and of those that wrote.
     pub lost: usize,
-    /// So many writes were done.
+    /// How many writes were done.
     pub written: usize,
     /// Of so many nobody knows whether they were.
     pub unknown: usize,
-    /// So long after there was room again a write was done of a client that had only beaten.
+    /// How long after there was room again a write was done of a client that had only beaten.
     pub waited: Duration,
     /// Whether the store refused a write meanwhile.
     pub is_refused: bool,
-    /// So many masters there were.
+    /// How many masters there were.
     pub masters: usize,
 }
 
@@ -54,8 +54,8 @@ fn write_on(address: &str, number: usize, is_over: &AtomicBool) -> Result<(usize
     Ok((written, unknown, false))
 }
 
-// How long the first write behind room lasts.
-fn write_again(guests: &[Guest], begun: Instant) -> Result<Duration, Error> {
+// How long the first write after room lasts.
+fn write_again(guests: &[CachingClient], begun: Instant) -> Result<Duration, Error> {
     let guest = guests.first().ok_or(Error::Closed)?;
     match guest.client.set(guest.watch.handle, b"written", None) {
         Ok(()) | Err(Error::Refused(Refusal::Unknown)) => Ok(begun.elapsed()),
@@ -64,7 +64,7 @@ fn write_again(guests: &[Guest], begun: Instant) -> Result<Duration, Error> {
     }
 }
 
-/// So many clients hold locks, cache files and only beat, and so many others write again and again, on a disk of so many megabytes, which
+/// How many clients hold locks, cache files and only beat, and so many others write again and again, on a disk of so many megabytes, which
 /// another program fills for so long.
 ///
 /// # Errors

@@ -1,5 +1,6 @@
-//! An etcd of one member on this machine, with the rows of a new cell.
+//! An etcd on this machine, of one member or of three, with the rows of a new cell.
 
+use crate::far::{Network, over};
 use crate::servers::{Start, free, master_program, program};
 use nix::sys::signal::{Signal, kill};
 use nix::unistd::Pid;
@@ -12,19 +13,39 @@ use std::thread;
 use std::time::{Duration, Instant};
 use tempfile::TempDir;
 
-/// So long it may take to come up.
+/// How long it may take to come up.
 const COMING_UP: Duration = Duration::from_secs(60);
 
-/// So long an answer of it may take.
+/// How long an answer of it may take.
 const ANSWERING: Duration = Duration::from_secs(5);
 
 /// The etcd. It goes when this is dropped.
 #[derive(Debug)]
 pub struct Etcd {
     folder: TempDir,
-    child: Child,
-    /// Where it answers clients.
+    members: Vec<Child>,
+    /// Where its first member answers clients.
     pub address: SocketAddr,
+    /// Where its members do.
+    pub addresses: Vec<SocketAddr>,
+}
+
+/// Where a member listens, to clients and to other members, and where these find it.
+#[derive(Clone, Copy, Debug)]
+struct Places {
+    listens: [SocketAddr; 2],
+    is_found: [SocketAddr; 2],
+}
+
+impl Places {
+    fn new(network: Option<Network>) -> io::Result<Places> {
+        let listens = [free(), free()];
+        let is_found = match network {
+            None => listens,
+            Some(network) => [over(listens[0], network)?, over(listens[1], network)?],
+        };
+        Ok(Places { listens, is_found })
+    }
 }
 
 fn done(command: &mut Command) -> io::Result<Output> {
@@ -39,16 +60,26 @@ impl Etcd {
     ///
     /// Where it can't be started: Debian's package is etcd-server.
     pub fn start(options: &[&str]) -> io::Result<Etcd> {
+        Etcd::of(&[Places::new(None)?], options)
+    }
+
+    // One with members at these places.
+    fn of(places: &[Places], options: &[&str]) -> io::Result<Etcd> {
         let folder = tempfile::tempdir()?;
-        let (address, peer) = (free(), free());
-        let (client, peer) = (format!("http://{address}"), format!("http://{peer}"));
-        let mut command = Command::new("etcd");
-        command.arg("--data-dir").arg(folder.path().join("etcd")).args(["--name", "m", "--log-level", "error"]);
-        command.args(["--listen-client-urls", &client, "--advertise-client-urls", &client, "--listen-peer-urls", &peer]);
-        command.args(["--initial-advertise-peer-urls", &peer, "--initial-cluster", &format!("m={peer}")]).args(options);
-        let child = command.stdin(Stdio::null()).stdout(Stdio::null()).stderr(Stdio::null()).spawn();
-        let child = child.map_err(|error| io::Error::other(format!("starting etcd (Debian: apt-get install etcd-server): {error}")))?;
-        let etcd = Etcd { folder, child, address };
+        let addresses: Vec<SocketAddr> = places.iter().map(|places| places.is_found[0]).collect();
+        let mut etcd = Etcd { folder, members: Vec::new(), address: addresses[0], addresses };
+        let all: Vec<String> = places.iter().enumerate().map(|(at, places)| format!("m{at}=http://{}", places.is_found[1])).collect();
+        for (at, Places { listens, is_found }) in places.iter().enumerate() {
+            let url = |place: &SocketAddr| format!("http://{place}");
+            let mut command = Command::new("etcd");
+            command.arg("--data-dir").arg(etcd.path(&format!("etcd{at}"))).args(["--name", &format!("m{at}"), "--log-level", "error"]);
+            command.args(["--listen-client-urls", &url(&listens[0]), "--advertise-client-urls", &url(&is_found[0])]);
+            command.args(["--listen-peer-urls", &url(&listens[1]), "--initial-advertise-peer-urls", &url(&is_found[1])]);
+            command.args(["--initial-cluster", &all.join(",")]).args(options);
+            let child = command.stdin(Stdio::null()).stdout(Stdio::null()).stderr(Stdio::null()).spawn();
+            let missing = |error| io::Error::other(format!("starting etcd (Debian: apt-get install etcd-server): {error}"));
+            etcd.members.push(child.map_err(missing)?);
+        }
         let begun = Instant::now();
         while etcd.get("c/meta").is_err() {
             if begun.elapsed() > COMING_UP {
@@ -59,6 +90,19 @@ impl Etcd {
         Ok(etcd)
     }
 
+    /// One of three members, as etcd is without any option but its addresses, with a new cell at `c/`. This network lies between
+    /// all of them, and before each for its clients.
+    ///
+    /// # Errors
+    ///
+    /// As `with_cell`.
+    pub fn of_three(network: Network) -> io::Result<Etcd> {
+        let places = (0..3).map(|_| Places::new(Some(network))).collect::<io::Result<Vec<_>>>()?;
+        let etcd = Etcd::of(&places, &[])?;
+        etcd.make_cell()?;
+        Ok(etcd)
+    }
+
     /// One with the rows of a new cell at `c/`.
     ///
     /// # Errors
@@ -66,10 +110,14 @@ impl Etcd {
     /// As `start`, and where the rows can't be copied there.
     pub fn with_cell(options: &[&str]) -> io::Result<Etcd> {
         let etcd = Etcd::start(options)?;
-        let store = etcd.path("cell.db");
-        done(Command::new(master_program()).arg("run").arg("--store").arg(&store))?;
-        done(Command::new(program("tillermossd")).args(["copy", "--to", &rows(etcd.address)]).arg("--from").arg(&store))?;
+        etcd.make_cell()?;
         Ok(etcd)
+    }
+
+    fn make_cell(&self) -> io::Result<()> {
+        let store = self.path("cell.db");
+        done(Command::new(master_program()).arg("run").arg("--store").arg(&store))?;
+        done(Command::new(program("tillermossd")).args(["copy", "--to", &rows_of(&self.addresses)]).arg("--from").arg(&store)).map(drop)
     }
 
     /// A file in its folder.
@@ -82,6 +130,12 @@ impl Etcd {
     #[must_use]
     pub fn server(&self, name: &str, address: SocketAddr) -> Start {
         Start::new(&self.path(name)).rows(&rows(address)).with(&[&format!("tcp:{}", free())])
+    }
+
+    /// The same, which reaches all members where they are found.
+    #[must_use]
+    pub fn server_of_all(&self, name: &str) -> Start {
+        Start::new(&self.path(name)).rows(&rows_of(&self.addresses)).with(&[&format!("tcp:{}", free())])
     }
 
     /// What it answers at a path of its gateway; a fault where it refuses.
@@ -105,13 +159,13 @@ impl Etcd {
         Ok(value.map(|bytes| String::from_utf8_lossy(&bytes).into_owned()))
     }
 
-    /// Sends it a signal.
+    /// Sends its members a signal.
     ///
     /// # Errors
     ///
-    /// Where it is gone.
+    /// Where one is gone.
     pub fn signal(&self, signal: Signal) -> io::Result<()> {
-        Ok(kill(Pid::from_raw(self.child.id().cast_signed()), signal)?)
+        self.members.iter().try_for_each(|member| Ok(kill(Pid::from_raw(member.id().cast_signed()), signal)?))
     }
 
     /// Puts so many files into its cell, which no server serves.
@@ -143,13 +197,20 @@ impl Etcd {
 /// Where the cell's rows stand.
 #[must_use]
 pub fn rows(address: SocketAddr) -> String {
-    format!("etcd://{address}/c")
+    rows_of(&[address])
+}
+
+fn rows_of(addresses: &[SocketAddr]) -> String {
+    let members: Vec<String> = addresses.iter().map(SocketAddr::to_string).collect();
+    format!("etcd://{}/c", members.join(","))
 }
 
 impl Drop for Etcd {
     fn drop(&mut self) {
-        // (one that has ended is killed already)
-        let _ = self.child.kill();
-        let _ = self.child.wait();
+        for member in &mut self.members {
+            // (one that has ended is killed already)
+            let _ = member.kill();
+            let _ = member.wait();
+        }
     }
 }

@@ -11,10 +11,10 @@ use std::thread;
 use std::time::{Duration, Instant};
 use tillermoss::{Bare, Client, Create, Error, Event, Events, Handle, LockMode, Mode, Opening, Options, Refusal, Watch};
 
-/// So long clients do nothing before their server goes: then their Beats wait for answers.
+/// How long clients do nothing before their server goes: then their Beats wait for answers.
 const QUIET: Duration = Duration::from_secs(5);
 
-/// So long a writer tries again while it is refused for now: longer than any is waited for.
+/// How long a writer tries again while it is refused for now: longer than any is waited for.
 const PATIENCE: Duration = Duration::from_secs(180);
 
 /// Between two Beats of a client that doesn't wait for answers.
@@ -23,20 +23,20 @@ const PACE: Duration = Duration::from_millis(100);
 /// What clients noticed of a server that went, and of the next one.
 #[derive(Clone, Debug, Default)]
 pub struct Noticed {
-    /// So long after the next one was started a call of each was answered; the last of them.
+    /// How long after the next one was started a call of each was answered; the last of them.
     pub answered: Duration,
-    /// So long after the first one was told to go; it includes its going.
+    /// How long after the first one was told to go; it includes its going.
     pub answered_since_the_end: Duration,
-    /// So long after that another server was master, where several stand by for it.
+    /// How long after that another server was master, where several stand by for it.
     pub taken: Duration,
-    /// So often a lease ended before it was given again.
+    /// How often a lease ended before it was given again.
     pub jeopardies: usize,
-    /// So many sessions were lost.
+    /// How many sessions were lost.
     pub lost: usize,
 }
 
 impl Noticed {
-    pub(crate) fn look_at(&mut self, guests: &[Guest]) {
+    pub(crate) fn look_at(&mut self, guests: &[CachingClient]) {
         for guest in guests {
             let (jeopardies, is_lost) = guest.noticed();
             self.jeopardies += jeopardies;
@@ -46,13 +46,13 @@ impl Noticed {
 }
 
 /// A client, its file that it caches, and whose lock it holds.
-pub(crate) struct Guest {
+pub(crate) struct CachingClient {
     pub(crate) client: Client,
     pub(crate) watch: Watch,
 }
 
-impl Guest {
-    fn new(options: &Options, number: usize) -> Result<Guest, Error> {
+impl CachingClient {
+    fn new(options: &Options, number: usize) -> Result<CachingClient, Error> {
         let client = Client::connect(options)?;
         let file = Create { must: true, content: Some(Vec::new()), ..Create::default() };
         let (name, mode) = (format!("/ls/c/f{number}"), Mode::READ.and(Mode::WRITE));
@@ -60,7 +60,7 @@ impl Guest {
         let watch = client.watch_with(&opening)?;
         client.acquire(watch.handle, LockMode::Exclusive)?;
         client.read(watch.handle)?;
-        Ok(Guest { client, watch })
+        Ok(CachingClient { client, watch })
     }
 
     // How often its lease ended; and whether its session is lost, or the lock with it.
@@ -81,19 +81,19 @@ pub(crate) fn write(client: &Client, file: Handle) -> Result<(), Error> {
     }
 }
 
-pub(crate) fn come(address: &str, clients: usize) -> Result<Vec<Guest>, Error> {
+pub(crate) fn come(address: &str, clients: usize) -> Result<Vec<CachingClient>, Error> {
     come_by(&Options::new(address, "ann"), clients)
 }
 
-pub(crate) fn come_by(options: &Options, clients: usize) -> Result<Vec<Guest>, Error> {
+pub(crate) fn come_by(options: &Options, clients: usize) -> Result<Vec<CachingClient>, Error> {
     thread::scope(|scope| {
-        let coming: Vec<_> = (0..clients).map(|number| scope.spawn(move || Guest::new(options, number))).collect();
+        let coming: Vec<_> = (0..clients).map(|number| scope.spawn(move || CachingClient::new(options, number))).collect();
         coming.into_iter().map(|guest| guest.join().unwrap_or(Err(Error::Closed))).collect()
     })
 }
 
-/// So many clients, each so far from the server one way, who hold locks and cache files and do nothing; the server goes by SIGTERM, and
-/// another comes up at once. They are looked at for so long behind it.
+/// How many clients, each so far from the server one way, who hold locks and cache files and do nothing; the server goes by SIGTERM, and
+/// another comes up at once. They are looked at for so long after it.
 ///
 /// # Errors
 ///
@@ -159,7 +159,7 @@ fn wait_for_master(etcd: &Etcd, server: &Server, since: Instant) -> io::Result<D
     Err(io::Error::other("nobody took over"))
 }
 
-/// So many clients of a cell over etcd that has so many files more; the server goes, and one that stands by takes its place. They are
+/// How many clients of a cell over etcd that has so many files more; the server goes, and one that stands by takes its place. They are
 /// looked at for so long after that. In what they noticed the first answer counts from the going, and so does the last.
 ///
 /// # Errors
@@ -277,7 +277,7 @@ pub fn write_beside_one_that_starts(lease: u64) -> Result<Duration, Error> {
     })
 }
 
-/// How long a write waits behind a new master for a client that beats there, and never acknowledges that it is another; under this lease
+/// How long a write waits after a new master for a client that beats there, and never acknowledges that it is another; under this lease
 /// in milliseconds.
 ///
 /// # Errors

@@ -2,7 +2,7 @@
 //! while: what was read was there.
 
 use crate::asking::{Asked, Asking};
-use crate::gateways::Gateway;
+use crate::gateways::GatewayProcess;
 use crate::servers::{Kill, Server, Start, free};
 use crate::workers::{Deeds, Rules, Worker, check_deeds};
 use nix::sys::signal::Signal;
@@ -13,7 +13,7 @@ use std::thread;
 use std::time::{Duration, Instant};
 use tillermoss::Options;
 
-/// So many ask each gateway, and so many the server.
+/// How many ask each gateway, and so many the server.
 const ASKING: u64 = 4;
 const WORKERS: u64 = 3;
 
@@ -51,7 +51,7 @@ pub struct Tally {
 struct Cell<'a> {
     start: Start,
     server: Server,
-    gateways: &'a [Gateway; 2],
+    gateways: &'a [GatewayProcess; 2],
 }
 
 impl Cell<'_> {
@@ -88,7 +88,7 @@ pub fn run_gateway_history(folder: &Path, troubles: &[Trouble], between: Duratio
     let start = Start::new(&folder.join("store.db")).with(&[&address]);
     let server = start.start()?;
     let words = ["0", "--server", &address, "--as", "ann"];
-    let gateways = [Gateway::start(folder, &words)?, Gateway::start(folder, &words)?];
+    let gateways = [GatewayProcess::start(folder, &words)?, GatewayProcess::start(folder, &words)?];
     let (begun, rules) = (Instant::now(), Rules { may_lose: true, ..Rules::default() });
     let options = Options::new(&address, "ann");
     let workers = (0..WORKERS).map(|number| Worker::new(&options, number, begun)).collect::<Result<Vec<_>, _>>()?;

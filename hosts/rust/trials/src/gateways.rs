@@ -10,7 +10,7 @@ use std::process::{Child, Command, ExitStatus, Stdio};
 
 /// A gateway that runs.
 #[derive(Debug)]
-pub struct Gateway {
+pub struct GatewayProcess {
     child: Child,
     /// Where it listens first, as it said.
     pub address: String,
@@ -28,20 +28,20 @@ pub struct Answered {
     pub body: String,
 }
 
-impl Gateway {
+impl GatewayProcess {
     /// Starts one with these words, which logs into this folder, and waits until it listens.
     ///
     /// # Errors
     ///
     /// Where it can't be started, or ends first: then what it logged is told.
-    pub fn start(folder: &Path, words: &[&str]) -> io::Result<Gateway> {
+    pub fn start(folder: &Path, words: &[&str]) -> io::Result<GatewayProcess> {
         let log = folder.join("gateway.log");
         let out = File::options().create(true).append(true).open(&log)?;
         let mut child = Command::new(program("tillermoss-gateway")).args(words).stdout(Stdio::piped()).stderr(out).spawn()?;
         let lines = child.stdout.take().map(|out| BufReader::new(out).lines()).into_iter().flatten();
         let address = lines.map_while(Result::ok).find_map(|line| line.strip_prefix("listening ").map(str::to_owned));
         match address {
-            Some(address) => Ok(Gateway { child, address, log }),
+            Some(address) => Ok(GatewayProcess { child, address, log }),
             None => {
                 child.wait()?;
                 Err(io::Error::other(format!("the gateway didn't come up: {}", fs::read_to_string(log)?)))
@@ -89,7 +89,7 @@ impl Gateway {
     }
 }
 
-impl Drop for Gateway {
+impl Drop for GatewayProcess {
     fn drop(&mut self) {
         // (one that has ended is killed already)
         let _ = self.child.kill();
@@ -106,7 +106,7 @@ impl Drop for Gateway {
 pub fn curl(words: &[&str]) -> Answered {
     let told = Command::new("curl").args(["-s", "-i", "--max-time", "30"]).args(words).output().expect("curl is there");
     let text = String::from_utf8_lossy(&told.stdout).into_owned();
-    // (behind a 100 Continue stands the answer)
+    // (after a 100 Continue stands the answer)
     let text = text.strip_prefix("HTTP/1.1 100 Continue\r\n\r\n").unwrap_or(&text);
     let (head, body) = text.split_once("\r\n\r\n").unwrap_or((text, ""));
     let status = head.split(' ').nth(1).and_then(|word| word.parse().ok()).unwrap_or(0);

@@ -24,7 +24,7 @@ struct Shared {
 
 #[derive(Debug, Default)]
 struct State {
-    /// So many more are held.
+    /// How many more are held.
     most: usize,
     /// The first one since it began to hold, and how many came in all.
     first: Option<Vec<u8>>,

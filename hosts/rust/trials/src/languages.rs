@@ -14,7 +14,7 @@ use std::sync::atomic::{AtomicBool, Ordering};
 use std::thread;
 use std::time::{Duration, Instant};
 
-/// So long a client asks again what is refused for now, in milliseconds.
+/// How long a client asks again what is refused for now, in milliseconds.
 const PATIENCE: u32 = 90_000;
 
 /// A driver that runs.

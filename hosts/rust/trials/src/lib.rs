@@ -29,9 +29,9 @@ pub use fail_overs::{
     Going, Noticed, fail_over, fail_over_to_one_that_stands_by, start_behind_clients_that_left, write_beside_one_that_keeps,
     write_beside_one_that_starts, write_beside_one_that_stays_behind,
 };
-pub use far::far_from;
+pub use far::{Network, far_from};
 pub use gateway_history::{Tally, Trouble, run_gateway_history};
-pub use gateways::{Answered, Gateway, curl};
+pub use gateways::{Answered, GatewayProcess, curl};
 pub use history::{Read, Write, check_history};
 pub use holder::Holder;
 pub use holds::{Hold, check_holds};

@@ -11,7 +11,7 @@ use std::process::{Child, Command, Stdio};
 use std::thread;
 use std::time::{Duration, Instant};
 
-/// So long a member may take to come up.
+/// How long a member may take to come up.
 const COMING_UP: Duration = Duration::from_secs(60);
 
 /// A member that runs, alone in its etcd.

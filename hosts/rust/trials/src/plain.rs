@@ -1,7 +1,7 @@
 //! Connections by bytes, without the client library's own.
 
 use crate::masters::opening;
-use host_wire::{Answer, Asked, Blocks, Hello, Said, TurnedAway, Welcome, write_block, write_store_refused};
+use host_wire::{Asked, Blocks, Hello, MasterAnswer, Said, TurnedAway, Welcome, write_block, write_store_refused};
 use std::io::{self, Write};
 use std::net::TcpStream;
 use std::time::Duration;
@@ -139,14 +139,31 @@ impl Talker {
         self.client.read(NOW, handle)
     }
 
+    /// The call to set a content by a handle.
+    pub fn set_call(&mut self, handle: u64, content: &[u8]) -> Option<Vec<u8>> {
+        self.client.set(NOW, handle, content)
+    }
+
+    /// Sends a message of its own; what is answered, which its client isn't given: to the client the answer is lost.
+    pub fn lose(&mut self, message: &[u8]) -> Option<MasterAnswer> {
+        let number = Asked::read(message)?.number();
+        self.connection.send(message).ok()?;
+        loop {
+            match Said::read(&self.connection.next_block()?) {
+                Some(said) if said.number == number => return Some(said.answer),
+                _ => {}
+            }
+        }
+    }
+
     /// Sends a message of its own, and gives the client what comes until that is answered; the answer. None where there was nothing to
     /// send, and where the connection ended.
-    pub fn ask(&mut self, message: Option<Vec<u8>>) -> Option<Answer> {
+    pub fn ask(&mut self, message: Option<Vec<u8>>) -> Option<MasterAnswer> {
         self.told(message).map(|(answer, _)| answer)
     }
 
     // The same, with the handle that was opened.
-    fn told(&mut self, message: Option<Vec<u8>>) -> Option<(Answer, Option<u64>)> {
+    fn told(&mut self, message: Option<Vec<u8>>) -> Option<(MasterAnswer, Option<u64>)> {
         let message = message?;
         let number = Asked::read(&message)?.number();
         self.connection.send(&message).ok()?;
@@ -167,7 +184,7 @@ impl Talker {
     }
 
     /// Reads by a handle; what is answered.
-    pub fn read(&mut self, handle: u64) -> Option<Answer> {
+    pub fn read(&mut self, handle: u64) -> Option<MasterAnswer> {
         let read = self.read_call(handle);
         self.ask(read)
     }
@@ -182,7 +199,7 @@ impl Talker {
 }
 
 /// What the server sends next for the master, read; None where it ended the connection, or that is none.
-pub fn answer(connection: &mut Plain) -> Option<Answer> {
+pub fn answer(connection: &mut Plain) -> Option<MasterAnswer> {
     Said::read(&connection.next_block()?).map(|said| said.answer)
 }
 

@@ -15,11 +15,11 @@ const KEPT: usize = 0x1_0000;
 /// What was done to connections.
 #[derive(Debug, Default)]
 pub struct Counts {
-    /// So many were made.
+    /// How many were made.
     pub made: AtomicU64,
-    /// So many pieces were late.
+    /// How many pieces were late.
     pub late: AtomicU64,
-    /// So many connections were cut off.
+    /// How many connections were cut off.
     pub cut: AtomicU64,
     /// Of so many all that the client had sent came once more.
     pub repeated: AtomicU64,

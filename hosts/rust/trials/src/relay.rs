@@ -6,7 +6,7 @@ use std::sync::{Arc, Condvar, Mutex, MutexGuard, PoisonError};
 use std::thread;
 use std::time::Duration;
 
-/// So long behind what was held back the end of its connection comes: what was asked is done by then.
+/// How long after what was held back the end of its connection comes: what was asked is done by then.
 const BEHIND: Duration = Duration::from_millis(500);
 
 /// What gets through.

@@ -1,6 +1,6 @@
 //! What clients notice of a server, a master or both that are stopped by SIGSTOP for a while, and go on.
 
-use crate::fail_overs::{Guest, Noticed, come_by, write};
+use crate::fail_overs::{CachingClient, Noticed, come_by, write};
 use crate::members::Member;
 use crate::servers::{Server, Start, certificates, folder, free};
 use nix::sys::signal::Signal;
@@ -11,10 +11,10 @@ use std::thread;
 use std::time::{Duration, Instant};
 use tillermoss::{Error, Options};
 
-/// So many clients a cell has.
+/// How many clients a cell has.
 const CLIENTS: usize = 8;
 
-/// So long clients do nothing before the stop: then their Beats wait for answers.
+/// How long clients do nothing before the stop: then their Beats wait for answers.
 const QUIET: Duration = Duration::from_secs(5);
 
 /// Held while a cell over etcd comes up: of many at once a mastership would end before its server reads the rows.
@@ -116,7 +116,7 @@ pub fn stop_for(kind: Kind, member: Option<&Member>, what: Stopped, lasting: Dur
 }
 
 // A write of each, of a lost session too; how long since then the last answer came.
-fn write_each(guests: &[Guest], since: Instant) -> Duration {
+fn write_each(guests: &[CachingClient], since: Instant) -> Duration {
     thread::scope(|scope| {
         for (client, file) in guests.iter().map(|guest| (&guest.client, guest.watch.handle)) {
             // (whether its session is lost it is asked later)

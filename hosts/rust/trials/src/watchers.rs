@@ -1,6 +1,6 @@
 //! Many who watch one file through gateways, and when each of them is told that it was set.
 
-use crate::gateways::Gateway;
+use crate::gateways::GatewayProcess;
 use nix::sys::resource::{Resource, getrlimit, setrlimit};
 use std::error::Error;
 use std::io;
@@ -12,10 +12,10 @@ use tokio::runtime::Builder;
 use tokio::sync::mpsc::{UnboundedReceiver, UnboundedSender, unbounded_channel};
 use tokio::time::{sleep, timeout};
 
-/// So long the last of them is waited for.
+/// How long the last of them is waited for.
 const LATEST: Duration = Duration::from_secs(60);
 
-/// So long between two sets.
+/// The time between two sets.
 const REST: Duration = Duration::from_millis(500);
 
 /// When all were told of one set.
@@ -67,13 +67,13 @@ async fn all_told(told: &mut UnboundedReceiver<Told>, generation: u64, count: us
     Ok(moments)
 }
 
-/// So many watch a file of this name through these gateways in turn, and a client sets it so many times: when they were told of each.
+/// How many watch a file of this name through these gateways in turn, and a client sets it so many times: when they were told of each.
 ///
 /// # Errors
 ///
 /// Where one of them isn't told of a set within a minute, or the file can't be set.
 pub fn tell_watchers(
-    gateways: &[&Gateway],
+    gateways: &[&GatewayProcess],
     name: &str,
     count: usize,
     (client, file): (&Client, Handle),

@@ -9,7 +9,7 @@ use std::thread;
 use std::time::{Duration, Instant};
 use tillermoss::{Client, Create, Error, Handle, LockMode, Mode, Opening, Options, Refusal};
 
-/// So many files are read and written.
+/// How many files are read and written.
 pub const FILES: usize = 3;
 
 /// What one client did. Moments are nanoseconds.
@@ -21,11 +21,11 @@ pub struct Deeds {
     pub reads: Vec<Read>,
     /// When it held the lock.
     pub holds: Vec<Hold>,
-    /// So many reads the cache answered.
+    /// How many reads the cache answered.
     pub served: usize,
     /// When each of the others was answered.
     pub answered: Vec<u64>,
-    /// So often its session was lost, and it began another.
+    /// How often its session was lost, and it began another.
     pub lost: usize,
 }
 

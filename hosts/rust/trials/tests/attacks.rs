@@ -1,7 +1,7 @@
 //! What the server has to bear: a table of attacks, each with what is refused, and with what stands behind it: a client that had
 //! come before still has its session and its handle, its file what it wrote, and a new client gets in.
 
-use host_wire::{Answer, Asked, Blocks, REQUEST_LIMIT, Said, TurnedAway, write_block};
+use host_wire::{Asked, Blocks, MasterAnswer, REQUEST_LIMIT, Said, TurnedAway, write_block};
 use nix::sys::resource::{Resource, getrlimit, setrlimit};
 use nix::sys::signal::Signal;
 use nix::unistd::{SysconfVar, sysconf};
@@ -25,7 +25,7 @@ const SEED: u64 = 20_061_106;
 
 /// The witness' settings: a short silence, and few connections that haven't greeted.
 const SETTINGS: &str = "principals = [\"ann\", \"bob\"]\n[limits]\nsilence = 30\ngreetings = 200\nconnections = 300\n\
-                        connections_of_a_principal = 250\nnodes = 20\nbytes = 2000000\nbytes_of_a_principal = 1000000\n";
+                        connections_of_a_principal = 250\nnodes = 20\nbytes = 1200000\nbytes_of_a_principal = 1000000\nlocks = 3\n";
 
 /// A client that isn't to notice, and its file.
 struct Witness {
@@ -156,11 +156,11 @@ fn told(connected: Result<Client, Error>) -> String {
     }
 }
 
-fn said(answer: Option<Answer>) -> String {
+fn said(answer: Option<MasterAnswer>) -> String {
     match answer {
         None => "cut off".to_owned(),
-        Some(Answer::Reply(None)) => "done".to_owned(),
-        Some(Answer::Reply(Some(number)) | Answer::Refused(number)) => format!("refused {number}"),
+        Some(MasterAnswer::Reply(None)) => "done".to_owned(),
+        Some(MasterAnswer::Reply(Some(number)) | MasterAnswer::Refused(number)) => format!("refused {number}"),
         Some(other) => format!("{other:?}"),
     }
 }
@@ -541,31 +541,54 @@ fn too_many_connections(stage: &mut Stage) -> String {
     "let in".to_owned()
 }
 
-fn too_many_nodes(stage: &mut Stage) -> String {
-    for number in 0..30 {
-        match stage.witness.client.create(&format!("/ls/c/n{number}"), b"") {
-            Ok(_) => {}
-            Err(Error::Limited(reason)) => {
-                (0..number).for_each(|number| {
-                    let opened = stage.witness.client.open(&format!("/ls/c/n{number}"), Mode::WRITE).unwrap();
-                    stage.witness.client.delete(opened).unwrap();
-                });
-                return reason;
+// Files of this content are made, for these principals in turn, until one is refused; then they go. Why it was refused.
+fn too_many_files(stage: &mut Stage, principals: &[&str], content: &[u8]) -> String {
+    let connect = |principal: &&str| Client::connect(&Options::new(&stage.server.address, principal)).unwrap();
+    let clients: Vec<Client> = principals.iter().map(connect).collect();
+    let mut made = Vec::new();
+    let refused =
+        (0..30).zip(clients.iter().cycle()).find_map(|(number, client)| match client.create(&format!("/ls/c/n{number}"), content) {
+            Ok(file) => {
+                made.push((client, file));
+                None
             }
-            Err(error) => return error.to_string(),
-        }
+            Err(error) => Some(error.to_string()),
+        });
+    for (client, file) in made {
+        client.delete(file).unwrap();
     }
-    "let in".to_owned()
+    refused.unwrap_or_else(|| "let in".to_owned())
+}
+
+fn too_many_nodes(stage: &mut Stage) -> String {
+    too_many_files(stage, &["ann"], b"")
 }
 
 fn too_many_bytes(stage: &mut Stage) -> String {
-    let refused = (0..5).find_map(|number| stage.witness.client.create(&format!("/ls/c/b{number}"), &vec![0; 250_000]).err());
-    for number in 0..5 {
-        if let Ok(opened) = stage.witness.client.open(&format!("/ls/c/b{number}"), Mode::WRITE) {
-            stage.witness.client.delete(opened).unwrap();
-        }
+    too_many_files(stage, &["bob", "ann"], &[0; 250_000])
+}
+
+fn too_many_bytes_of_one(stage: &mut Stage) -> String {
+    too_many_files(stage, &["ann"], &[0; 250_000])
+}
+
+// A client that holds as many locks as it may asks for one more, by each way to ask; after it has released one it gets that.
+fn too_many_locks(stage: &mut Stage) -> String {
+    let client = Client::connect(&Options::new(&stage.server.address, "ann")).unwrap();
+    let files: Vec<Handle> = (0..4).map(|number| client.create(&format!("/ls/c/l{number}"), b"").unwrap()).collect();
+    for file in &files[..3] {
+        client.acquire(*file, LockMode::Exclusive).unwrap();
     }
-    refused.map_or_else(|| "let in".to_owned(), |error| error.to_string())
+    let refused = [client.acquire(files[3], LockMode::Exclusive), client.try_acquire(files[3], LockMode::Shared)];
+    client.release(files[0]).unwrap();
+    client.acquire(files[3], LockMode::Exclusive).unwrap();
+    for file in files {
+        client.delete(file).unwrap();
+    }
+    match refused {
+        [Err(waiting), Err(trying)] if waiting.to_string() == trying.to_string() => waiting.to_string(),
+        other => format!("{other:?}"),
+    }
 }
 
 fn a_second_server(stage: &mut Stage) -> String {
@@ -609,8 +632,10 @@ fn attacks_are_refused_and_the_cell_stands() {
         ("large blocks", "they wait for each other", large_blocks),
         ("idle connections of operators", "200", idle_operators),
         ("too many connections", "FullForPrincipal behind 250", too_many_connections),
-        ("too many nodes", "the limit nodes = 20 leaves no room for 1 more", too_many_nodes),
-        ("too many bytes", "the limit bytes_of_a_principal = 1000000 leaves no room for 250000 more", too_many_bytes),
+        ("too many nodes", "NoRoom 20: this limit of the cell leaves no room", too_many_nodes),
+        ("too many bytes", "NoRoom 1200000: this limit of the cell leaves no room", too_many_bytes),
+        ("too many bytes of one", "the limit bytes_of_a_principal = 1000000 leaves no room for 250000 more", too_many_bytes_of_one),
+        ("one lock more than a session may have", "NoRoom 3: this limit of the cell leaves no room", too_many_locks),
         ("a second server", "another server holds the store", a_second_server),
         ("a page of another site", "403", requests_of_other_sites),
         ("a forged handle of an earlier epoch", "refused 17", forged_handle),
@@ -923,7 +948,7 @@ fn an_address_that_is_not_safe_wants_a_word() {
     let rows: &[(&[&str], Option<&str>)] = &[
         (&["tcp:0.0.0.0:0"], Some("only with --insecure")),
         (&["tls:0"], Some("wants --cert, --key and --client-ca")),
-        (&["tcp:0", "--admin", "tcp:0.0.0.0:0"], Some("only unix:PATH, or tcp: on loopback")),
+        (&["tcp:0", "--admin", "tcp:0.0.0.0:0"], Some("only unix:PATH, tls:, or tcp: on loopback")),
         (&["tcp:0.0.0.0:0", "--insecure"], Some("trusts nobody")),
         (&["tcp:0.0.0.0:0", "--insecure", "--settings", &settings], None),
     ];
@@ -937,7 +962,7 @@ fn an_address_that_is_not_safe_wants_a_word() {
     fs::remove_dir_all(folder).unwrap();
 }
 
-// So many clients of bob, each with this file open to write.
+// How many clients of bob, each with this file open to write.
 fn writers(place: &str, name: &str, count: usize) -> Vec<(Talker, u64)> {
     const AT_ONCE: usize = 32;
     let coming = |of: usize| {

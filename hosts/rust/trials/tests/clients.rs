@@ -1,6 +1,6 @@
 //! The calls of a client, each with a server.
 
-use host_wire::Answer;
+use host_wire::MasterAnswer;
 use std::path::PathBuf;
 use std::sync::atomic::{AtomicU64, Ordering};
 use std::thread;
@@ -216,7 +216,7 @@ fn a_listing_is_served_until_a_node_comes_or_goes() {
     assert_eq!((view.children, view.is_served), (vec![], true));
 }
 
-// So long whatever waits for a client that left waits at most; a session that isn't ended lasts 12 s behind its last Beat that was
+// How long whatever waits for a client that left waits at most; a session that isn't ended lasts 12 s after its last Beat that was
 // answered.
 const SOON: Duration = Duration::from_secs(2);
 
@@ -252,7 +252,7 @@ fn what_one_who_leaves_has_is_free_at_once() {
     });
 }
 
-// (for 60 s behind a start no ephemeral file goes)
+// (for 60 s after a start no ephemeral file goes)
 #[test]
 fn an_ephemeral_file_goes_with_one_who_leaves() {
     let cell = Cell::new("gone");
@@ -278,7 +278,7 @@ fn one_that_is_killed_is_waited_for_until_its_time_is_up() {
     let file = client.create("/ls/c/f", b"old").unwrap();
     let mut other = Plain::begin(cell.server.place(), "bob").unwrap();
     let opened = other.open("/ls/c/f", b"").unwrap();
-    assert_eq!(other.read(opened), Some(Answer::Reply(None)));
+    assert_eq!(other.read(opened), Some(MasterAnswer::Reply(None)));
     drop(other);
     let begun = Instant::now();
     client.set(file, b"new", None).unwrap();
@@ -307,7 +307,7 @@ fn to_open_what_may_be_made_waits_for_nobody_where_it_is_there() {
     client.create("/ls/c/f", b"kept").unwrap();
     let mut other = Plain::begin(cell.server.place(), "bob").unwrap();
     let opened = other.open("/ls/c/f", b"").unwrap();
-    assert_eq!(other.read(opened), Some(Answer::Reply(None)));
+    assert_eq!(other.read(opened), Some(MasterAnswer::Reply(None)));
     let create = Create { content: Some(Vec::new()), ..Create::default() };
     let opening = |name| Opening { create: Some(create.clone()), ..Opening::new(name, BOTH) };
     let begun = Instant::now();

@@ -259,7 +259,7 @@ fn a_long_wait_says_for_whom() {
     fs::remove_dir_all(folder).unwrap();
 }
 
-// So many clients at once make the files of these numbers, whose names have 64 bytes.
+// How many clients at once make the files of these numbers, whose names have 64 bytes.
 fn make_files(server: &Server, directory: &str, numbers: std::ops::Range<usize>) -> Result<(), Error> {
     thread::scope(|scope| {
         let makers = (0..8).map(|maker| {
@@ -368,7 +368,7 @@ fn a_watch_tells_what_happens() {
 #[test]
 fn errors_say_what_was_refused_and_why() {
     let folder = folder("errors");
-    let server = Server::start(&folder.join("store.db")).unwrap();
+    let server = Start::new(&folder.join("store.db")).settings("[limits]\nnodes = 4\n").start().unwrap();
     assert_eq!(run(&server, &["put", "f", "x"]).1, Some(0));
     let rows: &[(&[&str], &str, i32)] = &[
         (&["get", "g"], "get /ls/c/g at ADDRESS: NotFound: no such node\n", 1),
@@ -383,6 +383,12 @@ fn errors_say_what_was_refused_and_why() {
         (&["put", "f", "y", "--if-generation", "2"], "put /ls/c/f at ADDRESS: WrongGeneration 1: ", 3),
         (&["lock", "f", "--", "/no/such/program"], "lock /ls/c/f at ADDRESS: /no/such/program: ", 6),
         (&["lock", "l", "--delay", "60001", "--", "true"], "lock /ls/c/l at ADDRESS: DelayTooLong: ", 3),
+        (
+            &["put", "g", "x"],
+            "put /ls/c/g at ADDRESS: NoRoom 4: this limit of the cell leaves no room\n\
+             tillermoss: delete or release what isn't needed; who runs the cell may raise the limit\n",
+            3,
+        ),
     ];
     let begun = Instant::now();
     let mut put = command(&server, &["put", "large"]).stdin(Stdio::piped()).stderr(Stdio::piped()).spawn().unwrap();
@@ -449,7 +455,7 @@ fn a_command_is_ended_where_the_session_is_lost() {
 }
 
 // Two who stand for one lock, the first of them over a network that is cut off while its command runs: when the first command did
-// something last, and when the second one began, in milliseconds behind the cut; and how the first program ended. Each command writes the time into a file, the
+// something last, and when the second one began, in milliseconds after the cut; and how the first program ended. Each command writes the time into a file, the
 // first one again and again.
 fn cut_off(words: &[&str], script: &str) -> (i64, i64, Option<i32>) {
     let folder = folder("cut-off");
@@ -540,7 +546,7 @@ fn numbers(server: &Server, words: &[&str]) -> (u128, u64, String) {
     (words[0].parse().unwrap(), words[1].parse().unwrap(), words[2].to_owned())
 }
 
-// (where the file stays the generation rises too; where it is made anew the fencing number alone. For a minute behind its start a server
+// (where the file stays the generation rises too; where it is made anew the fencing number alone. For a minute after its start a server
 // lets no ephemeral file go by itself)
 #[test]
 fn each_holder_of_a_name_has_a_greater_number() {

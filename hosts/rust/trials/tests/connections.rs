@@ -1,9 +1,9 @@
 //! To whom the server binds a connection, and what ends it: by bytes, without the client library.
 
-use host_wire::{Answer, Hello, TurnedAway, Welcome};
+use host_wire::{Hello, MasterAnswer, TurnedAway, Welcome};
 use std::fs;
 use std::path::Path;
-use tillermoss::{Client, Options};
+use tillermoss::{Client, Mode, Options, Refusal};
 use trials::{Kill, Master, Plain, Server, Start, again, answer, certificates, client_of, expired, folder, messages, new, start};
 
 fn greeted(server: &Server, hello: &Hello) -> (Plain, Result<Welcome, TurnedAway>) {
@@ -50,6 +50,32 @@ fn a_number_is_taken_up_again_with_its_token() {
     std::fs::remove_dir_all(folder).unwrap();
 }
 
+// A Set is done, and its reply is lost. Another client shrinks the file, and fills the room. The same bytes come again: they are answered
+// as they were, whichever limit leaves no room for them now; a new call is refused by that.
+#[test]
+fn what_was_done_is_told_again_in_a_full_cell() {
+    // (acl/base has 8 bytes)
+    let rows = [("bytes = 28", Refusal::NoRoom(28).number()), ("bytes_of_a_principal = 20", Refusal::StoreRefused.number())];
+    for (limit, refusal) in rows {
+        let folder = folder("full");
+        let server = Start::new(&folder.join("store.db")).settings(&format!("[limits]\n{limit}\n")).start().unwrap();
+        let mut writer = Plain::begin(server.place(), "ann").unwrap();
+        let file = writer.open("/ls/c/f", b"").unwrap();
+        let set = writer.set_call(file, &[b'a'; 10]).unwrap();
+        assert_eq!(writer.lose(&set), Some(MasterAnswer::Reply(None)), "{limit}");
+        let other = Client::connect(&Options::new(&server.address, "ann")).unwrap();
+        other.set(other.open("/ls/c/f", Mode::WRITE).unwrap(), b"", None).unwrap();
+        other.create("/ls/c/g", &[b'b'; 20]).unwrap();
+        assert!(other.create("/ls/c/h", b"c").is_err(), "{limit}");
+        assert_eq!(writer.ask(Some(set)), Some(MasterAnswer::Reply(None)), "{limit}");
+        let next = writer.set_call(file, &[b'a'; 10]);
+        assert_eq!(writer.ask(next), Some(MasterAnswer::Reply(Some(refusal))), "{limit}");
+        let present = other.read(other.open("/ls/c/f", Mode::READ).unwrap()).unwrap();
+        assert_eq!((present.content.len(), present.stat.content_generation), (0, 3), "{limit}");
+        fs::remove_dir_all(folder).unwrap();
+    }
+}
+
 #[test]
 fn a_connection_carries_its_own_client_alone() {
     let (server, folder) = server("bound");
@@ -57,11 +83,11 @@ fn a_connection_carries_its_own_client_alone() {
     let client = welcome.unwrap().client;
     connection.send(&start(client, "ann")).unwrap();
     let started = connection.next_block().unwrap();
-    assert!(matches!(host_wire::Said::read(&started).unwrap().answer, Answer::Started(_)));
+    assert!(matches!(host_wire::Said::read(&started).unwrap().answer, MasterAnswer::Started(_)));
     // (28: a Beat of no epoch)
     let beat = client_of(&mut Master::of_epoch(9).unwrap(), client, "ann").unwrap().beat(0).unwrap();
     connection.send(&beat).unwrap();
-    assert_eq!(answer(&mut connection), Some(Answer::Refused(28)));
+    assert_eq!(answer(&mut connection), Some(MasterAnswer::Refused(28)));
 
     let mut master = Master::start().unwrap();
     let [_, own, _] = messages(&mut master, client, "ann").unwrap();
@@ -97,7 +123,7 @@ fn a_later_connection_ends_an_earlier_one() {
     let (mut later, _) = greeted(&server, &again("ann", welcome.unwrap()));
     assert_eq!(earlier.next_block(), None);
     later.send(&start(welcome.unwrap().client, "ann")).unwrap();
-    assert!(matches!(answer(&mut later), Some(Answer::Started(_))));
+    assert!(matches!(answer(&mut later), Some(MasterAnswer::Started(_))));
     std::fs::remove_dir_all(folder).unwrap();
 }
 

@@ -1,24 +1,24 @@
 //! A cell whose rows stand in an etcd of one member, and a network that holds a transaction back. They want etcd (Debian: etcd-server).
 
 use nix::sys::signal::Signal;
-use serde_json::json;
+use serde_json::{Value, json};
 use std::process::Command;
 use std::sync::Barrier;
 use std::sync::atomic::{AtomicBool, Ordering};
 use std::thread;
 use std::time::{Duration, Instant};
-use tillermoss::{Client, Mode, Options};
-use trials::{Etcd, Going, Holder, Kill, Plain, Server, fail_over_to_one_that_stands_by, free, new, program, rows};
+use tillermoss::{Client, Create, Handle, LockMode, Mode, Opening, Options, Refusal};
+use trials::{Etcd, Going, Holder, Kill, Passing, Plain, Relay, Server, fail_over_to_one_that_stands_by, free, new, program, rows};
 
 /// A mastership that outlasts whatever is held back here.
 const LONG: [&str; 2] = ["--mastership", "60"];
 
 const BOTH: Mode = Mode::READ.and(Mode::WRITE);
 
-/// So long a call is tried again.
+/// How long a call is tried again.
 const PATIENCE: Duration = Duration::from_secs(120);
 
-/// So long a master takes to come up, and asks etcd for its epoch.
+/// How long a master takes to come up, and asks etcd for its epoch.
 const COMING_UP: Duration = Duration::from_secs(2);
 
 fn client(server: &Server, principal: &str) -> Client {
@@ -162,9 +162,93 @@ fn what_many_change_at_once_goes_to_a_stock_etcd() {
     });
     let refused: Vec<_> = done.iter().filter_map(|made| made.as_ref().err()).collect();
     println!("etcd: {} creates at once within {:?}, {} refused; epochs {:?}", done.len(), begun.elapsed(), refused.len(), epochs(&server));
-    assert!(refused.is_empty(), "{refused:?}");
+    assert!(refused.is_empty(), "{refused:?}; {}", server.logged());
     assert_eq!(epochs(&server).len(), 1, "{}", server.logged());
     assert!(!server.logged().contains("etcd refuses a commit"));
+}
+
+// A client that opens these files of a cell, or makes them, for their locks.
+fn with_files(address: &str, count: usize) -> (Client, Vec<Handle>) {
+    let client = Client::connect(&Options { patience: PATIENCE, ..Options::new(address, "ann") }).unwrap();
+    let open = |number| {
+        let create = Some(Create { content: Some(Vec::new()), ..Create::default() });
+        client.open_with(&Opening { create, lock_delay: 1, ..Opening::new(&format!("/ls/c/lock{number}"), Mode::WRITE) }).unwrap()
+    };
+    let files = (0..count).map(open).collect();
+    (client, files)
+}
+
+// The lock's mode by its place: each second one is shared.
+fn mode(place: usize) -> LockMode {
+    if place.is_multiple_of(2) { LockMode::Exclusive } else { LockMode::Shared }
+}
+
+// How many calls wait for a lock.
+fn waiting(server: &Server) -> usize {
+    let told: Value = serde_json::from_str(&page(server, "locks")).unwrap();
+    told.as_array().unwrap().iter().map(|lock| lock["waiters"].as_array().unwrap().len()).sum()
+}
+
+fn wait_for_waiting(server: &Server, count: usize) {
+    let begun = Instant::now();
+    while waiting(server) != count {
+        assert!(begun.elapsed() < PATIENCE, "{}: {}", waiting(server), server.logged());
+        thread::sleep(Duration::from_millis(50));
+    }
+}
+
+// Who holds as many locks as a session may goes, in order or without a word, while others wait for each of them; and a lock goes from one
+// to many who share it. Each is one transaction, of more operations than stand side by side in one of a stock etcd.
+#[test]
+fn many_locks_change_hands_over_a_stock_etcd() {
+    const LOCKS: usize = 100;
+    const SHARING: usize = 160;
+    let etcd = Etcd::with_cell(&[]).unwrap();
+    let server = etcd.server("server", etcd.address).with(&LONG).with(&["--admin", &format!("tcp:{}", free())]).start().unwrap();
+    let others: Vec<(Client, Vec<Handle>)> = (0..SHARING).map(|_| with_files(&server.address, LOCKS)).collect();
+    let relay = Relay::start(server.place().parse().unwrap()).unwrap();
+    for is_told in [true, false] {
+        let address = if is_told { server.address.clone() } else { format!("tcp:{}", relay.address()) };
+        let (holder, files) = with_files(&address, LOCKS + 1);
+        for (place, file) in files[..LOCKS].iter().enumerate() {
+            holder.acquire(*file, mode(place)).unwrap();
+        }
+        assert_eq!(holder.acquire(files[LOCKS], LockMode::Shared).unwrap_err().refusal(), Some(Refusal::NoRoom(LOCKS as u64)));
+        let begun = thread::scope(|scope| {
+            for (place, (client, files)) in others[..LOCKS].iter().enumerate() {
+                scope.spawn(move || client.acquire(files[place], LockMode::Exclusive).unwrap());
+            }
+            wait_for_waiting(&server, LOCKS);
+            let begun = Instant::now();
+            if is_told {
+                holder.leave().unwrap();
+            } else {
+                relay.set(Passing::Nothing);
+            }
+            begun
+        });
+        println!("etcd: {LOCKS} locks of a client that goes, told: {is_told}: others had them within {:?}", begun.elapsed());
+        others[..LOCKS].iter().enumerate().for_each(|(place, (client, files))| client.release(files[place]).unwrap());
+    }
+    let ((first, its), rest) = others.split_first().unwrap();
+    first.acquire(its[0], LockMode::Exclusive).unwrap();
+    let begun = thread::scope(|scope| {
+        rest.iter().for_each(|(client, files)| drop(scope.spawn(|| client.acquire(files[0], LockMode::Shared).unwrap())));
+        wait_for_waiting(&server, rest.len());
+        first.release(its[0]).unwrap();
+        Instant::now()
+    });
+    println!("etcd: a lock that {} share, who waited for it: within {:?}", rest.len(), begun.elapsed());
+    assert_eq!(epochs(&server).len(), 1, "{}", server.logged());
+    assert!(!server.logged().contains("etcd refuses a commit"));
+}
+
+#[test]
+fn more_locks_than_one_transaction_may_end_are_refused_at_the_start() {
+    let etcd = Etcd::with_cell(&[]).unwrap();
+    let start = |locks: u64| etcd.server(&format!("locks{locks}"), etcd.address).settings(&format!("[limits]\nlocks = {locks}\n")).start();
+    assert!(start(1_001).unwrap_err().to_string().contains("the limit locks = 1001 is too much: over etcd 1000 at most"));
+    drop(start(1_000).unwrap());
 }
 
 #[test]
@@ -264,24 +348,35 @@ fn old_revisions_are_forgotten_and_etcd_is_shown() {
     assert_eq!(metric(&server, "etcd_failures_total"), 0.0);
 }
 
+// The user may read and write below the cell's prefix, and nothing else: that is enough, also to have old revisions forgotten.
 #[test]
 fn a_user_of_etcd_is_let_in_by_its_password() {
     let etcd = Etcd::with_cell(&[]).unwrap();
-    etcd.ask("auth/user/add", &json!({ "name": "root", "password": "right" })).unwrap();
-    etcd.ask("auth/role/add", &json!({ "name": "root" })).unwrap();
-    etcd.ask("auth/user/grant", &json!({ "user": "root", "role": "root" })).unwrap();
-    etcd.ask("auth/enable", &json!({})).unwrap();
+    let ask = |path: &str, asked: serde_json::Value| etcd.ask(&format!("auth/{path}"), &asked).unwrap();
+    let below = json!({ "permType": "READWRITE", "key": base64::encode("c/"), "range_end": base64::encode("c0") });
+    for (user, password) in [("root", "other"), ("cell", "right")] {
+        ask("user/add", json!({ "name": user, "password": password }));
+        ask("role/add", json!({ "name": user }));
+        ask("user/grant", json!({ "user": user, "role": user }));
+    }
+    ask("role/grant", json!({ "name": "cell", "perm": below }));
+    ask("enable", json!({}));
     let password = etcd.path("password").display().to_string();
     std::fs::write(&password, "right\n").unwrap();
-    let as_root = ["--etcd-user", "root", "--etcd-password", &password];
-    let server = etcd.server("server", etcd.address).with(&as_root).start().unwrap();
-    client(&server, "ann").create("/ls/c/f", b"hello").unwrap();
+    let as_user = ["--etcd-user", "cell", "--etcd-password", &password];
+    let admin = ["--etcd-history", "1", "--admin", &format!("tcp:{}", free())];
+    let server = etcd.server("server", etcd.address).with(&as_user).with(&admin).start().unwrap();
+    let writer = client(&server, "ann");
+    // (it is looked for old revisions every ten seconds)
+    write_until(&writer, "/ls/c/f", Instant::now() + Duration::from_secs(25));
+    assert!(!server.logged().contains("etcd doesn't forget old revisions"), "{}", server.logged());
+    assert_eq!(metric(&server, "etcd_failures_total"), 0.0);
     drop(server);
     std::fs::write(&password, "wrong\n").unwrap();
     let copy = Command::new(program("tillermossd"))
         .args(["copy", "--from", &rows(etcd.address), "--to"])
         .arg(etcd.path("out.db"))
-        .args(as_root)
+        .args(as_user)
         .output();
     let told = String::from_utf8_lossy(&copy.unwrap().stderr).into_owned();
     assert!(told.contains("authentication failed"), "{told}");
@@ -291,15 +386,14 @@ fn a_user_of_etcd_is_let_in_by_its_password() {
 // guard gave the mastership back; else when that has run out, by which leases may end.
 #[test]
 fn a_server_that_stands_by_comes_up_soon() {
-    const FILES: u64 = 17_000;
     const LOOKED_AT: Duration = Duration::from_secs(15);
     // A mastership of 5 s that is renewed four times has 3.75 s left at least.
     const AT_ONCE: Duration = Duration::from_millis(3500);
     // (how long that takes beside other work is told, and bounded where it would be lost: bench/runs has what was measured)
-    for going in [Going::InOrder, Going::Killed, Going::WithAll] {
-        let noticed = fail_over_to_one_that_stands_by(FILES, 8, going, LOOKED_AT).unwrap();
+    for (files, going) in [(17_000, Going::InOrder), (17_000, Going::Killed), (17_000, Going::WithAll), (100_000, Going::Killed)] {
+        let noticed = fail_over_to_one_that_stands_by(files, 8, going, LOOKED_AT).unwrap();
         println!(
-            "etcd: {FILES} files, {going:?}: another was master {} ms after it; of 8 clients the first was answered {} ms after it, the last \
+            "etcd: {files} files, {going:?}: another was master {} ms after it; of 8 clients the first was answered {} ms after it, the last \
              {} ms; in jeopardy {}, lost {}",
             noticed.taken.as_millis(),
             noticed.answered.as_millis(),

@@ -3,10 +3,10 @@
 use std::time::Duration;
 use trials::{fail_over, fill, start_behind_clients_that_left, write_beside_one_that_keeps, write_beside_one_that_starts};
 
-/// So long an answer may take behind the start of the next server.
+/// How long an answer may take after the start of the next server.
 const SOON: Duration = Duration::from_secs(3);
 
-/// So long clients are looked at behind a fail-over: as long as two leases of 12 s, in which one that isn't given again ends.
+/// How long clients are looked at after a fail-over: as long as two leases of 12 s, in which one that isn't given again ends.
 const LOOKED_AT: Duration = Duration::from_secs(26);
 
 fn nobody_notices(clients: usize, one_way: Duration) {

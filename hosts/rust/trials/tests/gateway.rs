@@ -9,13 +9,16 @@ use std::sync::Mutex;
 use std::thread;
 use std::time::{Duration, Instant};
 use tillermoss::Admin;
-use trials::{Answered, Gateway, Server, Start, certificates, curl, folder, tell_watchers};
+use trials::{Answered, GatewayProcess, Server, Start, certificates, curl, folder, tell_watchers};
 
 /// The page that says what is answered.
 const PAGE: &str = include_str!("../../../../docs/openapi.yaml");
 
-/// So many milliseconds a lease has here.
+/// How many milliseconds a lease has here.
 const LEASE: u64 = 2000;
+
+/// How many nodes the cell may have.
+const NODES: usize = 60;
 
 /// Whose tokens there are. The cell lets `ann` and `bob` in.
 const PRINCIPALS: [&str; 3] = ["ann", "bob", "eve"];
@@ -26,8 +29,8 @@ type Seen = (String, String, u16);
 struct Stage {
     folder: PathBuf,
     server: Server,
-    gateway: Gateway,
-    narrow: Gateway,
+    gateway: GatewayProcess,
+    narrow: GatewayProcess,
     seen: Mutex<BTreeSet<Seen>>,
 }
 
@@ -59,17 +62,19 @@ impl Stage {
     fn new() -> Stage {
         let folder = folder("gateway");
         let admin = format!("unix:{}", folder.join("admin").display());
-        let start = Start::new(&folder.join("store.db")).settings(&format!("lease = {LEASE}\n")).with(&["tcp:0", "--admin", &admin]);
+        let start = Start::new(&folder.join("store.db"))
+            .settings(&format!("lease = {LEASE}\n[limits]\nnodes = {NODES}\n"))
+            .with(&["tcp:0", "--admin", &admin]);
         let server = start.start().unwrap();
         let (address, tokens) = (server.address.as_str(), tokens(&folder));
-        let gateway = Gateway::start(&folder, &["0", "--server", address, "--tokens", &tokens, "--patience", "1"]).unwrap();
+        let gateway = GatewayProcess::start(&folder, &["0", "--server", address, "--tokens", &tokens, "--patience", "1"]).unwrap();
         let limits = ["--watches", "0", "--sessions", "0", "--waiting", "0"];
         let words: Vec<&str> = ["0", "--server", address, "--tokens", &tokens].into_iter().chain(limits).collect();
-        let narrow = Gateway::start(&folder, &words).unwrap();
+        let narrow = GatewayProcess::start(&folder, &words).unwrap();
         Stage { folder, server, gateway, narrow, seen: Mutex::default() }
     }
 
-    fn ask_at(&self, gateway: &Gateway, who: &str, method: &str, path: &str, words: &[&str]) -> Answered {
+    fn ask_at(&self, gateway: &GatewayProcess, who: &str, method: &str, path: &str, words: &[&str]) -> Answered {
         let url = format!("http://{}{path}", gateway.place());
         let shown = format!("Authorization: Bearer token-of-{who}");
         let mut all = if method == "HEAD" { vec!["-I"] } else { vec!["-X", method] };
@@ -88,7 +93,7 @@ impl Stage {
         self.check(&self.gateway, (who, method, path, words), status)
     }
 
-    fn check(&self, gateway: &Gateway, (who, method, path, words): (&str, &str, &str, &[&str]), status: u16) -> Answered {
+    fn check(&self, gateway: &GatewayProcess, (who, method, path, words): (&str, &str, &str, &[&str]), status: u16) -> Answered {
         let answered = self.ask_at(gateway, who, method, path, words);
         assert_eq!(answered.status, status, "{who} {method} {path} {words:?}: {answered:?}");
         if status >= 400 && method != "HEAD" {
@@ -150,6 +155,7 @@ fn each_route_and_status_is_answered() {
     locks(&stage);
     strangers(&stage);
     limits(&stage);
+    full_cell(&stage);
     unknown_outcomes(&stage);
     lost_sessions(&stage);
     jeopardy(&stage);
@@ -387,10 +393,24 @@ fn limits(stage: &Stage) {
     }
 }
 
+// Once the cell has as many nodes as it may, nothing new is made, until something goes.
+fn full_cell(stage: &Stage) {
+    let (session, _) = stage.session("ann", "");
+    let path = |place: usize| format!("/v1/list/full{place}");
+    let made = (0..NODES).take_while(|place| stage.ask_at(&stage.gateway, "ann", "PUT", &path(*place), &[]).status == 201).count();
+    let rows = [("PUT", path(made)), ("PUT", "/v1/file/more".to_owned()), ("POST", format!("/v1/lock/more?session={session}"))];
+    for (method, path) in rows {
+        assert_eq!(number(&stage.ask("ann", method, &path, &[], 429)), 43, "{method} {path}");
+    }
+    (0..made).for_each(|place| drop(stage.ask("ann", "DELETE", &format!("/v1/file/full{place}"), &[], 204)));
+    stage.ask("ann", "PUT", "/v1/file/more", &["-d", "more"], 201);
+    stage.ask("ann", "DELETE", &format!("/v1/session/{session}"), &[], 204);
+}
+
 // A write waits for a gateway that is stopped, and then another master comes up.
 fn unknown_outcomes(stage: &Stage) {
     let words = ["0", "--server", &stage.server.address, "--tokens", &stage.folder.join("tokens").display().to_string()].map(str::to_owned);
-    let stopped = Gateway::start(&stage.folder, &words.each_ref().map(String::as_str)).unwrap();
+    let stopped = GatewayProcess::start(&stage.folder, &words.each_ref().map(String::as_str)).unwrap();
     stage.ask("ann", "PUT", "/v1/file/slow", &["-d", "old"], 201);
     stage.check(&stopped, ("bob", "GET", "/v1/file/slow", &[]), 200);
     stopped.signal(Signal::SIGSTOP).unwrap();
@@ -472,16 +492,16 @@ fn certificates_and_tokens_tell_who_asks() {
     let file = |name: &str| shown.join(name).display().to_string();
     let (cert, key, ca, tokens) = (file("server.pem"), file("server.key"), file("ca.pem"), tokens(&folder));
     let tls = ["tls:0", "--server", &server.address, "--cert", &cert, "--key", &key];
-    let by_both = Gateway::start(&folder, &[&tls[..], &["--client-ca", &ca, "--tokens", &tokens]].concat()).unwrap();
-    let by_certificate = Gateway::start(&folder, &[&tls[..], &["--client-ca", &ca]].concat()).unwrap();
+    let by_both = GatewayProcess::start(&folder, &[&tls[..], &["--client-ca", &ca, "--tokens", &tokens]].concat()).unwrap();
+    let by_certificate = GatewayProcess::start(&folder, &[&tls[..], &["--client-ca", &ca]].concat()).unwrap();
     let (ann_cert, ann_key) = (file("ann.pem"), file("ann.key"));
     let as_ann = ["--cert", &ann_cert, "--key", &ann_key];
-    let ask = |gateway: &Gateway, words: &[&str]| {
+    let ask = |gateway: &GatewayProcess, words: &[&str]| {
         let url = format!("https://localhost:{}/v1/file/f", gateway.place().rsplit_once(':').unwrap().1);
         curl(&[words, &["--cacert", &ca, &url]].concat()).status
     };
     let (of_ann, of_bob) = ("Authorization: Bearer token-of-ann", "Authorization: Bearer token-of-bob");
-    let rows: [(&Gateway, &[&str], u16); 8] = [
+    let rows: [(&GatewayProcess, &[&str], u16); 8] = [
         (&by_both, &[&as_ann[..], &["-X", "PUT", "-d", "hello"]].concat(), 201),
         (&by_both, &as_ann, 200),
         (&by_both, &["-H", of_bob], 200),
@@ -554,7 +574,7 @@ fn a_thousand_watchers_are_told() {
     let folder = folder("gateway-watchers");
     let server = Start::new(&folder.join("store.db")).start().unwrap();
     let words = ["0", "--server", &server.address, "--as", "ann"];
-    let gateways = [Gateway::start(&folder, &words).unwrap(), Gateway::start(&folder, &words).unwrap()];
+    let gateways = [GatewayProcess::start(&folder, &words).unwrap(), GatewayProcess::start(&folder, &words).unwrap()];
     let client = tillermoss::Client::connect(&tillermoss::Options::new(&server.address, "ann")).unwrap();
     let file = client.create("/ls/c/watched", b"").unwrap();
     let times = tell_watchers(&[&gateways[0], &gateways[1]], "watched", 1000, (&client, file), 5).unwrap();

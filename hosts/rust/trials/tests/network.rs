@@ -13,7 +13,7 @@ const SEED: u64 = 20_061_106;
 const CLIENTS: u64 = 8;
 const KILLS: usize = 10;
 
-/// So long a server lives, but for its recovery.
+/// How long a server lives, but for its recovery.
 const LIFE: Duration = Duration::from_secs(3);
 
 /// How the clients reach their server, through the proxy.

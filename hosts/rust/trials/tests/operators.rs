@@ -10,7 +10,7 @@ use std::process::{Command, Stdio};
 use std::thread;
 use std::time::{Duration, Instant};
 use tillermoss::{Admin, Client, Error, LockMode, Mode, Options, Refusal};
-use trials::{Kill, Server, Start, folder, master_program, program};
+use trials::{Kill, Server, Start, certificates, expired, folder, master_program, program, revoke};
 
 fn begin(folder: &Path) -> Start {
     Start::new(&folder.join("store.db")).with(&["tcp:0", "--admin", "tcp:0"])
@@ -239,21 +239,36 @@ fn a_copy_is_given_at_a_private_socket_alone() {
 #[test]
 fn settings_are_read_again() {
     let folder = folder("again");
-    let server = begin(&folder).settings("[limits]\nnodes = 4\n").start().unwrap();
+    let start = begin(&folder);
+    let settings = |limits: &str| start.clone().settings(&format!("[limits]\n{limits}"));
+    let mut server = settings("nodes = 4\nbytes_of_a_principal = 2\n").start().unwrap();
     let client = connect(&server, "ann");
-    client.create("/ls/c/f", b"").unwrap();
-    let error = client.create("/ls/c/g", b"").unwrap_err();
-    assert_eq!(error.to_string(), "the limit nodes = 4 leaves no room for 1 more");
-    let path = folder.join("store.db.toml");
-    fs::write(&path, "[limits]\nnodes = \n").unwrap();
+    let file = client.create("/ls/c/f", b"").unwrap();
+    let is_limited = |content: &[u8]| matches!(client.set(file, content, None), Err(Error::Limited(_)));
+    let is_full =
+        |client: &Client, name: &str, limit| client.create(name, b"").is_err_and(|error| error.refusal() == Some(Refusal::NoRoom(limit)));
+    let error = client.set(file, b"two", None).unwrap_err();
+    assert_eq!(error.to_string(), "the limit bytes_of_a_principal = 2 leaves no room for 3 more");
+    settings("bytes_of_a_principal = \n");
     server.signal(Signal::SIGHUP).unwrap();
     assert!(server.has_logged("the settings stay as they were"));
-    assert!(matches!(client.create("/ls/c/g", b""), Err(Error::Limited(_))));
-    fs::write(&path, "[limits]\nnodes = 5\n").unwrap();
+    assert!(is_limited(b"two"));
+    settings("nodes = 4\nbytes_of_a_principal = 3\n");
     server.signal(Signal::SIGHUP).unwrap();
-    assert!(server.has_logged("the limits were read again"));
+    assert!(server.has_logged("the limits were read again") && !server.logged().contains("nodes, bytes or locks"));
+    client.set(file, b"two", None).unwrap();
+    assert!(is_limited(b"four"));
+    // (the limits of the cell are its master's: they hold from the next start on)
+    settings("nodes = 5\nbytes_of_a_principal = 4\n");
+    server.signal(Signal::SIGHUP).unwrap();
+    assert!(server.has_logged("nodes, bytes or locks of the limits are others now"));
+    client.set(file, b"four", None).unwrap();
+    assert!(is_full(&client, "/ls/c/g", 4));
+    server.kill(Kill::InOrder).unwrap();
+    let server = settings("nodes = 5\n").start().unwrap();
+    let client = connect(&server, "ann");
     client.create("/ls/c/g", b"").unwrap();
-    assert!(matches!(client.create("/ls/c/h", b""), Err(Error::Limited(_))));
+    assert!(is_full(&client, "/ls/c/h", 5));
     fs::remove_dir_all(folder).unwrap();
 }
 
@@ -317,6 +332,102 @@ fn operators_beyond_the_machine_show_a_token() {
     let line = ["--server", &server.address, "--admin", &far, "--admin-token", file, "status"];
     let told = Command::new(program("tillermoss")).args(line).output().unwrap();
     assert!(String::from_utf8(told.stdout).unwrap().contains("ready yes"));
+    fs::remove_dir_all(folder).unwrap();
+}
+
+// One who shows himself at this address by this certificate of a folder, and trusts the authority of the server's.
+fn operator(address: &str, server: &Path, own: &Path, name: &str) -> Admin {
+    let (certificate, key) = (own.join(format!("{name}.pem")), own.join(format!("{name}.key")));
+    Admin::new(address).unwrap().with_certificates(&server.join("ca.pem"), Some((&certificate, &key))).unwrap()
+}
+
+fn status_of_page(address: &str, authority: &Path, path: &str) -> String {
+    let page = format!("https://{}{path}", address.strip_prefix("tls:").unwrap());
+    let words = ["--silent", "--output", "/dev/null", "--write-out", "%{http_code}", "--cacert"];
+    let told = Command::new("curl").args(words).arg(authority).arg(page).output().unwrap();
+    String::from_utf8(told.stdout).unwrap()
+}
+
+// A server whose operators are ann and bob, of whom bob's certificate is revoked, and where they come.
+fn for_operators(folder: &Path, own: &Path) -> (Server, String) {
+    revoke(own, &["bob"]);
+    let lists = own.join("revoked.pem").display().to_string();
+    let words = ["--client-crl", &lists, "--admin", "tls:0", "--operator", "ann", "--operator", "bob"];
+    let server = Start::new(&folder.join("store.db")).tls(own).with(&words).start().unwrap();
+    let address = server.admin.as_deref().unwrap().replace("127.0.0.1", "localhost");
+    (server, address)
+}
+
+#[test]
+fn operators_beyond_the_machine_show_a_certificate() {
+    let folder = folder("operators");
+    let (own, other) = (certificates(&folder, &["ann", "bob", "eve"]), certificates(&folder.join("other"), &["ann"]));
+    expired(&own, "ann").unwrap();
+    let (server, address) = for_operators(&folder, &own);
+    let rows = [
+        (operator(&address, &own, &own, "ann"), ""),
+        (operator(&address, &own, &own, "eve"), "eve is no operator"),
+        (operator(&address, &own, &own, "bob"), "certificate revoked"),
+        (operator(&address, &own, &own, "expired"), "certificate expired"),
+        (operator(&address, &own, &other, "ann"), "unknown ca"),
+        (operator(&address, &other, &own, "ann"), "no authority that is trusted here"),
+        (Admin::new(&address).unwrap().with_certificates(&own.join("ca.pem"), None).unwrap(), "wants an operator's certificate"),
+        (Admin::new(&address).unwrap(), "wants the server's authorities"),
+        (Admin::new(&address.replace("tls:", "tcp:")).unwrap(), ""),
+    ];
+    for (at, (admin, wanted)) in rows.iter().enumerate() {
+        let told = admin.sessions().err().map_or(String::new(), |error| error.to_string());
+        let is_let_in = at == 0;
+        assert!(told.contains(wanted) && told.is_empty() == is_let_in, "{at}: {wanted}: {told}");
+    }
+    // (whose certificate is revoked later is let in no more)
+    revoke(&own, &["ann"]);
+    server.signal(Signal::SIGHUP).unwrap();
+    wait_until(|| rows[0].0.sessions().is_err_and(|error| error.to_string().contains("certificate revoked")));
+    fs::remove_dir_all(folder).unwrap();
+}
+
+#[test]
+fn an_operator_by_certificate_sees_and_changes_nothing() {
+    let folder = folder("seeing");
+    let own = certificates(&folder, &["ann", "bob"]);
+    let (_server, address) = for_operators(&folder, &own);
+    let known = operator(&address, &own, &own, "ann");
+    assert!(known.status().unwrap().is_ready);
+    assert!(known.backup(&folder.join("copy")).unwrap_err().to_string().contains("only at --admin unix:"));
+    assert!(known.end(1).unwrap_err().to_string().contains("only at --admin unix:"));
+    let pages = [("/healthz", "200"), ("/readyz", "200"), ("/", "200"), ("/status", "401"), ("/metrics", "401"), ("/all", "401")];
+    for (path, wanted) in pages {
+        assert_eq!(status_of_page(&address, &own.join("ca.pem"), path), wanted, "{path}");
+    }
+    let file = |name: &str| own.join(name).display().to_string();
+    let shown = ["--cert", &file("ann.pem"), "--key", &file("ann.key"), "--ca", &file("ca.pem")];
+    let told = Command::new(program("tillermoss")).args(["--admin", &address, "status"]).args(shown).output().unwrap();
+    assert!(String::from_utf8(told.stdout).unwrap().contains("ready yes"));
+    fs::remove_dir_all(folder).unwrap();
+}
+
+// Where nobody's name is said a token is what lets somebody in, and it is encrypted.
+#[test]
+fn a_token_is_shown_by_tls_too() {
+    let folder = folder("encrypted");
+    let (own, token) = (certificates(&folder, &["ann"]), folder.join("token"));
+    fs::write(&token, "0123456789abcdef\n").unwrap();
+    let file = |name: &str| own.join(name).display().to_string();
+    let start = |words: &[&str]| {
+        let shown = ["tcp:0", "--cert", &file("server.pem"), "--key", &file("server.key"), "--admin", "tls:0"];
+        Start::new(&folder.join("store.db")).with(&shown).with(words).start()
+    };
+    assert!(start(&[]).unwrap_err().to_string().contains("wants --operator, or --admin-token"));
+    let server = start(&["--admin-token", token.to_str().unwrap()]).unwrap();
+    let address = server.admin.as_deref().unwrap().replace("127.0.0.1", "localhost");
+    let admin = Admin::new(&address).unwrap().with_certificates(&own.join("ca.pem"), None).unwrap();
+    assert!(admin.sessions().unwrap_err().to_string().contains("Bearer"));
+    assert!(admin.clone().with_token("0123456789abcdee").sessions().is_err());
+    assert_eq!(admin.with_token("0123456789abcdef").sessions().unwrap(), []);
+    assert!(!server.logged().contains("nothing is encrypted there, so who listens between"));
+    // (what is shown there by a client that nobody asked for a certificate counts for nothing)
+    assert!(operator(&address, &own, &own, "ann").sessions().unwrap_err().to_string().contains("Bearer"));
     fs::remove_dir_all(folder).unwrap();
 }
 

@@ -7,9 +7,9 @@ use std::path::Path;
 use std::thread;
 use std::time::{Duration, Instant};
 use tillermoss::{Client, Error, Options, Refusal};
-use trials::{Kill, Member, Plain, Server, Start, again, folder, free, new};
+use trials::{Etcd, Kill, Member, Passing, Plain, Relay, Server, Start, again, folder, free, new};
 
-/// So many clients come to a server as it goes on.
+/// How many clients come to a server as it goes on.
 const CLIENTS: usize = 8;
 
 fn server(folder: &Path, name: &str, rows: &str) -> Start {
@@ -70,6 +70,28 @@ fn a_new_client_waits_for_the_next_master() {
     client.create("/ls/c/f", b"").unwrap();
     drop((client, first, second, member));
     std::fs::remove_dir_all(folder).unwrap();
+}
+
+// It knows the first server alone, which is cut off from etcd until its mastership is over: that one can't look who is master now, and
+// tells of the one that was master before.
+#[test]
+fn a_server_that_is_cut_off_tells_of_another() {
+    let etcd = Etcd::with_cell(&[]).unwrap();
+    let relay = Relay::start(etcd.address).unwrap();
+    let starts = [etcd.server("first", relay.address()), etcd.server("second", etcd.address)];
+    let mut second = starts[1].start().unwrap();
+    let first = starts[0].stand_by().unwrap();
+    assert!(second.kill(Kill::InOrder).unwrap().success() && first.has_logged("a master is up"), "{}", first.logged());
+    let client = Client::connect(&Options::new(&first.address, "ann")).unwrap();
+    let file = client.create("/ls/c/f", b"").unwrap();
+    let second = starts[1].stand_by().unwrap();
+    relay.set(Passing::Nothing);
+    assert!(first.has_logged("standing by again"), "{}", first.logged());
+    let begun = Instant::now();
+    set(&client, file, b"found").unwrap();
+    println!("replaced: a client of a server that is cut off from etcd had written {} ms after that", begun.elapsed().as_millis());
+    assert!(!client.is_lost() && begun.elapsed() < Duration::from_secs(40), "{}", second.logged());
+    relay.set(Passing::All);
 }
 
 // A server that tells whoever comes that it doesn't know him.

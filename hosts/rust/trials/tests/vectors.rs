@@ -1,6 +1,6 @@
 //! The bytes that all clients are tested by, hosts/conformance/vectors.txt, as the client and the server in Rust read and write them.
 
-use host_wire::{Answer, Asked, Hello, Notice, Said, TurnedAway, Welcome};
+use host_wire::{Asked, Hello, MasterAnswer, Notice, Said, TurnedAway, Welcome};
 use std::time::Duration;
 
 const VECTORS: &str = include_str!("../../../conformance/vectors.txt");
@@ -91,10 +91,10 @@ fn messages_are_read() {
         // (a refusal's number stands before its name)
         let refusal = |at: usize| words[at].parse().unwrap();
         let answer = match words[0] {
-            "Started" => Answer::Started(span()),
-            "Alive" => Answer::Alive(span(), words.last() != Some(&"events")),
-            "Reply" => Answer::Reply(words.iter().position(|word| *word == "refused").map(|at| refusal(at + 1))),
-            "Refused" => Answer::Refused(refusal(7)),
+            "Started" => MasterAnswer::Started(span()),
+            "Alive" => MasterAnswer::Alive(span(), words.last() != Some(&"events")),
+            "Reply" => MasterAnswer::Reply(words.iter().position(|word| *word == "refused").map(|at| refusal(at + 1))),
+            "Refused" => MasterAnswer::Refused(refusal(7)),
             other => panic!("{other}"),
         };
         assert_eq!(Said::read(&vector.bytes), Some(Said { client: vector.number("client"), number, answer }), "{words:?}");

@@ -1,3 +1,4 @@
+use Rattle.rows_cell.specs.Settings.{terms_of}
 use Rattle.std.proofs.Common.{refl}
 use Rattle.sqlite.specs.Files.{file_state}
 use Rattle.cellctl.specs.Led.{ScriptLeads, ScriptLeadsSurely}
@@ -7,34 +8,34 @@ use Rattle.cellctl.proofs.runs.run_files.Goals as goal
 
 pub returns-in-Ok-close-clause-closed : goal.returns-in-Ok-close-clause-closed
 returns-in-Ok-close-clause-closed g c clean =
-    let lease = c.args.settings.now.lease in
+    let terms = terms_of c.args.settings.now in
     let text = g.I.Read.remaining c.args.script.reader in
     let before = g.W.Write.contents c.args.writer.now in
     let after = g.W.Write.contents c.script_on-status.new.writer in
     let status = c.script_on-status.result in
-    done_over g.D.Disk c.args.settings.now (file_state c.args.conn) c.in-Ok-close.files (ScriptLeadsSurely lease text before after status) c.in-Ok.records c.close.result
+    done_over g.D.Disk c.args.settings.now (file_state c.args.conn) c.in-Ok-close.files (ScriptLeadsSurely terms text before after status) c.in-Ok.records c.close.result
     (record { cell = c.in-Ok.ensures.cell; left = c.in-Ok.ensures.left; none = c.in-Ok.ensures.counted; doubted = c.in-Ok.ensures.doubted; adopts = c.in-Ok.ensures.rows })
-    (script_led_surely lease text before after status c.in-Ok.records c.close.result c.new-world.result c.script_on-status.new.world c.new-world.ensures c.close.ensures c.script_on-status.ensures.sure)
+    (script_led_surely terms text before after status c.in-Ok.records c.close.result c.new-world.result c.script_on-status.new.world c.new-world.ensures c.close.ensures c.script_on-status.ensures.sure)
     (c.in-Ok-close.ensures.closed clean)
 
 pub returns-in-Ok-close-clause-ran : goal.returns-in-Ok-close-clause-ran
 returns-in-Ok-close-clause-ran g c = (
   c.in-Ok.records,
   c.close.result,
-  script_led c.args.settings.now.lease (g.I.Read.remaining c.args.script.reader) (g.W.Write.contents c.args.writer.now) (g.W.Write.contents c.script_on-status.new.writer) c.script_on-status.result c.in-Ok.records c.close.result
+  script_led (terms_of c.args.settings.now) (g.I.Read.remaining c.args.script.reader) (g.W.Write.contents c.args.writer.now) (g.W.Write.contents c.script_on-status.new.writer) c.script_on-status.result c.in-Ok.records c.close.result
       c.new-world.result c.script_on-status.new.world c.new-world.ensures c.close.ensures c.script_on-status.ensures.ran,
 )
 
 pub returns-in-Err-close-clause-left : goal.returns-in-Err-close-clause-left
 returns-in-Err-close-clause-left g c =
-    let lease = c.args.settings.now.lease in
+    let terms = terms_of c.args.settings.now in
     let text = g.I.Read.remaining c.args.script.reader in
     let before = g.W.Write.contents c.args.writer.now in
     let after = g.W.Write.contents c.script_on-status.new.writer in
     let status = c.script_on-status.result in
-    left_open c.args.settings.now (file_state c.args.conn) (ScriptLeads lease text before after status) c.in-Ok.records c.close.result c.in-Err-close.store
+    left_open c.args.settings.now (file_state c.args.conn) (ScriptLeads terms text before after status) c.in-Ok.records c.close.result c.in-Err-close.store
     (record { cell = c.in-Ok.ensures.cell; left = c.in-Ok.ensures.left; none = c.in-Ok.ensures.counted; doubted = c.in-Ok.ensures.doubted; adopts = c.in-Ok.ensures.rows })
-    (script_led lease text before after status c.in-Ok.records c.close.result c.new-world.result c.script_on-status.new.world c.new-world.ensures c.close.ensures c.script_on-status.ensures.ran)
+    (script_led terms text before after status c.in-Ok.records c.close.result c.new-world.result c.script_on-status.new.world c.new-world.ensures c.close.ensures c.script_on-status.ensures.ran)
     c.in-Err-close.ensures.refused
 
 pub returns-in-Err-clause-left : goal.returns-in-Err-clause-left

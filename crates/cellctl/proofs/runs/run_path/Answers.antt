@@ -1,3 +1,4 @@
+use Rattle.rows_cell.specs.Settings.{terms_of}
 use Rattle.std.proofs.Common.{ℕ, Bool, true, false, cond, List, refl, ap₂}
 use Rattle.sqlite_disk.specs.Events.{Event, replay}
 use Rattle.sqlite_wal.specs.Recovery.{Image}
@@ -10,7 +11,7 @@ use Rattle.cellctl.proofs.runs.run_path.Goals as goal
 pub returns-in-Ok-clause-closed : goal.returns-in-Ok-clause-closed
 returns-in-Ok-clause-closed g c =
     closed_from c.args.settings.now (image_at g.S.Start) c.in-Ok.conn
-    (ScriptLeadsSurely c.args.settings.now.lease (g.I.Read.remaining c.args.script.reader) (g.W.Write.contents c.args.writer.now) (g.W.Write.contents c.run_files.new.writer)) c.run_files.result
+    (ScriptLeadsSurely (terms_of c.args.settings.now) (g.I.Read.remaining c.args.script.reader) (g.W.Write.contents c.args.writer.now) (g.W.Write.contents c.run_files.new.writer)) c.run_files.result
     c.in-Ok.ensures.found c.run_files.ensures.closed
 
 pub returns-in-Ok-clause-ran : goal.returns-in-Ok-clause-ran
@@ -19,7 +20,7 @@ returns-in-Ok-clause-ran g c = c.run_files.ensures.ran
 pub returns-in-Ok-clause-left : goal.returns-in-Ok-clause-left
 returns-in-Ok-clause-left g c =
     left_at c.args.settings.now (image_at g.S.Start) c.in-Ok.conn
-    (ScriptLeads c.args.settings.now.lease (g.I.Read.remaining c.args.script.reader) (g.W.Write.contents c.args.writer.now) (g.W.Write.contents c.run_files.new.writer))
+    (ScriptLeads (terms_of c.args.settings.now) (g.I.Read.remaining c.args.script.reader) (g.W.Write.contents c.args.writer.now) (g.W.Write.contents c.run_files.new.writer))
     (g.W.Write.contents c.args.writer.now) (g.W.Write.contents c.run_files.new.writer) c.run_files.result c.in-Ok.ensures.found c.run_files.ensures.left
 
 abbrev image : List ℕ → List ℕ → Image

@@ -1,3 +1,4 @@
+use Rattle.rows_cell.specs.Settings.{terms_of}
 use Rattle.std.proofs.Common.{ℕ, Bool, true, false, cond, List, refl, ap₂}
 use Rattle.sqlite_disk.specs.Events.{Event, replay}
 use Rattle.sqlite_wal.specs.Recovery.{Image}
@@ -10,7 +11,7 @@ use Rattle.cellctl.proofs.serves.serve_file.Goals as goal
 pub returns-in-Ok-clause-closed : goal.returns-in-Ok-clause-closed
 returns-in-Ok-clause-closed g c =
     closed_from c.args.settings.now (image_at g.S.Start) c.in-Ok.conn
-    (FramesLead (record { lease = c.args.settings.now.lease; limits = c.args.frames.limits }) (g.I.Read.remaining c.args.frames.reader) (g.W.Write.contents c.args.writer.now) (g.W.Write.contents c.serve_store.new.writer)) c.serve_store.result
+    (FramesLead (record { master = terms_of c.args.settings.now; limits = c.args.frames.limits }) (g.I.Read.remaining c.args.frames.reader) (g.W.Write.contents c.args.writer.now) (g.W.Write.contents c.serve_store.new.writer)) c.serve_store.result
     c.in-Ok.ensures.found c.serve_store.ensures.closed
 
 pub returns-in-Ok-clause-served : goal.returns-in-Ok-clause-served
@@ -19,7 +20,7 @@ returns-in-Ok-clause-served g c = c.serve_store.ensures.served
 pub returns-in-Ok-clause-left : goal.returns-in-Ok-clause-left
 returns-in-Ok-clause-left g c =
     left_at c.args.settings.now (image_at g.S.Start) c.in-Ok.conn
-    (FramesLead (record { lease = c.args.settings.now.lease; limits = c.args.frames.limits }) (g.I.Read.remaining c.args.frames.reader) (g.W.Write.contents c.args.writer.now) (g.W.Write.contents c.serve_store.new.writer))
+    (FramesLead (record { master = terms_of c.args.settings.now; limits = c.args.frames.limits }) (g.I.Read.remaining c.args.frames.reader) (g.W.Write.contents c.args.writer.now) (g.W.Write.contents c.serve_store.new.writer))
     (g.W.Write.contents c.args.writer.now) (g.W.Write.contents c.serve_store.new.writer) c.serve_store.result c.in-Ok.ensures.found c.serve_store.ensures.left
 
 abbrev image : List ℕ → List ℕ → Image

@@ -1,3 +1,4 @@
+use Rattle.rows_cell.specs.Settings.{terms_of}
 use Rattle.hosting.specs.declared.pieces.GroupTerms.{GroupTerms}
 use Rattle.std.proofs.Common.{refl}
 use Rattle.sqlite.specs.Files.{file_state}
@@ -9,7 +10,7 @@ use Rattle.cellctl.proofs.serves.serve_store.Goals as goal
 
 pub returns-in-Ok-close-clause-closed : goal.returns-in-Ok-close-clause-closed
 returns-in-Ok-close-clause-closed g c clean =
-    let terms : GroupTerms = record { lease = c.args.settings.now.lease; limits = c.args.frames.limits } in
+    let terms : GroupTerms = record { master = terms_of c.args.settings.now; limits = c.args.frames.limits } in
     let text = g.I.Read.remaining c.args.frames.reader in
     let before = g.W.Write.contents c.args.writer.now in
     let after = g.W.Write.contents c.serve_seat-seat.new.writer in
@@ -23,13 +24,13 @@ pub returns-in-Ok-close-clause-served : goal.returns-in-Ok-close-clause-served
 returns-in-Ok-close-clause-served g c = (
   c.in-Ok.records,
   c.close.result,
-  frames_led (record { lease = c.args.settings.now.lease; limits = c.args.frames.limits }) (g.I.Read.remaining c.args.frames.reader) (g.W.Write.contents c.args.writer.now) (g.W.Write.contents c.serve_seat-seat.new.writer) c.serve_seat-seat.result.1 c.in-Ok.records c.close.result
+  frames_led (record { master = terms_of c.args.settings.now; limits = c.args.frames.limits }) (g.I.Read.remaining c.args.frames.reader) (g.W.Write.contents c.args.writer.now) (g.W.Write.contents c.serve_seat-seat.new.writer) c.serve_seat-seat.result.1 c.in-Ok.records c.close.result
       (without_master c.in-Ok.records) (hosted (λ s. s) c.serve_seat-seat.result.0) refl c.close.ensures c.serve_seat-seat.ensures.served,
 )
 
 pub returns-in-Err-close-clause-left : goal.returns-in-Err-close-clause-left
 returns-in-Err-close-clause-left g c =
-    let terms : GroupTerms = record { lease = c.args.settings.now.lease; limits = c.args.frames.limits } in
+    let terms : GroupTerms = record { master = terms_of c.args.settings.now; limits = c.args.frames.limits } in
     let text = g.I.Read.remaining c.args.frames.reader in
     let before = g.W.Write.contents c.args.writer.now in
     let after = g.W.Write.contents c.serve_seat-seat.new.writer in

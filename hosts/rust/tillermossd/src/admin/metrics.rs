@@ -15,6 +15,9 @@ use std::time::Duration;
 /// The bounds of times, in seconds.
 const BOUNDS: [f64; 11] = [0.0001, 0.0003, 0.001, 0.003, 0.01, 0.03, 0.1, 0.3, 1.0, 3.0, 10.0];
 
+/// The refusal by a limit of the cell.
+const NO_ROOM: u32 = 43;
+
 /// The counters, each named `tillermoss_` and as it is named here.
 #[derive(Debug)]
 pub struct Metrics {
@@ -196,6 +199,9 @@ impl Metrics {
 
     /// A call or a message was refused, by this number.
     pub fn refused(&self, number: u32) {
+        if number == NO_ROOM {
+            self.limited();
+        }
         self.refusals.with_label_values(&[&number.to_string(), refusal_name(number)]).inc();
     }
 
@@ -209,7 +215,7 @@ impl Metrics {
         self.cut.with_label_values(&[reason]).inc();
     }
 
-    /// A limit refused a call.
+    /// A limit of the server refused a call.
     pub fn limited(&self) {
         self.limited.inc();
     }
@@ -285,12 +291,16 @@ mod tests {
         metrics.answered(Duration::from_millis(2), true);
         metrics.answered(Duration::from_millis(2), false);
         metrics.refused(10);
+        metrics.refused(NO_ROOM);
+        metrics.limited();
         let text = metrics.text(&Levels { sessions: 3, ..Levels::default() }).unwrap();
         let wanted = [
             "frames_total{kind=\"message\"} 1",
             "frame_seconds_count 2",
             "commits_total 1",
             "refusals_total{number=\"10\",refusal=\"Denied\"} 1",
+            "refusals_total{number=\"43\",refusal=\"NoRoom\"} 1",
+            "calls_limited_total 2",
         ];
         for line in wanted.into_iter().chain(["sessions 3", "commit_seconds_bucket{le=\"0.003\"} 1"]) {
             assert!(text.contains(&format!("\ntillermoss_{line}\n")), "{line} in {text}");

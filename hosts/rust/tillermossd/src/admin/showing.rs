@@ -2,7 +2,7 @@
 
 use crate::admin::metrics::Levels;
 use crate::admin::processes::Used;
-use crate::master::picture::{Picture, Session, Waiting};
+use crate::master::picture::{Picture, PictureSession, WaitingCall};
 use crate::master::store::beside;
 use crate::net::connections::Hall;
 use host_wire::{Act, LockShown, NodeShown, RecoveryShown, SessionShown, Shown, Status, WaitShown};
@@ -14,7 +14,7 @@ use std::path::{Path, PathBuf};
 use std::sync::Arc;
 use std::time::{Duration, Instant};
 
-/// So many nodes are shown at most, and so many of all else: who looks for another one asks for it.
+/// How many nodes are shown at most, and so many of all else: who looks for another one asks for it.
 const NODES: usize = 1000;
 const MOST: usize = 200;
 
@@ -22,13 +22,13 @@ const MOST: usize = 200;
 const FOR: usize = 100;
 const NAMED: usize = 10;
 
-/// So long a call has to have waited before it is shown: most are answered at once.
+/// How long a call has to have waited before it is shown: most are answered at once.
 const AWHILE: u128 = 20;
 
-/// So many clients that a recovery waits for are shown at most.
+/// How many clients that a recovery waits for are shown at most.
 const AWAITED: usize = 100;
 
-/// So long a recovery lasts at most.
+/// How long a recovery lasts at most.
 const RECOVERY: Duration = Duration::from_millis(60_002);
 
 /// What is known of the server from its start on.
@@ -100,7 +100,7 @@ impl Showing {
     pub fn sessions(&self, most: usize, find: &str, named: &BTreeSet<u64>) -> Vec<SessionShown> {
         let picture = self.hall.picture();
         let first = named.iter().filter_map(|client| picture.sessions.get_key_value(client));
-        let is_found = |client: u64, session: &Session| has(&session.principal, find) || has_number(client, find);
+        let is_found = |client: u64, session: &PictureSession| has(&session.principal, find) || has_number(client, find);
         let others = picture.sessions.iter().filter(|(client, session)| !named.contains(client) && is_found(**client, session));
         let shown = first.chain(others).take(most).map(|(client, session)| SessionShown {
             client: *client,
@@ -141,11 +141,11 @@ impl Showing {
     // What has waited longest stands first.
     fn waits(&self, find: &str) -> Vec<WaitShown> {
         let picture = self.hall.picture();
-        let is_shown = |client: u64, waiting: &Waiting| {
+        let is_shown = |client: u64, waiting: &WaitingCall| {
             let is_found = has(&waiting.name, find) || has(waiting.principal(), find) || has_number(client, find);
             is_found && waiting.since.elapsed().as_millis() >= AWHILE
         };
-        let mut slow: Vec<(&u64, &Waiting)> = picture.waiting.iter().filter(|(client, waiting)| is_shown(**client, waiting)).collect();
+        let mut slow: Vec<(&u64, &WaitingCall)> = picture.waiting.iter().filter(|(client, waiting)| is_shown(**client, waiting)).collect();
         slow.sort_by_key(|(_, waiting)| waiting.since);
         slow.into_iter().take(MOST).map(|(client, waiting)| wait(&picture, *client, waiting)).collect()
     }
@@ -173,7 +173,7 @@ fn has_number(client: u64, find: &str) -> bool {
     find.is_empty() || client.to_string().contains(find)
 }
 
-fn wait(picture: &Picture, client: u64, waiting: &Waiting) -> WaitShown {
+fn wait(picture: &Picture, client: u64, waiting: &WaitingCall) -> WaitShown {
     let mut waits_for = picture.waits_for(client, waiting);
     let count = waits_for.len();
     waits_for.truncate(FOR);

@@ -1,23 +1,23 @@
 //! All rows of a cell: as they stand in etcd, as they are told, and as they stand in a SQLite file.
 
-use crate::etcd::gateway::{Gateway, Lost, Pair};
-use crate::etcd::rows::{Content, KINDS, LIVES, Lock, LockKey, Meta, Node, STATES, Session, chosen, place};
-use crate::settings::Own;
+use crate::etcd::gateway::{Lost, Members, Pair};
+use crate::etcd::rows::{Content, KINDS, LIVES, LockRow, LockRowKey, Meta, NodeRow, STATES, SessionRow, chosen, place};
+use crate::settings::MadeWith;
 use anyhow::{Context, Result};
 use rusqlite::{Connection, params};
 use std::collections::{BTreeMap, HashMap};
 use std::thread;
 use std::time::Duration;
 
-/// So many pairs are read at first, and so many at most, in a page of about so many bytes.
+/// How many pairs are read at first, and so many at most, in a page of about so many bytes.
 const FIRST_PAGE: usize = 64;
 const LONGEST_PAGE: usize = 1024;
 const BYTES: usize = 4 << 20;
 
-/// So long before a page is asked for again.
+/// How long before a page is asked for again.
 const PAUSE: Duration = Duration::from_millis(100);
 
-/// So much higher clients' numbers go on where nobody knows the last one.
+/// How much higher clients' numbers go on where nobody knows the last one.
 const CLIENTS: u64 = 1 << 20;
 
 /// The tables of a store, as far as they are read here.
@@ -38,24 +38,24 @@ pub struct Found {
     /// The cell's own row, and the revision that changed it last.
     pub meta: Option<(Meta, i64)>,
     /// By name.
-    pub nodes: BTreeMap<String, Node>,
+    pub nodes: BTreeMap<String, NodeRow>,
     /// Those of nodes' locks, where they aren't 0.
     pub generations: BTreeMap<String, u64>,
     /// By client number.
-    pub sessions: BTreeMap<u64, Session>,
+    pub sessions: BTreeMap<u64, SessionRow>,
     /// By key.
-    pub locks: BTreeMap<LockKey, Lock>,
+    pub locks: BTreeMap<LockRowKey, LockRow>,
     /// What a server keeps of clients' numbers.
     pub numbers: Option<String>,
 }
 
-/// What stands at a lock's row, behind the prefix.
+/// What stands at a lock's row, after the prefix.
 #[must_use]
-pub fn lock_key(key: LockKey) -> String {
+pub fn lock_key(key: LockRowKey) -> String {
     format!("locks/{}/{}/{}", key.0, key.1, key.2)
 }
 
-fn key_of(text: &str) -> Option<LockKey> {
+fn key_of(text: &str) -> Option<LockRowKey> {
     let words: Option<Vec<u64>> = text.split('/').map(|word| word.parse().ok()).collect();
     match words?[..] {
         [instance, client, handle] => Some((instance, client, handle)),
@@ -72,7 +72,7 @@ fn next_page(pairs: &[Pair]) -> usize {
 impl Found {
     /// All that stands there now, page by page at one revision. Where no member answers it is tried again for as long as the check
     /// holds.
-    pub fn read(gateway: &Gateway, prefix: &str, check: impl Fn() -> Result<()>) -> Result<Found> {
+    pub fn read(gateway: &Members, prefix: &str, check: impl Fn() -> Result<()>) -> Result<Found> {
         let mut found = Found::default();
         let (mut from, mut at, mut count) = (prefix.to_owned(), 0, FIRST_PAGE);
         loop {
@@ -160,13 +160,13 @@ impl Found {
     }
 
     /// What the settings of a cell may say of it. None where no cell stands there.
-    pub fn own(&self) -> Result<Option<Own>> {
+    pub fn own(&self) -> Result<Option<MadeWith>> {
         let Some((meta, _)) = self.meta.as_ref().filter(|(meta, _)| meta.epoch > 0) else {
             return Ok(None);
         };
         let base = self.nodes.get(&format!("/ls/{}/acl/base", meta.cell));
         let base = base.map(|base| Ok::<_, anyhow::Error>((base.content_generation, base.content.bytes()?))).transpose()?;
-        Ok(Some(Own { secret: meta.secret.clone(), base }))
+        Ok(Some(MadeWith { secret: meta.secret.clone(), base }))
     }
 
     /// Whether everybody knows the cell's secret.
@@ -175,7 +175,7 @@ impl Found {
         self.meta.as_ref().is_some_and(|(meta, _)| meta.secret.bytes().all(|digit| digit == b'0'))
     }
 
-    /// The pairs, each behind the prefix, without the cell's own row.
+    /// The pairs, each after the prefix, without the cell's own row.
     pub fn pairs(&self) -> Result<Vec<(String, Vec<u8>)>> {
         let mut pairs = Vec::new();
         for (name, node) in &self.nodes {
@@ -289,7 +289,7 @@ impl Found {
         let mut rows = nodes.query([])?;
         while let Some(row) = rows.next()? {
             let name: String = row.get(0)?;
-            let node = Node {
+            let node = NodeRow {
                 kind: chosen(&KINDS, row.get(1)?).context("not a kind")?,
                 instance: row.get(2)?,
                 content_generation: row.get(3)?,
@@ -314,12 +314,12 @@ impl Found {
         let mut sessions = connection.prepare("SELECT client, principal, live FROM sessions")?;
         let mut rows = sessions.query([])?;
         while let Some(row) = rows.next()? {
-            self.sessions.insert(row.get(0)?, Session { principal: row.get(1)?, live: row.get(2)? });
+            self.sessions.insert(row.get(0)?, SessionRow { principal: row.get(1)?, live: row.get(2)? });
         }
         let mut locks = connection.prepare("SELECT instance, client, handle, mode, delay FROM locks")?;
         let mut rows = locks.query([])?;
         while let Some(row) = rows.next()? {
-            let lock = Lock { state: chosen(&STATES, row.get(3)?).context("not a lock")?, delay: row.get(4)? };
+            let lock = LockRow { state: chosen(&STATES, row.get(3)?).context("not a lock")?, delay: row.get(4)? };
             self.locks.insert((row.get(0)?, row.get(1)?, row.get(2)?), lock);
         }
         Ok(())
@@ -329,7 +329,7 @@ impl Found {
 #[cfg(test)]
 pub mod tests {
     use super::*;
-    use crate::etcd::gateway::Deed;
+    use crate::etcd::gateway::Operation;
     use crate::etcd::pretended::{PIECES, Pretended, SLOW, Way};
     use anyhow::bail;
     use std::cell::Cell;
@@ -347,7 +347,7 @@ pub mod tests {
     // Two nodes, of which one is locked, and a session.
     pub fn found() -> Found {
         let meta = Meta { cell: "c".to_owned(), secret: "00".repeat(32), epoch: 3, next_instance: 5, number: 0, by: 0, keeper: 0, turn: 0 };
-        let node = |kind: &str, instance, content: &[u8]| Node {
+        let node = |kind: &str, instance, content: &[u8]| NodeRow {
             kind: kind.to_owned(),
             instance,
             content_generation: 1,
@@ -362,8 +362,8 @@ pub mod tests {
         found.nodes.insert("/ls/c".to_owned(), node("dir", 1, b""));
         found.nodes.insert("/ls/c/f".to_owned(), node("file", 4, b"\0\xff"));
         found.generations.insert("/ls/c/f".to_owned(), 7);
-        found.sessions.insert(1, Session { principal: "ann".to_owned(), live: true });
-        found.locks.insert((4, 1, 2), Lock { state: "exclusive".to_owned(), delay: 10 });
+        found.sessions.insert(1, SessionRow { principal: "ann".to_owned(), live: true });
+        found.locks.insert((4, 1, 2), LockRow { state: "exclusive".to_owned(), delay: 10 });
         found
     }
 
@@ -373,7 +373,7 @@ pub mod tests {
         let found = found();
         let meta = ("meta".to_owned(), serde_json::to_vec(&found.meta.as_ref().unwrap().0).unwrap());
         let pairs = found.pairs().unwrap().into_iter().chain([meta]);
-        let deeds: Vec<Deed> = pairs.map(|(key, value)| Deed::Put(format!("c/{key}"), value)).collect();
+        let deeds: Vec<Operation> = pairs.map(|(key, value)| Operation::Put(format!("c/{key}"), value)).collect();
         etcd.gateway().change(&[], &deeds).unwrap();
         etcd
     }

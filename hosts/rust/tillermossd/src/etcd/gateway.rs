@@ -13,11 +13,11 @@ use std::time::{Duration, Instant};
 use tracing::{error, info, warn};
 use ureq::{Agent, AgentBuilder};
 
-/// So long a connection may take, and an answer. Of an answer that is a page of rows: so long nothing may come of it.
+/// How long a connection may take, and an answer. Of an answer that is a page of rows: so long nothing may come of it.
 const CONNECTING: Duration = Duration::from_secs(1);
 const ANSWERING: Duration = Duration::from_secs(3);
 
-/// So long nothing may change before it is asked again what does.
+/// How long nothing may change before it is asked again what does.
 const SILENCE: Duration = Duration::from_secs(10);
 
 /// The bounds of the times of answers, in seconds.
@@ -25,6 +25,10 @@ const BOUNDS: [f64; 9] = [0.001, 0.003, 0.01, 0.03, 0.1, 0.3, 1.0, 3.0, 10.0];
 
 /// What etcd says where it has no room left: its own words, which hold for each way of asking.
 const NO_ROOM: &str = "database space exceeded";
+
+/// How many operations stand side by side in a transaction. Of a longer one each of them is a transaction within it: etcd takes 128 in all
+/// on the way down, unless its --max-txn-ops says otherwise, so three times 42 of them, and that is 74,088 at the bottom.
+const WIDTH: usize = 42;
 
 /// The longest answer that is read.
 const ANSWER_LIMIT: u64 = 1 << 30;
@@ -55,7 +59,7 @@ pub enum Compare<'a> {
 
 /// What a transaction does where its conditions hold.
 #[derive(Clone, Debug, PartialEq, Eq)]
-pub enum Deed {
+pub enum Operation {
     /// A pair is put.
     Put(String, Vec<u8>),
     /// One is put that goes with its lease.
@@ -117,7 +121,7 @@ pub enum Lost {
 
 /// The members of one etcd.
 #[derive(Clone, Debug)]
-pub struct Gateway {
+pub struct Members {
     scheme: &'static str,
     places: Vec<String>,
     agent: Agent,
@@ -264,17 +268,25 @@ impl Compare<'_> {
     }
 }
 
-impl Deed {
+impl Operation {
     fn write(&self) -> Value {
         match self {
-            Deed::Put(key, value) => json!({"request_put": {"key": encode(key), "value": encode(value)}}),
-            Deed::Lend(key, value, lease) => {
+            Operation::Put(key, value) => json!({"request_put": {"key": encode(key), "value": encode(value)}}),
+            Operation::Lend(key, value, lease) => {
                 json!({"request_put": {"key": encode(key), "value": encode(value), "lease": lease.to_string()}})
             }
-            Deed::Delete(key) => json!({"request_delete_range": {"key": encode(key)}}),
-            Deed::DeleteAll(prefix) => json!({"request_delete_range": {"key": encode(prefix), "range_end": encode(behind(prefix))}}),
+            Operation::Delete(key) => json!({"request_delete_range": {"key": encode(key)}}),
+            Operation::DeleteAll(prefix) => json!({"request_delete_range": {"key": encode(prefix), "range_end": encode(behind(prefix))}}),
         }
     }
+}
+
+// The same operations, of which etcd does all or none, in transactions within transactions where they are many.
+fn nested(operations: Vec<Value>) -> Vec<Value> {
+    if operations.len() <= WIDTH {
+        return operations;
+    }
+    nested(operations.chunks(WIDTH).map(|part| json!({"request_txn": {"success": part}})).collect())
 }
 
 // Why a member refuses. (After its text stands what isn't read here, which ends the reading by a fault.)
@@ -286,10 +298,10 @@ fn reason(answer: ureq::Response) -> String {
     reason.unwrap_or_else(|| String::from_utf8_lossy(&text).trim().to_owned())
 }
 
-impl Gateway {
+impl Members {
     /// That of these members, each a host and a port; by TLS where it is said how, as a user with a password where one is named.
     #[must_use]
-    pub fn new(places: &[String], config: Option<Arc<Connector>>, user: Option<(String, String)>) -> Gateway {
+    pub fn new(places: &[String], config: Option<Arc<Connector>>, user: Option<(String, String)>) -> Members {
         let scheme = if config.is_some() { "https" } else { "http" };
         let agent = |silence: Duration| {
             let builder = AgentBuilder::new().timeout_connect(CONNECTING).timeout_read(silence).timeout_write(ANSWERING);
@@ -298,13 +310,13 @@ impl Gateway {
         let (agent, patient) = (agent(ANSWERING), agent(SILENCE));
         let user = user.map(|(name, password)| Arc::new(User { name, password, token: Mutex::default() }));
         let (last, health, is_ended) = (Arc::default(), Arc::new(Health::new()), Arc::default());
-        Gateway { scheme, places: places.to_vec(), agent, patient, last, user, health, is_ended }
+        Members { scheme, places: places.to_vec(), agent, patient, last, user, health, is_ended }
     }
 
     /// The same members, of which none is asked any more once this is set; but a question that is out has its time.
     #[must_use]
-    pub fn until(&self, is_ended: &Arc<AtomicBool>) -> Gateway {
-        Gateway { is_ended: is_ended.clone(), ..self.clone() }
+    pub fn until(&self, is_ended: &Arc<AtomicBool>) -> Members {
+        Members { is_ended: is_ended.clone(), ..self.clone() }
     }
 
     /// How etcd answered so far.
@@ -398,7 +410,7 @@ impl Gateway {
         Ok(answer.pointer("/kvs/0").and_then(pair))
     }
 
-    /// So many pairs at most whose keys begin so, from a key on, as they stood at a revision; at 0: now. With the revision. It takes as
+    /// How many pairs at most whose keys begin so, from a key on, as they stood at a revision; at 0: now. With the revision. It takes as
     /// long as something of it comes.
     pub fn page(&self, prefix: &str, from: &str, at: i64, count: usize) -> Result<(Vec<Pair>, i64), Lost> {
         let asked = json!({
@@ -455,26 +467,15 @@ impl Gateway {
         Ok(())
     }
 
-    /// Does a transaction. Where its conditions held the revision that it made; none where they didn't.
-    pub fn change(&self, conditions: &[Compare], deeds: &[Deed]) -> Result<Option<i64>, Lost> {
+    /// Does a transaction, of however many deeds. Where its conditions held the revision that it made; none where they didn't.
+    pub fn change(&self, conditions: &[Compare], deeds: &[Operation]) -> Result<Option<i64>, Lost> {
         let asked = json!({
             "compare": conditions.iter().map(Compare::write).collect::<Vec<_>>(),
-            "success": deeds.iter().map(Deed::write).collect::<Vec<_>>(),
+            "success": nested(deeds.iter().map(Operation::write).collect()),
         });
         let answer = self.ask("kv/txn", &asked)?;
         let has_succeeded = answer.get("succeeded").and_then(Value::as_bool).unwrap_or(false);
         has_succeeded.then(|| revision(&answer).map_err(Lost::Unknown)).transpose()
-    }
-
-    /// Whether it takes a transaction of so many operations. None is done, since its condition never holds.
-    pub fn takes(&self, operations: usize, prefix: &str) -> Result<bool> {
-        let key = format!("{prefix}none");
-        let deeds = vec![Deed::Delete(key.clone()); operations];
-        match self.change(&[Compare::Created(&key, -1)], &deeds) {
-            Ok(_) => Ok(true),
-            Err(Lost::Refused(_)) => Ok(false),
-            Err(lost) => Err(lost.into()),
-        }
     }
 
     /// A new lease of so many seconds; etcd may give more.
@@ -494,7 +495,7 @@ impl Gateway {
         Ok((u64::try_from(span)?, term))
     }
 
-    /// The pair of a key, and the term of etcd's leader behind this answer. It is linearizable.
+    /// The pair of a key, and the term of etcd's leader after this answer. It is linearizable.
     pub fn get_of_term(&self, key: &str) -> Result<(Option<Pair>, i64)> {
         let answer = self.ask("kv/range", &json!({"key": encode(key)}))?;
         let term = answer.pointer("/header/raft_term").and_then(number).context("etcd's answer has no term")?;
@@ -511,6 +512,7 @@ impl Gateway {
 #[cfg(test)]
 mod tests {
     use super::*;
+    use crate::etcd::pretended::{is_taken, within};
 
     #[test]
     fn a_prefix_ends_before_its_next() {
@@ -524,6 +526,23 @@ mod tests {
         let empty = json!({"key": encode("k"), "create_revision": "2", "mod_revision": "3"});
         assert_eq!(pair(&empty).unwrap().value, b"");
         assert_eq!(pair(&json!({"key": encode("k")})), None);
+    }
+
+    // The operations that are no transactions themselves, in their order.
+    fn bottom(operation: &Value) -> Vec<&Value> {
+        match within(operation) {
+            [] => vec![operation],
+            operations => operations.iter().flat_map(bottom).collect(),
+        }
+    }
+
+    #[test]
+    fn etcd_takes_however_many_deeds() {
+        for count in [0, 1, WIDTH, WIDTH + 1, WIDTH * WIDTH, WIDTH * WIDTH + 1, 10_000, WIDTH * WIDTH * WIDTH] {
+            let operations: Vec<Value> = (0..count).map(|number| json!({ "request_put": { "key": number } })).collect();
+            let written = nested(operations.clone());
+            assert!(written.iter().flat_map(bottom).eq(&operations) && is_taken(&written), "{count}");
+        }
     }
 
     #[test]

@@ -1,7 +1,7 @@
 //! A process of its own that outlives its server, if only for a moment: it gives the mastership of a server back that is gone, so that
 //! nobody waits until that has run out.
 
-use crate::etcd::gateway::{Compare, Deed, Gateway, Lost};
+use crate::etcd::gateway::{Compare, Lost, Members, Operation};
 use crate::etcd::mastership::Mastership;
 use crate::etcd::{Place, Trust};
 use anyhow::{Context, Result};
@@ -17,10 +17,10 @@ use tracing::{debug, info};
 /// The word by which this program is started as a guard.
 pub const GUARD: &str = "guard";
 
-/// So long it asks etcd again, where no member answers: behind that the mastership has run out by itself.
+/// How long it asks etcd again, where no member answers: after that the mastership has run out by itself.
 const PATIENCE: Duration = Duration::from_secs(60);
 
-/// So long before etcd is asked again.
+/// How long before etcd is asked again.
 const PAUSE: Duration = Duration::from_millis(100);
 
 /// Starts the guard of a mastership; gives the server's end of the pipe to it, which the system closes when the server is gone, however it
@@ -56,11 +56,11 @@ pub fn guard(place: &Place, trust: &Trust, revision: i64) -> Result<()> {
 }
 
 // Whether it was there still.
-fn give_back(gateway: &Gateway, prefix: &str, revision: i64) -> Result<bool> {
+fn give_back(gateway: &Members, prefix: &str, revision: i64) -> Result<bool> {
     let key = format!("{prefix}master");
     let begun = Instant::now();
     loop {
-        match gateway.change(&[Compare::Created(&key, revision)], &[Deed::Delete(key.clone())]) {
+        match gateway.change(&[Compare::Created(&key, revision)], &[Operation::Delete(key.clone())]) {
             Err(Lost::Unknown(_)) if begun.elapsed() < PATIENCE => thread::sleep(PAUSE),
             done => return Ok(done?.is_some()),
         }

@@ -2,9 +2,9 @@
 
 use crate::etcd::decisions::{Outcome, Turn, outcome};
 use crate::etcd::found::{Found, lock_key};
-use crate::etcd::gateway::{Compare, Deed, Gateway, Lost};
+use crate::etcd::gateway::{Compare, Lost, Members, Operation};
 use crate::etcd::mastership::Mastership;
-use crate::etcd::rows::{Answer, Lock, Meta, Node, Session};
+use crate::etcd::rows::{LockRow, Meta, NodeRow, RowsAnswer, SessionRow};
 use anyhow::{Context, Result, bail};
 use host_wire::rows::{Edit, Question};
 use rand::Rng;
@@ -15,12 +15,12 @@ use std::thread;
 use std::time::Duration;
 use tracing::error;
 
-/// So long before etcd is asked again.
+/// How long before etcd is asked again.
 const PAUSE: Duration = Duration::from_millis(100);
 
 /// What stands in etcd, as far as commits have to know it.
 #[derive(Debug)]
-struct Known {
+struct KnownRows {
     meta: Meta,
     /// The revision that changed it last.
     changed: i64,
@@ -30,15 +30,15 @@ struct Known {
 
 /// Keeps the rows for one master.
 #[derive(Debug)]
-pub struct Keeper {
-    gateway: Gateway,
+pub struct RowsKeeper {
+    gateway: Members,
     prefix: String,
     /// The key of the cell's own row, which each of its transactions compares and swaps.
     key: String,
     mastership: Arc<Mastership>,
     /// Its own number, and the turn of its last transaction.
     own: Turn,
-    known: Known,
+    known: KnownRows,
     /// What the rows are, where they were found before it wrote.
     found: Option<Arc<Found>>,
     is_loaded: bool,
@@ -55,7 +55,7 @@ struct Change {
 }
 
 impl Change {
-    fn of(known: &Known, number: u64, by: i64, Turn { keeper, turn }: Turn, edits: &[Edit]) -> Result<Change> {
+    fn of(known: &KnownRows, number: u64, by: i64, Turn { keeper, turn }: Turn, edits: &[Edit]) -> Result<Change> {
         let meta = Meta { number, by, keeper, turn, ..known.meta.clone() };
         let mut change = Change { meta, pairs: BTreeMap::new(), gone: BTreeSet::new(), nodes: Vec::new() };
         for edit in edits {
@@ -64,8 +64,8 @@ impl Change {
         Ok(change)
     }
 
-    // The instance of the node that stands at a name behind the edits so far.
-    fn instance(&self, known: &Known, name: &str) -> Option<u64> {
+    // The instance of the node that stands at a name after the edits so far.
+    fn instance(&self, known: &KnownRows, name: &str) -> Option<u64> {
         let own = self.nodes.iter().rev().find(|(other, _)| other == name).map(|(_, instance)| *instance);
         own.unwrap_or_else(|| known.instances.get(name).copied())
     }
@@ -74,13 +74,13 @@ impl Change {
         self.pairs.insert(key, value);
     }
 
-    fn add(&mut self, known: &Known, edit: &Edit) -> Result<()> {
+    fn add(&mut self, known: &KnownRows, edit: &Edit) -> Result<()> {
         match edit {
             Edit::Epoch(epoch) => self.meta.epoch = *epoch,
             Edit::NextInstance(next) => self.meta.next_instance = *next,
             Edit::PutNode(name, node) => {
                 self.nodes.push((name.clone(), Some(node.instance)));
-                let node = Node::of(node).context("a node that isn't understood")?;
+                let node = NodeRow::of(node).context("a node that isn't understood")?;
                 self.put(format!("nodes{name}"), Some(serde_json::to_vec(&node)?));
             }
             Edit::LockGeneration(name, generation) => {
@@ -89,9 +89,11 @@ impl Change {
                 }
             }
             Edit::RemoveNode(name) => self.remove(known, name),
-            Edit::PutSession(client, session) => self.put(format!("sessions/{client}"), Some(serde_json::to_vec(&Session::of(session))?)),
+            Edit::PutSession(client, session) => {
+                self.put(format!("sessions/{client}"), Some(serde_json::to_vec(&SessionRow::of(session))?))
+            }
             Edit::PutLock(key, lock) => {
-                let lock = Lock::of(*lock).context("a lock that isn't understood")?;
+                let lock = LockRow::of(*lock).context("a lock that isn't understood")?;
                 self.put(lock_key(*key), Some(serde_json::to_vec(&lock)?));
             }
             Edit::RemoveLock(key) => self.put(lock_key(*key), None),
@@ -100,7 +102,7 @@ impl Change {
     }
 
     // (of a transaction no two deeds are of one key)
-    fn remove(&mut self, known: &Known, name: &str) {
+    fn remove(&mut self, known: &KnownRows, name: &str) {
         if let Some(instance) = self.instance(known, name) {
             let locks = format!("locks/{instance}/");
             self.pairs.retain(|key, _| !key.starts_with(&locks));
@@ -111,32 +113,32 @@ impl Change {
         self.put(format!("generations{name}"), None);
     }
 
-    fn deeds(&self, prefix: &str) -> Result<Vec<Deed>> {
-        let mut deeds = vec![Deed::Put(format!("{prefix}meta"), serde_json::to_vec(&self.meta)?)];
+    fn deeds(&self, prefix: &str) -> Result<Vec<Operation>> {
+        let mut deeds = vec![Operation::Put(format!("{prefix}meta"), serde_json::to_vec(&self.meta)?)];
         for (key, value) in &self.pairs {
             let is_gone = self.gone.iter().any(|instance| key.starts_with(&format!("locks/{instance}/")));
             match value {
                 _ if is_gone => {}
-                Some(value) => deeds.push(Deed::Put(format!("{prefix}{key}"), value.clone())),
-                None => deeds.push(Deed::Delete(format!("{prefix}{key}"))),
+                Some(value) => deeds.push(Operation::Put(format!("{prefix}{key}"), value.clone())),
+                None => deeds.push(Operation::Delete(format!("{prefix}{key}"))),
             }
         }
-        deeds.extend(self.gone.iter().map(|instance| Deed::DeleteAll(format!("{prefix}locks/{instance}/"))));
+        deeds.extend(self.gone.iter().map(|instance| Operation::DeleteAll(format!("{prefix}locks/{instance}/"))));
         Ok(deeds)
     }
 }
 
-impl Keeper {
+impl RowsKeeper {
     /// One of a cell, for a mastership. It has written the cell's own row anew, under a number of its own: so nothing that an earlier
     /// keeper sent is done any more, however late it comes. It waits for etcd while the mastership lasts.
     /// What was found there before needn't be read again, where it is of the same revision of that row.
-    pub fn open(gateway: &Gateway, prefix: &str, mastership: Arc<Mastership>, found: Option<Arc<Found>>) -> Result<Keeper> {
+    pub fn open(gateway: &Members, prefix: &str, mastership: Arc<Mastership>, found: Option<Arc<Found>>) -> Result<RowsKeeper> {
         let own = Turn { keeper: rand::thread_rng().gen_range(1..u64::MAX), turn: 1 };
         let (key, is_ended) = (format!("{prefix}meta"), Arc::default());
         let gateway = gateway.until(&is_ended);
         let (meta, changed) = (Meta::default(), 0);
-        let known = Known { meta, changed, instances: HashMap::new() };
-        let mut keeper = Keeper { gateway, prefix: prefix.to_owned(), key, mastership, own, known, found, is_loaded: false, is_ended };
+        let known = KnownRows { meta, changed, instances: HashMap::new() };
+        let mut keeper = RowsKeeper { gateway, prefix: prefix.to_owned(), key, mastership, own, known, found, is_loaded: false, is_ended };
         while !keeper.write_anew()? {}
         Ok(keeper)
     }
@@ -154,10 +156,10 @@ impl Keeper {
     }
 
     /// What is answered to the bytes of a question; or why nothing is answered any more.
-    pub fn answer(&mut self, block: &[u8]) -> Result<Answer> {
+    pub fn answer(&mut self, block: &[u8]) -> Result<RowsAnswer> {
         match Question::read(block).context("the master asks what isn't understood")? {
             Question::Load => self.load(),
-            Question::Commit(number, edits) => Ok(Answer::Verdict(self.commit(number, &edits)?)),
+            Question::Commit(number, edits) => Ok(RowsAnswer::Verdict(self.commit(number, &edits)?)),
         }
     }
 
@@ -168,7 +170,7 @@ impl Keeper {
         self.mastership.check()
     }
 
-    // A turn that none of its transactions had. (The one behind it ends what this one does, where its answer gets lost.)
+    // A turn that none of its transactions had. (The one after it ends what this one does, where its answer gets lost.)
     fn next_turn(&mut self) -> Turn {
         self.own.turn += 2;
         self.own
@@ -190,7 +192,7 @@ impl Keeper {
     // Writes the cell's own row of this turn alone, over what is known. (A fault: etcd refuses it.)
     fn write_own(&self, turn: Turn, meta: &Meta) -> Result<Result<Option<i64>, Lost>> {
         let meta = Meta { by: self.mastership.revision, keeper: turn.keeper, turn: turn.turn, ..meta.clone() };
-        let deeds = [Deed::Put(self.key.clone(), serde_json::to_vec(&meta)?)];
+        let deeds = [Operation::Put(self.key.clone(), serde_json::to_vec(&meta)?)];
         match self.gateway.change(&[Compare::Changed(&self.key, self.known.changed), self.mastership.fence()], &deeds) {
             Err(Lost::Refused(fault)) => Err(fault.context("etcd refuses the cell's own row")),
             written => Ok(written),
@@ -225,7 +227,7 @@ impl Keeper {
     }
 
     // All rows at one revision.
-    fn load(&mut self) -> Result<Answer> {
+    fn load(&mut self) -> Result<RowsAnswer> {
         let (found, meta) = match self.found.take() {
             Some(found) => (found, self.known.meta.clone()),
             None => {
@@ -238,7 +240,7 @@ impl Keeper {
             }
         };
         let (count, rows) = found.rows()?;
-        let told = Answer::rows(&meta, count, rows)?;
+        let told = RowsAnswer::rows(&meta, count, rows)?;
         (self.known.meta, self.known.instances) = (meta, found.instances());
         self.is_loaded = true;
         self.check()?;
@@ -261,7 +263,7 @@ impl Keeper {
                 // (the gateway says that etcd has no room)
                 Err(Lost::Refused(_)) if !self.gateway.health().has_room() => return Ok(false),
                 Err(Lost::Refused(fault)) => {
-                    error!(reason = %fault, deeds = deeds.len(), "etcd refuses a commit; where it has too many operations, set --max-txn-ops");
+                    error!(reason = %fault, deeds = deeds.len(), "etcd refuses a commit");
                     return Ok(false);
                 }
                 Ok(None) | Err(Lost::Unknown(_)) => self.settle(turn)?,
@@ -321,16 +323,16 @@ mod tests {
     const META: &str = r#"{"cell":"c","secret":"0000000000000000000000000000000000000000000000000000000000000000","epoch":1,"next_instance":4,"number":0,"by":0}"#;
 
     // A keeper that has loaded the rows of a new cell.
-    fn keeper(etcd: &Pretended) -> Keeper {
+    fn keeper(etcd: &Pretended) -> RowsKeeper {
         let gateway = etcd.gateway();
-        gateway.change(&[], &[Deed::Put("c/meta".to_owned(), META.as_bytes().to_vec())]).unwrap();
+        gateway.change(&[], &[Operation::Put("c/meta".to_owned(), META.as_bytes().to_vec())]).unwrap();
         let seat = Seat { address: String::new(), server: "first".to_owned() };
         let mastership = Mastership::wait(&gateway, "c/", &seat, 60, None, &Bell::default(), |_| {});
         loaded(&gateway, mastership)
     }
 
-    fn loaded(gateway: &Gateway, mastership: Arc<Mastership>) -> Keeper {
-        let mut keeper = Keeper::open(gateway, "c/", mastership, None).unwrap();
+    fn loaded(gateway: &Members, mastership: Arc<Mastership>) -> RowsKeeper {
+        let mut keeper = RowsKeeper::open(gateway, "c/", mastership, None).unwrap();
         keeper.load().unwrap();
         keeper
     }
@@ -363,6 +365,18 @@ mod tests {
             assert_eq!(keeper.commit(1, &edits()).ok(), *answered, "{ways:?}");
             assert_eq!(stands(&etcd), *wanted, "{ways:?}");
         }
+    }
+
+    #[test]
+    fn a_commit_of_many_edits_is_one_transaction() {
+        let etcd = Pretended::start();
+        let mut keeper = keeper(&etcd);
+        let session = host_wire::rows::Session { principal: "ann".to_owned(), is_live: true };
+        let before = etcd.gateway().revision("c/meta").unwrap();
+        let edits: Vec<Edit> = (1..=3000).map(|client| Edit::PutSession(client, session.clone())).collect();
+        assert!(keeper.commit(1, &edits).unwrap());
+        assert_eq!(etcd.gateway().revision("c/meta").unwrap(), before + 1);
+        assert_eq!(etcd.shown().iter().filter(|(key, _)| key.starts_with("c/sessions/")).count(), edits.len());
     }
 
     #[test]
@@ -411,7 +425,7 @@ mod tests {
         let etcd = Pretended::start();
         let mut keeper = keeper(&etcd);
         let other = META.replace(r#""epoch":1"#, r#""epoch":9"#).into_bytes();
-        etcd.gateway().change(&[], &[Deed::Put("c/meta".to_owned(), other)]).unwrap();
+        etcd.gateway().change(&[], &[Operation::Put("c/meta".to_owned(), other)]).unwrap();
         assert!(keeper.commit(1, &edits()).is_err());
         assert_eq!(stands(&etcd), (0, false));
     }

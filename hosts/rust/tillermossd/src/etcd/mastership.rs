@@ -2,7 +2,7 @@
 //! before etcd lets the key go: the arithmetic of that is the proved one of crates/mastership.
 
 use crate::etcd::decisions::end_of;
-use crate::etcd::gateway::{Compare, Deed, Gateway, Lost, Pair, Unanswered};
+use crate::etcd::gateway::{Compare, Lost, Members, Operation, Pair, Unanswered};
 use anyhow::{Result, bail};
 use nix::time::{ClockId, clock_gettime};
 use serde::{Deserialize, Serialize};
@@ -13,13 +13,13 @@ use std::thread;
 use std::time::Duration;
 use tracing::{info, warn};
 
-/// So many seconds a mastership lasts that isn't renewed, unless an operator says otherwise; etcd may make it longer.
+/// How many seconds a mastership lasts that isn't renewed, unless an operator says otherwise; etcd may make it longer.
 pub const SPAN: u64 = 5;
 
-/// So long at most between two looks at who is master.
+/// How long at most between two looks at who is master.
 const PAUSE: Duration = Duration::from_millis(250);
 
-/// So many renewals in a span.
+/// How many renewals in a span.
 const RENEWALS: u64 = 4;
 
 /// The present moment by the clock that goes on while the machine sleeps, in milliseconds. Where there is none it is the end of all
@@ -66,7 +66,7 @@ pub struct Seat {
 /// A mastership.
 #[derive(Debug)]
 pub struct Mastership {
-    gateway: Arc<Gateway>,
+    gateway: Arc<Members>,
     key: String,
     value: Vec<u8>,
     /// The revision by which it began, which no other mastership has.
@@ -84,16 +84,16 @@ struct Grant {
 }
 
 // Takes the key of a mastership away as it stands there; whether that was done.
-fn remove(gateway: &Gateway, pair: &Pair) -> bool {
+fn remove(gateway: &Members, pair: &Pair) -> bool {
     let same = [Compare::Created(&pair.key, pair.created), Compare::Changed(&pair.key, pair.changed)];
-    gateway.change(&same, &[Deed::Delete(pair.key.clone())]).is_ok_and(|done| done.is_some())
+    gateway.change(&same, &[Operation::Delete(pair.key.clone())]).is_ok_and(|done| done.is_some())
 }
 
 impl Mastership {
     /// Waits until no other server is master, and takes over, for so many seconds at a time. Tells each other one of it that it sees
     /// meanwhile. One whose time ended before this same process began anew is taken back at once: nobody has been master since.
     pub fn wait(
-        gateway: &Arc<Gateway>,
+        gateway: &Arc<Members>,
         prefix: &str,
         seat: &Seat,
         span: u64,
@@ -130,7 +130,7 @@ impl Mastership {
     }
 
     /// Takes it where no other server is master; else tells which one is.
-    pub fn take_at_once(gateway: &Arc<Gateway>, prefix: &str, seat: &Seat, span: u64) -> Result<Result<Arc<Mastership>, Seat>> {
+    pub fn take_at_once(gateway: &Arc<Members>, prefix: &str, seat: &Seat, span: u64) -> Result<Result<Arc<Mastership>, Seat>> {
         let key = format!("{prefix}master");
         loop {
             if let Some(other) = gateway.get(&key)? {
@@ -143,11 +143,11 @@ impl Mastership {
     }
 
     // Takes it, where nobody else has.
-    fn take(gateway: &Arc<Gateway>, key: &str, seat: &Seat, span: u64) -> Result<Option<Arc<Mastership>>> {
+    fn take(gateway: &Arc<Members>, key: &str, seat: &Seat, span: u64) -> Result<Option<Arc<Mastership>>> {
         let sent = now();
         let (lease, seconds) = gateway.lend(span)?;
         let value = serde_json::to_vec(seat)?;
-        let taken = gateway.change(&[Compare::Created(key, 0)], &[Deed::Lend(key.to_owned(), value.clone(), lease)]);
+        let taken = gateway.change(&[Compare::Created(key, 0)], &[Operation::Lend(key.to_owned(), value.clone(), lease)]);
         let revision = match taken {
             Ok(revision) => revision,
             // (an outcome that got lost: whose lease it stands under says it. One that is done later goes with its lease)
@@ -204,9 +204,9 @@ impl Mastership {
             Err(_) if !self.gateway.health().has_room() => return self.renew_in_place(grant.lease),
             lent => lent?,
         };
-        // (of puts that got lost none can be done behind this one)
+        // (of puts that got lost none can be done after this one)
         let same = [self.fence(), Compare::Changed(&self.key, grant.changed)];
-        let next = match self.gateway.change(&same, &[Deed::Lend(self.key.clone(), self.value.clone(), lease)]) {
+        let next = match self.gateway.change(&same, &[Operation::Lend(self.key.clone(), self.value.clone(), lease)]) {
             Ok(Some(changed)) => Grant { lease, changed },
             Ok(None) | Err(Lost::Unknown(_)) => self.read_grant()?,
             Err(lost) => return Err(lost.into()),

@@ -1,7 +1,7 @@
 //! Two named pipes to a master: what it asks in one, what is answered in the other.
 
-use crate::etcd::keeper::Keeper;
-use crate::etcd::rows::Answer;
+use crate::etcd::keeper::RowsKeeper;
+use crate::etcd::rows::RowsAnswer;
 use anyhow::{Context, Result};
 use host_wire::rows::write_verdict;
 use host_wire::{ANSWER_LIMIT, Blocks};
@@ -28,7 +28,7 @@ const PAUSE: Duration = Duration::from_millis(5);
 
 /// The pipes of a master.
 #[derive(Debug)]
-pub struct Kept {
+pub struct MasterPipes {
     folder: TempDir,
     has_ended: Arc<AtomicBool>,
     waits_for_room: Arc<AtomicBool>,
@@ -36,7 +36,7 @@ pub struct Kept {
     keeping: JoinHandle<()>,
 }
 
-impl Kept {
+impl MasterPipes {
     /// The folder in which they are.
     #[must_use]
     pub fn folder(&self) -> &Path {
@@ -73,8 +73,8 @@ impl Kept {
 }
 
 /// Makes the pipes in a folder of their own, and a thread that keeps the rows by them until the master is gone. Nothing is answered
-/// behind a fault: the master is told no more.
-pub fn keep(mut keeper: Keeper) -> Result<Kept> {
+/// after a fault: the master is told no more.
+pub fn keep(mut keeper: RowsKeeper) -> Result<MasterPipes> {
     let folder = tempfile::Builder::new().prefix("tillermossd-rows-").tempdir()?;
     for name in [ASKED, ANSWERED] {
         mkfifo(&folder.path().join(name), Mode::S_IRUSR | Mode::S_IWUSR)?;
@@ -89,27 +89,27 @@ pub fn keep(mut keeper: Keeper) -> Result<Kept> {
             noted.store(true, Ordering::SeqCst);
         }
     });
-    Ok(Kept { folder, has_ended, waits_for_room, is_to_end, keeping })
+    Ok(MasterPipes { folder, has_ended, waits_for_room, is_to_end, keeping })
 }
 
-// (behind a commit that was refused a master is told of no other; the answer goes out behind the note of it)
-fn serve(keeper: &mut Keeper, folder: &Path, has_ended: &AtomicBool, waits_for_room: &AtomicBool) -> Result<()> {
+// (after a commit that was refused a master is told of no other; the answer goes out after the note of it)
+fn serve(keeper: &mut RowsKeeper, folder: &Path, has_ended: &AtomicBool, waits_for_room: &AtomicBool) -> Result<()> {
     let mut asked = File::open(folder.join(ASKED))?;
     let mut answered = File::options().write(true).open(folder.join(ANSWERED))?;
     let mut blocks = Blocks::new(ANSWER_LIMIT);
     while let Some(block) = blocks.next(&mut asked)? {
         let answer = keeper.answer(&block);
         match &answer {
-            Ok(Answer::Verdict(false)) if keeper.wants_room() => waits_for_room.store(true, Ordering::SeqCst),
-            Err(_) | Ok(Answer::Verdict(false)) => has_ended.store(true, Ordering::SeqCst),
+            Ok(RowsAnswer::Verdict(false)) if keeper.wants_room() => waits_for_room.store(true, Ordering::SeqCst),
+            Err(_) | Ok(RowsAnswer::Verdict(false)) => has_ended.store(true, Ordering::SeqCst),
             Ok(_) => {}
         }
         match answer? {
-            Answer::Rows(front, rows) => {
+            RowsAnswer::Rows(front, rows) => {
                 answered.write_all(&front)?;
                 answered.write_all(&rows)?;
             }
-            Answer::Verdict(is_kept) => answered.write_all(&write_verdict(is_kept).context("memory is wanting")?)?,
+            RowsAnswer::Verdict(is_kept) => answered.write_all(&write_verdict(is_kept).context("memory is wanting")?)?,
         }
     }
     Ok(())

@@ -1,6 +1,6 @@
 //! An etcd of one member for tests, in memory, whose transactions may be refused or lose their way.
 
-use crate::etcd::gateway::Gateway;
+use crate::etcd::gateway::Members;
 use base64::{decode, encode};
 use serde_json::{Value, json};
 use std::collections::{BTreeMap, VecDeque};
@@ -28,7 +28,11 @@ pub enum Way {
     Slow,
 }
 
-/// So long before each of so many pieces of an answer that comes slowly.
+/// How many operations of a transaction may stand side by side on the way down to the deepest, in all: as many as etcd takes unless it is
+/// told otherwise.
+const OPERATIONS: usize = 128;
+
+/// How long before each of so many pieces of an answer that comes slowly.
 pub const SLOW: Duration = Duration::from_millis(700);
 pub const PIECES: usize = 6;
 
@@ -41,7 +45,7 @@ struct Stands {
 }
 
 #[derive(Debug, Default)]
-struct State {
+struct PretendedState {
     revision: i64,
     pairs: BTreeMap<Vec<u8>, Stands>,
     leases: i64,
@@ -54,7 +58,21 @@ struct State {
 #[derive(Clone, Debug)]
 pub struct Pretended {
     place: String,
-    state: Arc<Mutex<State>>,
+    state: Arc<Mutex<PretendedState>>,
+}
+
+/// What stands within an operation that is a transaction itself; nothing in another one.
+pub fn within(operation: &Value) -> &[Value] {
+    operation.pointer("/request_txn/success").and_then(Value::as_array).map(Vec::as_slice).unwrap_or_default()
+}
+
+fn side_by_side(operations: &[Value]) -> usize {
+    operations.len() + operations.iter().map(|operation| side_by_side(within(operation))).max().unwrap_or(0)
+}
+
+/// Whether etcd takes a transaction of these operations.
+pub fn is_taken(operations: &[Value]) -> bool {
+    side_by_side(operations) <= OPERATIONS
 }
 
 fn bytes(value: &Value, name: &str) -> Vec<u8> {
@@ -66,13 +84,13 @@ fn number(value: &Value, name: &str) -> i64 {
 }
 
 // The keys that a range or a deletion is of.
-fn keys(state: &State, asked: &Value) -> Vec<Vec<u8>> {
+fn keys(state: &PretendedState, asked: &Value) -> Vec<Vec<u8>> {
     let (from, end) = (bytes(asked, "key"), bytes(asked, "range_end"));
     let is_in = |key: &&Vec<u8>| if end.is_empty() { **key == from } else { (&from..&end).contains(key) };
     state.pairs.keys().filter(is_in).cloned().collect()
 }
 
-impl State {
+impl PretendedState {
     fn answer(&mut self, path: &str, asked: &Value) -> Value {
         let header = |revision: i64| json!({ "revision": revision.to_string() });
         match path {
@@ -118,7 +136,9 @@ impl State {
     }
 
     fn act(&mut self, deed: &Value) {
-        if let Some(put) = deed.get("request_put") {
+        if deed.get("request_txn").is_some() {
+            within(deed).iter().for_each(|deed| self.act(deed));
+        } else if let Some(put) = deed.get("request_put") {
             let key = bytes(put, "key");
             let created = self.pairs.get(&key).map_or(self.revision, |stands| stands.created);
             let stands = Stands { value: bytes(put, "value"), created, changed: self.revision, lease: number(put, "lease") };
@@ -142,7 +162,7 @@ impl Pretended {
         etcd
     }
 
-    fn state(&self) -> MutexGuard<'_, State> {
+    fn state(&self) -> MutexGuard<'_, PretendedState> {
         self.state.lock().unwrap()
     }
 
@@ -168,10 +188,12 @@ impl Pretended {
             _ => None,
         };
         let way = ways.and_then(VecDeque::pop_front).unwrap_or(Way::Done);
+        let refused = ("400 Bad Request", json!({ "error": "too many operations" }));
         let answer = match way {
             Way::Lost => return,
             Way::Held => return state.held.push((asked, stream)),
-            Way::Refused => ("400 Bad Request", json!({ "error": "too many operations" })),
+            Way::Done | Way::Unanswered | Way::Slow if !asked["success"].as_array().is_none_or(|all| is_taken(all)) => refused,
+            Way::Refused => refused,
             Way::Done | Way::Unanswered | Way::Slow => ("200 OK", state.answer(&path, &asked)),
         };
         drop(state);
@@ -192,8 +214,8 @@ impl Pretended {
     }
 
     /// By which it is asked.
-    pub fn gateway(&self) -> Arc<Gateway> {
-        Arc::new(Gateway::new(std::slice::from_ref(&self.place), None, None))
+    pub fn gateway(&self) -> Arc<Members> {
+        Arc::new(Members::new(std::slice::from_ref(&self.place), None, None))
     }
 
     /// What becomes of the next transactions.

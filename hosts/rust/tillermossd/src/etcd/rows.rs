@@ -24,7 +24,7 @@ pub enum Content {
 
 /// A node as it stands in etcd. The generation of its lock stands by itself.
 #[derive(Clone, Debug, PartialEq, Eq, Serialize, Deserialize)]
-pub struct Node {
+pub struct NodeRow {
     /// A file or a directory.
     pub kind: String,
     /// Which one it is of all that ever stood at its name.
@@ -47,7 +47,7 @@ pub struct Node {
 
 /// A session.
 #[derive(Clone, Debug, PartialEq, Eq, Serialize, Deserialize)]
-pub struct Session {
+pub struct SessionRow {
     /// Whom its client acts for.
     pub principal: String,
     /// Whether it hasn't ended.
@@ -56,7 +56,7 @@ pub struct Session {
 
 /// A row of a lock.
 #[derive(Clone, Debug, PartialEq, Eq, Serialize, Deserialize)]
-pub struct Lock {
+pub struct LockRow {
     /// Lapsed, exclusive or shared.
     pub state: String,
     /// Its lock-delay, in milliseconds.
@@ -87,7 +87,7 @@ pub struct Meta {
 }
 
 /// The key of a lock's row.
-pub type LockKey = (u64, u64, u64);
+pub type LockRowKey = (u64, u64, u64);
 
 /// One of a list of words, by its place.
 pub fn chosen(words: &[&str], place: u32) -> Option<String> {
@@ -136,11 +136,11 @@ impl Content {
     }
 }
 
-impl Node {
+impl NodeRow {
     /// That of a master; None of one that isn't understood.
-    pub fn of(node: &rows::Node) -> Option<Node> {
+    pub fn of(node: &rows::Node) -> Option<NodeRow> {
         let [read, write, change] = node.acl.clone();
-        Some(Node {
+        Some(NodeRow {
             kind: chosen(&KINDS, node.kind)?,
             instance: node.instance,
             content_generation: node.content_generation,
@@ -168,10 +168,10 @@ impl Node {
     }
 }
 
-impl Session {
+impl SessionRow {
     /// That of a master.
-    pub fn of(session: &rows::Session) -> Session {
-        Session { principal: session.principal.clone(), live: session.is_live }
+    pub fn of(session: &rows::Session) -> SessionRow {
+        SessionRow { principal: session.principal.clone(), live: session.is_live }
     }
 
     /// A row that a master is told.
@@ -181,14 +181,14 @@ impl Session {
     }
 }
 
-impl Lock {
+impl LockRow {
     /// That of a master; None of one that isn't understood.
-    pub fn of(lock: rows::Lock) -> Option<Lock> {
-        Some(Lock { state: chosen(&STATES, lock.state)?, delay: lock.delay })
+    pub fn of(lock: rows::Lock) -> Option<LockRow> {
+        Some(LockRow { state: chosen(&STATES, lock.state)?, delay: lock.delay })
     }
 
     /// A row that a master is told.
-    pub fn row(&self, key: LockKey) -> Result<Vec<u8>> {
+    pub fn row(&self, key: LockRowKey) -> Result<Vec<u8>> {
         let lock = rows::Lock { state: place(&STATES, &self.state)?, delay: self.delay };
         lock.row(key).with_context(|| format!("the lock {key:?} can't be told"))
     }
@@ -196,20 +196,20 @@ impl Lock {
 
 /// What a master is answered.
 #[derive(Clone, Debug, PartialEq, Eq)]
-pub enum Answer {
+pub enum RowsAnswer {
     /// All rows: what stands in front of them, and their bytes.
     Rows(Vec<u8>, Vec<u8>),
     /// Whether a commit stands.
     Verdict(bool),
 }
 
-impl Answer {
+impl RowsAnswer {
     /// That these are all rows: so many, and their bytes.
-    pub fn rows(meta: &Meta, count: usize, rows: Vec<u8>) -> Result<Answer> {
+    pub fn rows(meta: &Meta, count: usize, rows: Vec<u8>) -> Result<RowsAnswer> {
         let secret = hex::decode(&meta.secret)?;
         let own = Own { number: meta.number, cell: &meta.cell, secret: &secret, epoch: meta.epoch, next_instance: meta.next_instance };
         let front = own.before(count, rows.len()).context("the rows are more than 4 GiB, or the cell's own row is none")?;
-        Ok(Answer::Rows(front, rows))
+        Ok(RowsAnswer::Rows(front, rows))
     }
 }
 
@@ -238,7 +238,7 @@ mod tests {
             acl: acl.clone(),
             content: b"hi".to_vec(),
         };
-        let words = |kind, life| Node::of(&node(kind, life)).map(|node| (node.kind, node.life, node.change));
+        let words = |kind, life| NodeRow::of(&node(kind, life)).map(|node| (node.kind, node.life, node.change));
         let wanted = |kind: &str, life: &str| Some((kind.to_owned(), life.to_owned(), "acl".to_owned()));
         let rows = [(0, 0, wanted("file", "permanent")), (1, 1, wanted("dir", "ephemeral")), (2, 0, None), (0, 2, None)];
         for (kind, life, wanted) in rows {
@@ -246,8 +246,8 @@ mod tests {
         }
         let locks = [(0, Some("lapsed")), (1, Some("exclusive")), (2, Some("shared")), (3, None)];
         for (state, wanted) in locks {
-            let lock = Lock::of(rows::Lock { state, delay: 60 });
-            assert_eq!(lock, wanted.map(|state| Lock { state: state.to_owned(), delay: 60 }), "{state}");
+            let lock = LockRow::of(rows::Lock { state, delay: 60 });
+            assert_eq!(lock, wanted.map(|state| LockRow { state: state.to_owned(), delay: 60 }), "{state}");
         }
     }
 
@@ -255,10 +255,10 @@ mod tests {
     fn rows_go_out_as_a_master_knows_them() {
         let acl = ["base", "own", "acl"].map(str::to_owned);
         let node = rows::Node { kind: 0, life: 1, instance: 4, content_generation: 1, acl_generation: 2, acl, content: vec![0, 255] };
-        assert_eq!(Node::of(&node).unwrap().row("/ls/c/f", 9).ok(), node.row("/ls/c/f", 9));
+        assert_eq!(NodeRow::of(&node).unwrap().row("/ls/c/f", 9).ok(), node.row("/ls/c/f", 9));
         let session = rows::Session { principal: "ann".to_owned(), is_live: true };
-        assert_eq!(Session::of(&session).row(7).ok(), session.row(7));
+        assert_eq!(SessionRow::of(&session).row(7).ok(), session.row(7));
         let lock = rows::Lock { state: 2, delay: 60 };
-        assert_eq!(Lock::of(lock).unwrap().row((4, 1, 2)).ok(), lock.row((4, 1, 2)));
+        assert_eq!(LockRow::of(lock).unwrap().row((4, 1, 2)).ok(), lock.row((4, 1, 2)));
     }
 }

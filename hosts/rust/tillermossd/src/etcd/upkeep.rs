@@ -6,7 +6,7 @@ use std::thread;
 use std::time::{Duration, Instant};
 use tracing::warn;
 
-/// So long between two looks, and while there is no room.
+/// The time between two looks, and while there is no room.
 const LOOKING: Duration = Duration::from_secs(10);
 const LOOKING_FOR_ROOM: Duration = Duration::from_secs(2);
 

@@ -2,7 +2,7 @@
 //! then has them already.
 
 use crate::etcd::found::Found;
-use crate::etcd::gateway::{Followed, Gateway};
+use crate::etcd::gateway::{Followed, Members};
 use crate::etcd::mastership::Bell;
 use anyhow::{Result, bail};
 use std::sync::atomic::{AtomicBool, Ordering};
@@ -11,10 +11,10 @@ use std::thread;
 use std::time::{Duration, Instant};
 use tracing::{debug, warn};
 
-/// So long before what can't be followed is read again.
+/// How long before what can't be followed is read again.
 const PAUSE: Duration = Duration::from_secs(1);
 
-/// So long it is waited for the last change, which etcd has told already.
+/// How long it is waited for the last change, which etcd has told already.
 const LAST: Duration = Duration::from_secs(1);
 
 /// How often it is looked whether it has come.
@@ -34,7 +34,7 @@ struct Shared {
 impl Warm {
     /// Begins to read and to follow them.
     #[must_use]
-    pub fn begin(gateway: &Gateway, prefix: &str) -> Warm {
+    pub fn begin(gateway: &Members, prefix: &str) -> Warm {
         let shared = Arc::new(Shared::default());
         let (gateway, prefix, following) = (gateway.until(&shared.is_over), prefix.to_owned(), shared.clone());
         thread::spawn(move || {
@@ -88,7 +88,7 @@ impl Shared {
     }
 
     // Reads them where they aren't there, and follows them until nothing came for a while.
-    fn follow(&self, gateway: &Gateway, prefix: &str) -> Result<()> {
+    fn follow(&self, gateway: &Members, prefix: &str) -> Result<()> {
         let known = self.found().as_ref().map(|found| found.revision);
         let at = match known {
             Some(at) => at,

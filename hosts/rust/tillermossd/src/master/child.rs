@@ -1,7 +1,7 @@
 //! The master, a child of this program, and the task that speaks with it.
 
 use crate::etcd::Rows;
-use crate::etcd::pipes::Kept;
+use crate::etcd::pipes::MasterPipes;
 use crate::master::clock::{Clock, Probe};
 use crate::master::lines::Message;
 use crate::master::program::Program;
@@ -9,11 +9,11 @@ use crate::master::pulse::Pulse;
 use crate::master::starts::Starts;
 use crate::master::store::{self, Identity};
 use crate::net::connections::Hall;
-use crate::net::outgoing::Outgoing;
-use crate::serving::{Reading, takes_many};
+use crate::net::outgoing::Outbox;
+use crate::serving::Reading;
 use crate::settings::Settings;
 use anyhow::{Context, Result, bail};
-use host_wire::{ANSWER_LIMIT, Answer, Asked, Blocks, Frame, Heard, Printed, Said, Text, Told};
+use host_wire::{ANSWER_LIMIT, Asked, Blocks, Frame, Heard, MasterAnswer, Printed, Said, Text, Told};
 use std::collections::VecDeque;
 use std::error::Error;
 use std::fmt::{self, Display, Formatter};
@@ -33,11 +33,11 @@ use tokio::task::spawn_blocking;
 use tokio::time::{sleep, timeout};
 use tracing::{debug, error, info, trace, warn};
 
-/// So many frames are at the master at once, of so many bytes: those that wait there together it does as a group, which is one commit.
+/// How many frames are at the master at once, of so many bytes: those that wait there together it does as a group, which is one commit.
 const AT_ONCE: usize = 256;
 const BYTES_AT_ONCE: usize = 1 << 20;
 
-/// So long a master has one frame at a time behind one that the store refused: of a group it refuses all, and the master is gone; one
+/// How long a master has one frame at a time after one that the store refused: of a group it refuses all, and the master is gone; one
 /// that is alone it refuses alone, and Beats are answered.
 const ALONE: Duration = Duration::from_secs(60);
 
@@ -47,13 +47,13 @@ const GROUP_ROOM: u64 = 16 << 20;
 /// What a master ends with where the store refused what a group of frames changed.
 const GROUP_REFUSED: i32 = 3;
 
-/// So long a master may take for a frame.
+/// How long a master may take for a frame.
 const PATIENCE: Duration = Duration::from_secs(10);
 
 /// How often it is looked whether the mastership lasts, where nothing comes.
 const LOOKING: Duration = Duration::from_millis(500);
 
-/// So long it may take to come up: it reads the whole store.
+/// How long it may take to come up: it reads the whole store.
 const COMING_UP: Duration = Duration::from_secs(600);
 
 /// What is asked of the task.
@@ -67,7 +67,7 @@ pub enum Order {
 
 /// Why a master serves no more.
 #[derive(Debug)]
-pub enum Ending {
+pub enum MasterEnd {
     /// It was told to go, and went so.
     Asked(ExitStatus),
     /// It is gone by itself, or doesn't answer.
@@ -77,6 +77,10 @@ pub enum Ending {
     /// The store isn't the same file any more.
     StoreGone(String),
 }
+
+/// What a master over etcd commits as one change: etcd takes 1.5 MiB, in which a content that is no text takes two bytes for each of its
+/// own, and an edit is at most three operations.
+const GROUP_WORDS: [&str; 4] = ["--group-edits", "3000", "--group-bytes", "700000"];
 
 /// How a master is started.
 #[derive(Clone, Debug)]
@@ -101,7 +105,7 @@ struct Sent {
     is_refused: bool,
 }
 
-/// The stream to the master: frames that wait together are written together. It ends behind the last one.
+/// The stream to the master: frames that wait together are written together. It ends after the last one.
 #[derive(Debug)]
 struct Input {
     stream: Option<ChildStdin>,
@@ -118,10 +122,10 @@ pub struct Master {
     input: Input,
     output: ChildStdout,
     blocks: Blocks,
-    woken: Vec<Arc<Outgoing>>,
+    woken: Vec<Arc<Outbox>>,
     starts: Starts,
     identity: Option<Identity>,
-    rows: Option<(Rows, Kept)>,
+    rows: Option<(Rows, MasterPipes)>,
     clock: Clock,
     probe: Probe,
     has_sent: bool,
@@ -144,7 +148,7 @@ struct Raised {
 }
 
 // Opens a keeper. (Where etcd has no room it is opened later.)
-async fn keep(rows: Rows) -> Result<(Rows, Kept)> {
+async fn keep(rows: Rows) -> Result<(Rows, MasterPipes)> {
     let gateway = rows.gateway.clone();
     match spawn_blocking(move || rows.keep().map(|kept| (rows, kept))).await? {
         Err(fault) if !gateway.health().has_room() => Err(StoreRefused(format!("{fault:#}")).into()),
@@ -152,8 +156,8 @@ async fn keep(rows: Rows) -> Result<(Rows, Kept)> {
     }
 }
 
-// Behind this nothing that a master which is gone has asked for is sent to etcd.
-async fn end_keeper(rows: Option<(Rows, Kept)>) {
+// After this nothing that a master which is gone has asked for is sent to etcd.
+async fn end_keeper(rows: Option<(Rows, MasterPipes)>) {
     let ended = spawn_blocking(|| rows.into_iter().for_each(|(_, kept)| kept.end())).await;
     if let Err(fault) = ended {
         error!(reason = %fault, "the keeper of the rows wasn't ended");
@@ -200,7 +204,7 @@ impl Making {
     // Starts its program, over the pipes in a folder where the rows are kept by them. (It is gone where this fails.)
     async fn raise(&self, hall: &Arc<Hall>, pipes: Option<&Path>, reading: Option<Reading>) -> Result<Raised> {
         // (it is read before the first answer comes)
-        let settings = self.settings.write()?;
+        let settings = self.settings.write(self.rows.is_some())?;
         let mut child = self.spawn(settings.path(), pipes)?;
         let (Some(stream), Some(mut output)) = (child.stdin.take(), child.stdout.take()) else {
             bail!("the master has no streams");
@@ -223,7 +227,7 @@ impl Making {
     fn spawn(&self, settings: &Path, pipes: Option<&Path>) -> Result<Child> {
         let mut command = self.program.command();
         match pipes {
-            Some(folder) => command.arg("serve").arg("--rows").arg(folder).args(group_words(takes_many())),
+            Some(folder) => command.arg("serve").arg("--rows").arg(folder).args(GROUP_WORDS),
             None => command.arg("serve").arg("--store").arg(&self.store),
         };
         command.arg("--settings").arg(settings);
@@ -233,7 +237,7 @@ impl Making {
 }
 
 impl Input {
-    // Puts a frame behind what waits; how many bytes it has.
+    // Puts a frame after what waits; how many bytes it has.
     fn put(&mut self, frame: Frame<'_>) -> Result<usize> {
         let bytes = frame.write().context("a message that is none, or no memory")?;
         self.waiting.extend_from_slice(&bytes);
@@ -252,12 +256,6 @@ impl Input {
             self.stream = None;
         }
     }
-}
-
-// What a master over etcd commits as one change. An edit is at most three operations beside that of the cell's own row; a stock etcd takes
-// 128 of them, and 1.5 MiB, in which a content that is no text takes two bytes for each of its own.
-fn group_words(takes_many: bool) -> [&'static str; 4] {
-    ["--group-edits", if takes_many { "3000" } else { "40" }, "--group-bytes", "700000"]
 }
 
 // What a block of the master tells.
@@ -331,12 +329,12 @@ impl Master {
     }
 
     /// Carries messages until it serves no more. It is gone then.
-    pub async fn run(mut self, orders: &mut mpsc::Receiver<Order>) -> Ending {
+    pub async fn run(mut self, orders: &mut mpsc::Receiver<Order>) -> MasterEnd {
         let ending = match self.serve(orders).await {
             Ok(ending) => ending,
-            Err(error) => Ending::Gone(format!("{error:#}")),
+            Err(error) => MasterEnd::Gone(format!("{error:#}")),
         };
-        if matches!(ending, Ending::Asked(_)) {
+        if matches!(ending, MasterEnd::Asked(_)) {
             end_keeper(self.rows.take()).await;
             return ending;
         }
@@ -345,18 +343,18 @@ impl Master {
         let status = self.child.wait().await;
         end_keeper(self.rows.take()).await;
         match (ending, status) {
-            (Ending::Gone(reason), Ok(status)) if status.code() == Some(GROUP_REFUSED) => Ending::Refused(reason),
-            (Ending::Gone(reason), Ok(status)) => Ending::Gone(format!("{reason}; {status}")),
+            (MasterEnd::Gone(reason), Ok(status)) if status.code() == Some(GROUP_REFUSED) => MasterEnd::Refused(reason),
+            (MasterEnd::Gone(reason), Ok(status)) => MasterEnd::Gone(format!("{reason}; {status}")),
             (ending, _) => ending,
         }
     }
 
-    async fn serve(&mut self, orders: &mut mpsc::Receiver<Order>) -> Result<Ending> {
+    async fn serve(&mut self, orders: &mut mpsc::Receiver<Order>) -> Result<MasterEnd> {
         loop {
             self.check_mastership()?;
             self.check_room()?;
             if let Some(fault) = self.fill()? {
-                return Ok(Ending::StoreGone(fault));
+                return Ok(MasterEnd::StoreGone(fault));
             }
             let rest = self.rest();
             tokio::select! {
@@ -459,7 +457,7 @@ impl Master {
         is_too_many
     }
 
-    // (the clock is read behind the arrival of a message)
+    // (the clock is read after the arrival of a message)
     fn send(&mut self, message: Option<Message>) -> Result<()> {
         let moment = self.now();
         let frame = match &message {
@@ -561,14 +559,14 @@ impl Master {
     // A message goes to its client, once all was heard that came with it.
     fn pass(&mut self, client: u64, said: Said, message: &[u8]) {
         let Said { number, answer, .. } = said;
-        if matches!(answer, Answer::Started(_)) {
+        if matches!(answer, MasterAnswer::Started(_)) {
             self.starts.tell(client);
         }
         match answer {
-            Answer::Started(span) | Answer::Alive(span, _) => self.hall.picture().lease(client, span),
-            Answer::Reply(_) | Answer::Refused(_) => self.hall.picture().answer(client, Some(number)),
+            MasterAnswer::Started(span) | MasterAnswer::Alive(span, _) => self.hall.picture().lease(client, span),
+            MasterAnswer::Reply(_) | MasterAnswer::Refused(_) => self.hall.picture().answer(client, Some(number)),
         }
-        if let Answer::Reply(refusal) = answer {
+        if let MasterAnswer::Reply(refusal) = answer {
             refusal.into_iter().for_each(|refusal| self.hall.metrics.refused(refusal));
             self.hall.go_on(self.hall.changes.answer(client, number));
         }
@@ -592,14 +590,14 @@ impl Master {
     }
 
     // It goes in order; or it is killed, where it doesn't.
-    async fn stop(&mut self) -> Result<Ending> {
+    async fn stop(&mut self) -> Result<MasterEnd> {
         match self.go().await {
-            Ok(status) => return Ok(Ending::Asked(status)),
+            Ok(status) => return Ok(MasterEnd::Asked(status)),
             Err(error) => error!(reason = %format_args!("{error:#}"), "the master doesn't go"),
         }
         // (one that is gone can't be killed)
         let _ = self.child.start_kill();
-        Ok(Ending::Asked(self.child.wait().await?))
+        Ok(MasterEnd::Asked(self.child.wait().await?))
     }
 
     // It is told to go, and closes its store.

@@ -11,7 +11,7 @@ use tokio::time::sleep_until;
 /// busy; and a client has twelve times as long to send its next Beat: a Beat is answered three seconds before its lease ends.
 const STEP: Duration = Duration::from_millis(250);
 
-/// So long after a reading the next one begins.
+/// How long after a reading the next one begins.
 const PACE: Duration = Duration::from_millis(100);
 
 /// A server that saw nothing for so long was stopped.
@@ -66,7 +66,7 @@ impl Clock {
         self.told.as_millis() as u64
     }
 
-    /// So long the server was there since then, and could have heard an answer.
+    /// How long the server was there since then, and could have heard an answer.
     #[must_use]
     pub fn attended(&self, since: Instant, now: Instant) -> Duration {
         now.min(self.seen + AWAY).saturating_duration_since(since.max(self.woken))

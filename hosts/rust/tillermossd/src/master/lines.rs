@@ -56,30 +56,30 @@ impl<K: Clone + Eq + std::hash::Hash, V: Default> Turns<K, V> {
 }
 
 type Clients = Turns<u64, VecDeque<Message>>;
-type Line = Turns<Arc<str>, Clients>;
+type WaitingLine = Turns<Arc<str>, Clients>;
 
 /// The messages that wait.
 #[derive(Debug, Default)]
 pub struct Lines {
-    state: Mutex<State>,
+    state: Mutex<LinesState>,
     filled: Notify,
 }
 
 #[derive(Debug, Default)]
-struct State {
-    keeping: Line,
-    asking: Line,
+struct LinesState {
+    keeping: WaitingLine,
+    asking: WaitingLine,
     // (whether the line of calls is next)
     is_call_next: bool,
 }
 
-impl State {
+impl LinesState {
     fn is_empty(&self) -> bool {
         self.keeping.turns.is_empty() && self.asking.turns.is_empty()
     }
 }
 
-// Puts a message behind those of its client. A Beat takes the place of one that waits: that tells of less, and its answer would give no
+// Puts a message after those of its client. A Beat takes the place of one that waits: that tells of less, and its answer would give no
 // lease, since a later one is out. A call that waits isn't done twice.
 fn put(waiting: &mut VecDeque<Message>, message: Message) {
     let same = waiting.iter_mut().find(|other| !message.is_call || other.bytes == message.bytes);
@@ -89,7 +89,7 @@ fn put(waiting: &mut VecDeque<Message>, message: Message) {
     }
 }
 
-fn next(line: &mut Line) -> Option<Message> {
+fn next(line: &mut WaitingLine) -> Option<Message> {
     line.take(|clients| {
         let taken = clients.take(|messages| (messages.pop_front(), !messages.is_empty()));
         (taken, !clients.turns.is_empty())
@@ -108,7 +108,7 @@ impl Lines {
     /// The next one.
     pub fn take(&self) -> Option<Message> {
         let mut state = self.state.lock().unwrap_or_else(PoisonError::into_inner);
-        let State { keeping, asking, is_call_next } = &mut *state;
+        let LinesState { keeping, asking, is_call_next } = &mut *state;
         let (first, second) = if *is_call_next { (asking, keeping) } else { (keeping, asking) };
         let taken = next(first).or_else(|| next(second))?;
         *is_call_next = !taken.is_call;

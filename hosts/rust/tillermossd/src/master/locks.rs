@@ -9,20 +9,21 @@ use std::process;
 use std::thread;
 use std::time::{Duration, Instant};
 
-/// So long a server waits for one before it that lives.
+/// How long a server waits for one before it that lives.
 const PATIENCE: Duration = Duration::from_secs(10);
 
-/// So long it waits for the master of one that is gone.
+/// How long it waits for the master of one that is gone.
 const LONG_PATIENCE: Duration = Duration::from_secs(60);
 
-/// So long between two tries.
+/// The time between two tries.
 const PAUSE: Duration = Duration::from_millis(20);
 
 /// Takes the lock of a store, in a file beside it; waits a while where another has it, such as a master whose server was killed.
 /// The lock is held until the file that is given back is closed, in this process and in those that it starts from here on: so it
 /// is held as long as a master lives that this server starts.
 pub fn take_lock(path: &Path) -> io::Result<File> {
-    let mut file = File::options().create(true).truncate(false).read(true).write(true).open(path)?;
+    let opened = File::options().create(true).truncate(false).read(true).write(true).open(path);
+    let mut file = opened.map_err(|error| not_opened(path, &error))?;
     let begun = Instant::now();
     loop {
         match file.try_lock() {
@@ -30,7 +31,7 @@ pub fn take_lock(path: &Path) -> io::Result<File> {
             Err(TryLockError::Error(error)) => return Err(error),
             Err(TryLockError::WouldBlock) if begun.elapsed() < patience(path) => thread::sleep(PAUSE),
             Err(TryLockError::WouldBlock) => {
-                return Err(io::Error::new(ErrorKind::WouldBlock, format!("another server holds {}", path.display())));
+                return Err(io::Error::new(ErrorKind::WouldBlock, format!("another server holds {}: end that one first", path.display())));
             }
         }
     }
@@ -38,6 +39,15 @@ pub fn take_lock(path: &Path) -> io::Result<File> {
     file.set_len(0)?;
     writeln!(file, "{}", process::id())?;
     Ok(file)
+}
+
+fn not_opened(path: &Path, error: &io::Error) -> io::Error {
+    let cure = match error.kind() {
+        ErrorKind::NotFound => "make its folder first, for this user alone",
+        ErrorKind::PermissionDenied => "start this as the user whose it is",
+        _ => "it has to be a file that this user may write",
+    };
+    io::Error::new(error.kind(), format!("opening {}: {error}: {cure}", path.display()))
 }
 
 // The file has the number of the process of the server that took the lock.

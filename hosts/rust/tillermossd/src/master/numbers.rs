@@ -7,7 +7,7 @@
 
 use crate::etcd::Rows;
 use crate::etcd::decisions::number;
-use crate::etcd::gateway::{Compare, Deed};
+use crate::etcd::gateway::{Compare, Operation};
 use anyhow::{Context, Result, bail};
 use siphasher::sip::SipHasher24;
 use std::collections::BTreeSet;
@@ -17,10 +17,10 @@ use std::io::{ErrorKind, Write};
 use std::path::{Path, PathBuf};
 use tempfile::NamedTempFile;
 
-/// Behind the last number of a client.
+/// After the last number of a client.
 const END: u64 = 1 << 53;
 
-/// So many numbers are written down at once.
+/// How many numbers are written down at once.
 const AHEAD: u64 = 100;
 
 /// The first line of the file, and that of files without epochs, which earlier servers wrote.
@@ -44,7 +44,7 @@ impl Epochs {
     }
 }
 
-/// So often it is tried to take numbers beside rows, where others have taken some meanwhile.
+/// How often it is tried to take numbers beside rows, where others have taken some meanwhile.
 const TRIES: usize = 4;
 
 /// The numbers that were taken and not given yet, and the key by which a number's token is made.
@@ -60,7 +60,7 @@ pub struct Numbers {
     ended: BTreeSet<u64>,
 }
 
-/// Numbers that one write has taken: the first of them, the one behind the last, and how many are given.
+/// Numbers that one write has taken: the first of them, the one after the last, and how many are given.
 #[derive(Clone, Copy, Debug)]
 struct Taken {
     from: u64,
@@ -298,7 +298,7 @@ impl Beside {
                 }
             };
             let taken = numbers.more(more);
-            let deeds = [Deed::Put(self.key.clone(), numbers.text(taken.to, epochs).into_bytes())];
+            let deeds = [Operation::Put(self.key.clone(), numbers.text(taken.to, epochs).into_bytes())];
             let written = self.rows.gateway.change(&[Compare::Changed(&self.key, changed), self.rows.mastership.fence()], &deeds);
             self.changed = written.as_ref().ok().copied().flatten();
             match written {

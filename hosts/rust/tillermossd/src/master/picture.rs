@@ -13,7 +13,7 @@ use std::time::{Duration, Instant};
 
 /// A node, without its content.
 #[derive(Clone, Debug, PartialEq, Eq)]
-pub struct Node {
+pub struct PictureNode {
     pub instance: u64,
     pub is_file: bool,
     pub is_ephemeral: bool,
@@ -25,15 +25,17 @@ pub struct Node {
 
 /// A session that is live.
 #[derive(Clone, Debug)]
-pub struct Session {
+pub struct PictureSession {
     pub principal: Arc<str>,
     /// Up to here the client was last given a lease; None where this server hasn't seen one.
     pub lease: Option<Instant>,
+    /// The greatest number of the calls that went on to this master: what is greater it hasn't done.
+    last_call: u64,
 }
 
 /// A lock that isn't free.
 #[derive(Clone, Debug, Default, PartialEq, Eq)]
-pub struct Lock {
+pub struct PictureLock {
     pub is_shared: bool,
     /// Each client as often as it holds it; none where the lock-delay of one that is gone runs.
     pub holders: Vec<u64>,
@@ -42,21 +44,19 @@ pub struct Lock {
 
 /// A call that came, and has no reply yet.
 #[derive(Clone, Debug)]
-pub struct Waiting {
+pub struct WaitingCall {
     pub number: u64,
     pub act: Act,
     pub name: String,
     pub since: Instant,
     principal: Arc<str>,
-    nodes: u64,
     bytes: u64,
 }
 
-/// How much there is, of what limits are for.
+/// How many bytes there are, and of whom, where that is known.
 #[derive(Clone, Debug, Default)]
 struct Sums {
-    nodes: u64,
-    bytes: u64,
+    all: u64,
     of_principals: HashMap<Arc<str>, u64>,
 }
 
@@ -70,19 +70,25 @@ pub struct Picture {
     /// When the master came up, and of which clients it was heard since.
     pub up_since: Option<Instant>,
     pub heard: BTreeSet<u64>,
-    pub nodes: BTreeMap<String, Node>,
-    pub sessions: BTreeMap<u64, Session>,
-    pub locks: BTreeMap<u64, Lock>,
-    pub waiting: BTreeMap<u64, Waiting>,
+    pub nodes: BTreeMap<String, PictureNode>,
+    pub sessions: BTreeMap<u64, PictureSession>,
+    pub locks: BTreeMap<u64, PictureLock>,
+    pub waiting: BTreeMap<u64, WaitingCall>,
     names: HashMap<u64, String>,
     // (of each right its client and its name, which is kept once; and of each name its rights)
     rights: HashMap<u64, (u64, Arc<str>)>,
     caching: HashMap<Arc<str>, BTreeSet<u64>>,
     written: Sums,
-    reserved: Sums,
+    asked_for: Sums,
 }
 
-impl Waiting {
+impl PictureSession {
+    fn of(principal: &str) -> PictureSession {
+        PictureSession { principal: principal.into(), lease: None, last_call: 0 }
+    }
+}
+
+impl WaitingCall {
     /// For whom its client acts.
     #[must_use]
     pub fn principal(&self) -> &str {
@@ -91,17 +97,15 @@ impl Waiting {
 }
 
 impl Sums {
-    fn add(&mut self, principal: Option<&Arc<str>>, nodes: u64, bytes: u64) {
-        self.nodes += nodes;
-        self.bytes += bytes;
+    fn add(&mut self, principal: Option<&Arc<str>>, bytes: u64) {
+        self.all += bytes;
         if let Some(principal) = principal.filter(|_| bytes > 0) {
             *self.of_principals.entry(principal.clone()).or_default() += bytes;
         }
     }
 
-    fn remove(&mut self, principal: Option<&Arc<str>>, nodes: u64, bytes: u64) {
-        self.nodes -= nodes.min(self.nodes);
-        self.bytes -= bytes.min(self.bytes);
+    fn remove(&mut self, principal: Option<&Arc<str>>, bytes: u64) {
+        self.all -= bytes.min(self.all);
         let Some(sum) = principal.and_then(|principal| self.of_principals.get_mut(principal)) else {
             return;
         };
@@ -130,14 +134,15 @@ impl Picture {
         let mut rows = nodes.query([])?;
         while let Some(row) = rows.next()? {
             let (is_file, is_ephemeral) = (row.get::<_, u64>(2)? == 0, row.get::<_, u64>(3)? == 1);
-            let node = Node { instance: row.get(1)?, is_file, is_ephemeral, generation: row.get(4)?, length: row.get(5)?, writer: None };
+            let node =
+                PictureNode { instance: row.get(1)?, is_file, is_ephemeral, generation: row.get(4)?, length: row.get(5)?, writer: None };
             self.put(row.get(0)?, node);
         }
         let mut sessions = connection.prepare("SELECT client, principal FROM sessions WHERE live = 1")?;
         let mut rows = sessions.query([])?;
         while let Some(row) = rows.next()? {
             let principal: String = row.get(1)?;
-            self.sessions.insert(row.get(0)?, Session { principal: principal.into(), lease: None });
+            self.sessions.insert(row.get(0)?, PictureSession::of(&principal));
         }
         self.read_locks(connection)
     }
@@ -148,10 +153,10 @@ impl Picture {
         for (name, node) in &found.nodes {
             let (is_file, is_ephemeral) = (node.kind == KINDS[0], node.life == LIVES[1]);
             let (instance, generation, length) = (node.instance, node.content_generation, node.content.length());
-            picture.put(name.clone(), Node { instance, is_file, is_ephemeral, generation, length, writer: None });
+            picture.put(name.clone(), PictureNode { instance, is_file, is_ephemeral, generation, length, writer: None });
         }
         for (client, session) in found.sessions.iter().filter(|(_, session)| session.live) {
-            picture.sessions.insert(*client, Session { principal: session.principal.as_str().into(), lease: None });
+            picture.sessions.insert(*client, PictureSession::of(&session.principal));
         }
         for ((instance, client, _), row) in &found.locks {
             let Some(name) = picture.names.get(instance) else { continue };
@@ -213,19 +218,19 @@ impl Picture {
     /// How many bytes the contents have.
     #[must_use]
     pub fn bytes(&self) -> u64 {
-        self.written.bytes
+        self.written.all
     }
 
-    fn put(&mut self, name: String, node: Node) {
+    fn put(&mut self, name: String, node: PictureNode) {
         self.take(&name);
-        self.written.add(node.writer.as_ref(), 1, node.length);
+        self.written.add(node.writer.as_ref(), node.length);
         self.names.insert(node.instance, name.clone());
         self.nodes.insert(name, node);
     }
 
     fn take(&mut self, name: &str) {
         if let Some(old) = self.nodes.remove(name) {
-            self.written.remove(old.writer.as_ref(), 1, old.length);
+            self.written.remove(old.writer.as_ref(), old.length);
             self.names.remove(&old.instance);
         }
     }
@@ -237,7 +242,7 @@ impl Picture {
             Printed::Recovered => self.is_recovering = false,
             Printed::Started(client) => {
                 let principal = principal.cloned().unwrap_or_else(|| "".into());
-                self.sessions.insert(client, Session { principal, lease: None });
+                self.sessions.insert(client, PictureSession { principal, ..PictureSession::of("") });
             }
             Printed::Ended(client) => self.end(client),
             Printed::Put(client, node) => self.apply(client, node, principal),
@@ -262,7 +267,8 @@ impl Picture {
         self.rights.clear();
         self.caching.clear();
         self.waiting.clear();
-        self.reserved = Sums::default();
+        self.asked_for = Sums::default();
+        self.sessions.values_mut().for_each(|session| session.last_call = 0);
     }
 
     fn end(&mut self, client: u64) {
@@ -282,7 +288,7 @@ impl Picture {
         let old = self.nodes.get(name).filter(|old| (old.instance, old.generation) == (instance, generation));
         let caller = || self.sessions.get(&client).map(|session| session.principal.clone()).or(principal.cloned());
         let writer = old.map_or_else(caller, |old| old.writer.clone());
-        self.put(name.to_owned(), Node { instance, is_file, is_ephemeral, generation, length, writer });
+        self.put(name.to_owned(), PictureNode { instance, is_file, is_ephemeral, generation, length, writer });
     }
 
     fn grant(&mut self, right: u64, client: u64, name: &str) {
@@ -332,48 +338,57 @@ impl Picture {
         }
     }
 
-    /// A call that may change or wait comes by: notes it, or says which limit stands against it. What it would add is counted until
-    /// it ends.
+    /// Whether a call is for the master that is up, and of a client that has a session; else that master refuses it.
+    #[must_use]
+    pub fn is_present(&self, deed: &Deed) -> bool {
+        self.epoch == deed.epoch && self.sessions.contains_key(&deed.client)
+    }
+
+    /// A call that may change or wait comes by: notes it, or says that its principal's limit stands against it. What it would add is
+    /// counted until it ends. A call that the master may have done is let in whatever it adds: only the master knows what came of it.
+    /// (All calls to a master come by here, so that one of a greater number than those that went on before is new to it.)
     pub fn admit(&mut self, deed: &Deed, principal: &Arc<str>, limits: &Limits) -> Result<(), String> {
         let again = self.waiting.get(&deed.client).filter(|waiting| waiting.number == deed.number);
         let since = again.map_or_else(Instant::now, |waiting| waiting.since);
         self.answer(deed.client, None);
-        let old = self.nodes.get(deed.name);
-        let (nodes, bytes) = match deed.act {
-            Act::Create(length) if old.is_none() => (1, length),
-            Act::Set(length) => (0, length.saturating_sub(old.map_or(0, |old| old.length))),
-            _ => (0, 0),
-        };
-        let checks = [
-            ("nodes", nodes, self.written.nodes + self.reserved.nodes, limits.nodes),
-            ("bytes", bytes, self.written.bytes + self.reserved.bytes, limits.bytes),
-            ("bytes_of_a_principal", bytes, self.written.of(principal) + self.reserved.of(principal), limits.bytes_of_a_principal),
-        ];
-        for (limit, more, present, most) in checks {
-            if more > 0 && present + more > most {
-                return Err(format!("the limit {limit} = {most} leaves no room for {more} more"));
-            }
+        let (bytes, most) = (self.growth(deed), limits.bytes_of_a_principal);
+        let is_new = self.is_present(deed) && self.sessions.get(&deed.client).is_some_and(|session| session.last_call < deed.number);
+        if is_new && bytes > 0 && self.written.of(principal) + self.asked_for.of(principal) + bytes > most {
+            return Err(format!("the limit bytes_of_a_principal = {most} leaves no room for {bytes} more"));
         }
-        self.reserved.add(Some(principal), nodes, bytes);
+        if let Some(session) = self.sessions.get_mut(&deed.client).filter(|_| is_new) {
+            session.last_call = deed.number;
+        }
+        self.asked_for.add(Some(principal), bytes);
         let (name, principal) = (deed.name.to_owned(), principal.clone());
-        let waiting = Waiting { number: deed.number, act: deed.act, name, since, principal, nodes, bytes };
+        let waiting = WaitingCall { number: deed.number, act: deed.act, name, since, principal, bytes };
         self.waiting.insert(deed.client, waiting);
         Ok(())
     }
 
+    // The bytes that a call adds, where it is done.
+    fn growth(&self, deed: &Deed) -> u64 {
+        let old = self.nodes.get(deed.name);
+        match deed.act {
+            Act::Create(length) if old.is_none() => length,
+            Act::Set(length) => length.saturating_sub(old.map_or(0, |old| old.length)),
+            _ => 0,
+        }
+    }
+
     /// The call of this number has ended, or whichever the client has.
     pub fn answer(&mut self, client: u64, number: Option<u64>) {
-        let is_it = |waiting: &Waiting| number.is_none_or(|number| number == waiting.number);
+        let is_it = |waiting: &WaitingCall| number.is_none_or(|number| number == waiting.number);
         if self.waiting.get(&client).is_some_and(is_it)
             && let Some(ended) = self.waiting.remove(&client)
         {
-            self.reserved.remove(Some(&ended.principal), ended.nodes, ended.bytes);
+            self.asked_for.remove(Some(&ended.principal), ended.bytes);
         }
     }
 
     /// For which clients a call waits: those that hold the lock, or may have the node or its parent in their cache.
     #[must_use]
-    pub fn waits_for(&self, client: u64, waiting: &Waiting) -> Vec<u64> {
+    pub fn waits_for(&self, client: u64, waiting: &WaitingCall) -> Vec<u64> {
         let holder = |right: &u64| self.rights.get(right).map(|(client, _)| *client);
         let of_caches = |name: &str| self.caching.get(name).into_iter().flatten().filter_map(holder).collect::<Vec<u64>>();
         let mut found = match waiting.act {
@@ -432,7 +447,7 @@ mod tests {
         let found = crate::etcd::found::tests::found();
         let (picture, by_tables) = (Picture::of_found(&found), Picture::of(&found.tables().unwrap()).unwrap());
         assert_eq!((picture.nodes.len(), picture.bytes()), (2, 2));
-        assert_eq!(picture.locks[&4], Lock { is_shared: false, holders: vec![1], generation: 7 });
+        assert_eq!(picture.locks[&4], PictureLock { is_shared: false, holders: vec![1], generation: 7 });
         assert_eq!((&picture.nodes, &picture.locks), (&by_tables.nodes, &by_tables.locks));
         assert_eq!(picture.sessions_of("ann"), by_tables.sessions_of("ann"));
     }
@@ -442,7 +457,7 @@ mod tests {
         let picture = cell(LINES);
         assert_eq!((picture.epoch, picture.sessions.len(), picture.rights(), picture.bytes()), (1, 2, 1, 3));
         assert_eq!(picture.nodes["/ls/c/f"].length, 3);
-        assert_eq!(picture.locks[&4], Lock { is_shared: false, holders: vec![1], generation: 1 });
+        assert_eq!(picture.locks[&4], PictureLock { is_shared: false, holders: vec![1], generation: 1 });
         let rows: &[(Printed, usize, usize, usize, usize)] = &[
             (Printed::Gone("/ls/c/f"), 0, 2, 1, 0),
             (Printed::Freed(1, 4), 1, 2, 1, 0),
@@ -475,28 +490,78 @@ mod tests {
         assert!(!picture.waiting.contains_key(&1));
     }
 
+    // Which limit refuses a call; the numbers of calls rise.
+    fn refused(picture: &mut Picture, client: u64, number: u64, name: &str, act: Act, most: u64) -> Option<String> {
+        let limits = Limits { bytes_of_a_principal: most, ..Limits::default() };
+        let deed = Deed { number, ..deed(client, name, act) };
+        let told = picture.admit(&deed, &"ann".into(), &limits).err();
+        told.map(|text| text.split(' ').nth(2).unwrap().to_owned())
+    }
+
+    const REFUSED: Option<&str> = Some("bytes_of_a_principal");
+
     #[test]
-    fn limits_refuse_what_goes_beyond_them() {
-        let limits = Limits { nodes: 2, bytes: 10, bytes_of_a_principal: 8, ..Limits::default() };
+    fn what_a_principal_writes_has_a_limit() {
         let rows = [
-            ("ann", "/ls/c/f", Act::Set(8), None),
-            ("ann", "/ls/c/f", Act::Set(9), Some("bytes_of_a_principal")),
-            ("bob", "/ls/c/f", Act::Set(10), None),
-            ("bob", "/ls/c/f", Act::Set(11), Some("bytes")),
-            ("ann", "/ls/c/g", Act::Create(5), None),
-            ("ann", "/ls/c/g", Act::Create(6), Some("bytes_of_a_principal")),
-            ("ann", "/ls/c/f", Act::Create(99), None),
-            ("ann", "/ls/c/f", Act::Delete, None),
+            ("/ls/c/f", Act::Set(8), None),
+            ("/ls/c/f", Act::Set(9), REFUSED),
+            ("/ls/c/g", Act::Create(5), None),
+            ("/ls/c/g", Act::Create(6), REFUSED),
+            ("/ls/c/f", Act::Create(99), None),
+            ("/ls/c/f", Act::Delete, None),
         ];
-        for (principal, name, act, wanted) in rows {
-            let refused = cell(LINES).admit(&deed(1, name, act), &principal.into(), &limits).err();
-            assert_eq!(refused.as_deref().and_then(|text| text.split(' ').nth(2)), wanted, "{principal} {act:?}");
+        for (name, act, wanted) in rows {
+            assert_eq!(refused(&mut cell(LINES), 1, 5, name, act, 8).as_deref(), wanted, "{act:?}");
         }
+        // (the limits of the cell are its master's)
+        let limits = Limits { nodes: 0, bytes: 0, locks: Some(0), ..Limits::default() };
+        for act in [Act::Create(1), Act::Acquire(4)] {
+            assert_eq!(cell(LINES).admit(&deed(1, "/ls/c/g", act), &"ann".into(), &limits), Ok(()), "{act:?}");
+        }
+    }
+
+    #[test]
+    fn what_is_asked_for_counts_until_it_ends() {
         let mut picture = cell(LINES);
-        let other = Arc::from("ann");
-        picture.admit(&deed(1, "/ls/c/g", Act::Create(0)), &other, &limits).unwrap();
-        assert!(picture.admit(&deed(2, "/ls/c/h", Act::Create(0)), &other, &limits).unwrap_err().contains("nodes"));
-        picture.answer(1, None);
-        picture.admit(&deed(2, "/ls/c/h", Act::Create(0)), &other, &limits).unwrap();
+        let mut ask = |client, number| refused(&mut picture, client, number, "/ls/c/g", Act::Create(5), 8);
+        assert_eq!((ask(1, 1), ask(2, 1).as_deref()), (None, REFUSED));
+        picture.answer(1, Some(1));
+        assert_eq!(refused(&mut picture, 2, 1, "/ls/c/g", Act::Create(5), 8), None);
+    }
+
+    // A Set of five bytes is let in, and done; then another shrinks the file, and the room is filled.
+    #[test]
+    fn a_call_that_may_be_done_is_never_refused() {
+        let written = |name, instance, generation, length| {
+            Printed::Put(1, Put { name, instance, is_file: true, is_ephemeral: false, generation, length })
+        };
+        let filled = || {
+            let mut picture = cell(LINES);
+            assert_eq!(refused(&mut picture, 1, 7, "/ls/c/f", Act::Set(5), 8), None);
+            for line in [written("/ls/c/f", 4, 2, 5), written("/ls/c/f", 4, 3, 0), written("/ls/c/g", 5, 1, 8)] {
+                picture.follow(line, None);
+            }
+            picture
+        };
+        let rows = [
+            (filled(), 1, 7, None, "the same again"),
+            (filled(), 1, 6, None, "one before it, which came late"),
+            (filled(), 1, 8, REFUSED, "the next one"),
+            (filled(), 2, 1, REFUSED, "the first one of another client"),
+            (filled(), 3, 1, None, "one without a session"),
+        ];
+        for (mut picture, client, number, wanted, what) in rows {
+            assert_eq!(refused(&mut picture, client, number, "/ls/c/f", Act::Set(5), 8).as_deref(), wanted, "{what}");
+        }
+        // (what is refused goes to no master, however often it comes)
+        let mut picture = filled();
+        let twice = [(); 2].map(|()| refused(&mut picture, 1, 8, "/ls/c/f", Act::Set(5), 8));
+        assert!(twice.iter().all(|told| told.as_deref() == REFUSED), "{twice:?}");
+        // (another master has done none of its calls, and refuses one to the last)
+        picture.follow(Printed::Up(2), None);
+        assert_eq!(refused(&mut picture, 1, 7, "/ls/c/f", Act::Set(5), 8), None);
+        let limits = Limits { bytes_of_a_principal: 8, ..Limits::default() };
+        let of_it = Deed { epoch: 2, number: 7, ..deed(1, "/ls/c/f", Act::Set(5)) };
+        assert!(picture.admit(&of_it, &"ann".into(), &limits).is_err());
     }
 }

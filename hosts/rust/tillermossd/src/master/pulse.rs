@@ -5,7 +5,7 @@ use std::time::Duration;
 /// Between two ticks there are so many milliseconds at least.
 const LEAST: u64 = 5;
 
-/// How many milliseconds behind a frame in which the store refused the next tick is due: each time in a row twice as many, from the
+/// How many milliseconds after a frame in which the store refused the next tick is due: each time in a row twice as many, from the
 /// first on until the last. A disk that is full has room a little later; meanwhile it is ticks that answer Beats, which are due three
 /// seconds before a lease ends.
 const REFUSED: (u64, u64) = (100, 2000);
@@ -20,7 +20,7 @@ pub struct Pulse {
 }
 
 impl Pulse {
-    /// Behind the first frame's answer, whose moment this was, and whose mark told this deadline, if any.
+    /// After the first frame's answer, whose moment this was, and whose mark told this deadline, if any.
     pub fn new(moment: u64, next: Option<u64>) -> Pulse {
         Pulse { last: moment, next, pause: REFUSED.0 }
     }

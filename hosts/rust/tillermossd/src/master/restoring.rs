@@ -7,10 +7,10 @@ use anyhow::{Context, Result, bail};
 use std::fs::{self, File};
 use std::path::Path;
 
-/// So much higher numbers go on that the copy doesn't know: more than a cell gives between a copy and its restoring.
+/// How much higher numbers go on that the copy doesn't know: more than a cell gives between a copy and its restoring.
 const GAP: u64 = 1 << 32;
 
-/// So much higher clients' numbers go on where nobody knows the last one.
+/// How much higher clients' numbers go on where nobody knows the last one.
 const CLIENTS: u64 = 1 << 20;
 
 /// What is true of the lost time is true no more: its sessions are ended, its locks free, and no epoch, instance or generation that
@@ -28,10 +28,11 @@ pub fn restore(copy: &Path, path: &Path) -> Result<()> {
     if path.exists() || beside(path, "wal").exists() {
         bail!("{} or its log is there: move both away first", path.display());
     }
-    let folder = store::copy_into(copy, path).with_context(|| format!("copying {}", copy.display()))?;
+    let at = || format!("{}: give the file that tillermoss backup wrote", copy.display());
+    let folder = store::copy_into(copy, path).with_context(at)?;
     let copied = store::copied(&folder);
-    let connection = store::open(&copied)?;
-    let head = Head::read(&connection)?;
+    let connection = store::open(&copied).with_context(at)?;
+    let head = Head::read(&connection).with_context(at)?;
     let last: u64 = connection.query_row("SELECT COALESCE(MAX(client), 0) FROM sessions", [], |row| row.get(0))?;
     let (mut numbers, coming) = numbers(path, last, head.coming)?;
     let script = FORGET.replace("?GAP", &GAP.to_string()).replace("?EPOCH", &coming.to_string());

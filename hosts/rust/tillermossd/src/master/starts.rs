@@ -2,7 +2,7 @@
 
 use std::collections::HashMap;
 
-/// So often a master tells a client that its session has begun; a client whose answers get lost asks again.
+/// How often a master tells a client that its session has begun; a client whose answers get lost asks again.
 const MOST: u8 = 8;
 
 /// How often a master told each client that its session has begun. A master answers a Start of a session that lives by prolonging it,

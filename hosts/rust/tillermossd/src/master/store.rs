@@ -14,10 +14,10 @@ use tempfile::TempDir;
 /// The version of stores that a master carries over, which takes an epoch.
 const OLD_VERSION: u64 = 1;
 
-/// Behind a path's last letters: SQLite's log.
+/// After a path's last letters: SQLite's log.
 const LOG: &str = "wal";
 
-/// So many bytes has a page of a store that the server makes.
+/// How many bytes has a page of a store that the server makes.
 const PAGE: u64 = 1024;
 
 /// A database that has more bytes has a table.

@@ -7,16 +7,16 @@ use crate::net::crowd::SMALL;
 use std::collections::{HashMap, VecDeque};
 use std::sync::{Arc, Mutex, MutexGuard, PoisonError};
 
-/// So many changes of one principal the master has at once, and so many of all.
+/// How many changes of one principal the master has at once, and so many of all.
 const SHARE: usize = 1024;
 const ALL: usize = 3584;
 
 /// Those that the master has, and those that are kept.
 #[derive(Debug, Default)]
-pub struct Changes(Mutex<State>);
+pub struct Changes(Mutex<ChangesState>);
 
 #[derive(Debug, Default)]
-struct State {
+struct ChangesState {
     count: usize,
     clients: HashMap<u64, Out>,
     principals: HashMap<Arc<str>, Share>,
@@ -36,18 +36,18 @@ struct Out {
 #[derive(Debug, Default)]
 struct Share {
     count: usize,
-    kept: VecDeque<Kept>,
+    kept: VecDeque<KeptChange>,
 }
 
 /// A change that is kept: its number, and over which binding of its client it came.
 #[derive(Debug)]
-struct Kept {
+struct KeptChange {
     message: Message,
     number: u64,
     binding: u64,
 }
 
-impl State {
+impl ChangesState {
     fn has_room(&self, principal: &Arc<str>) -> bool {
         self.count < ALL && self.principals.get(principal).is_none_or(|share| share.count < SHARE)
     }
@@ -59,7 +59,7 @@ impl State {
         message
     }
 
-    fn keep(&mut self, mut kept: Kept) {
+    fn keep(&mut self, mut kept: KeptChange) {
         let message = &mut kept.message;
         if message.bytes.len() <= SMALL {
             // (the room that small messages of all principals share isn't held meanwhile, but the place among those of its connection)
@@ -110,7 +110,7 @@ impl State {
 }
 
 impl Changes {
-    fn state(&self) -> MutexGuard<'_, State> {
+    fn state(&self) -> MutexGuard<'_, ChangesState> {
         self.0.lock().unwrap_or_else(PoisonError::into_inner)
     }
 
@@ -125,7 +125,7 @@ impl Changes {
         if state.has_room(&message.principal) {
             return Some(state.go(message, number));
         }
-        state.keep(Kept { message, number, binding });
+        state.keep(KeptChange { message, number, binding });
         None
     }
 

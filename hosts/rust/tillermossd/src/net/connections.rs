@@ -6,13 +6,14 @@ use crate::master::lines::{Lines, Message};
 use crate::master::numbers::{Given, Numbers};
 use crate::master::picture::Picture;
 use crate::net::changes::Changes;
-use crate::net::crowd::{Crowd, Rates, SMALL, Seat, UNIT};
-use crate::net::doors::{Door, Guest, Shown, Stream};
-use crate::net::outgoing::Outgoing;
+use crate::net::crowd::{Crowd, CrowdSeat, Rates, SMALL, UNIT};
+use crate::net::doors::{Credentials, Door, Guest};
+use crate::net::outgoing::Outbox;
 use crate::net::routes::Routes;
 use crate::settings::Limits;
 use anyhow::{Context, Result};
 use host_wire::lobby::Lobby;
+use host_wire::sockets::Stream;
 use host_wire::trust::worded;
 use host_wire::{Act, Asked, Blocks, GREETING_LIMIT, Hello, Notice, REQUEST_LIMIT, Text, TurnedAway, Welcome, framed, write_store_refused};
 use std::collections::{BTreeSet, HashSet};
@@ -25,19 +26,19 @@ use tokio::task::spawn_blocking;
 use tokio::time::{sleep, timeout};
 use tracing::{debug, error, info, warn};
 
-/// So long after one that can't be taken the next is tried.
+/// How long after one that can't be taken the next is tried.
 const PAUSE: Duration = Duration::from_millis(20);
 
-/// So long the greeting may take, with all that stands before it.
+/// How long the greeting may take, with all that stands before it.
 const GREETING: Duration = Duration::from_secs(5);
 
-/// So many messages of one connection wait for the master; it is read no further meanwhile.
+/// How many messages of one connection wait for the master; it is read no further meanwhile.
 const PLACES: usize = 4;
 
-/// So many bytes of messages that aren't large wait for the master in all.
+/// How many bytes of messages that aren't large wait for the master in all.
 const ROOM: usize = 64 << 20;
 
-/// So long a large message may take from when it has room until it is whole: others wait for that room.
+/// How long a large message may take from when it has room until it is whole: others wait for that room.
 const WHOLE: Duration = Duration::from_secs(30);
 
 /// Why the connection of a client is cut off that an operator has ended.
@@ -81,7 +82,7 @@ pub struct Hall {
 struct Bound {
     client: u64,
     token: u64,
-    seat: Seat,
+    seat: CrowdSeat,
 }
 
 /// Takes connections until the server goes, each with a task of its own.
@@ -227,12 +228,12 @@ impl Hall {
     }
 
     // Whom the first block binds the connection to.
-    async fn bind(self: &Arc<Self>, first: &[u8], shown: &Shown) -> Result<Bound, TurnedAway> {
-        if matches!(shown, Shown::Other(_)) {
+    async fn bind(self: &Arc<Self>, first: &[u8], shown: &Credentials) -> Result<Bound, TurnedAway> {
+        if matches!(shown, Credentials::Other(_)) {
             return Err(TurnedAway::BadPrincipal);
         }
         let hello = Hello::read(first)?;
-        if matches!(shown, Shown::Principal(name) if name != hello.principal()) {
+        if matches!(shown, Credentials::Principal(name) if name != hello.principal()) {
             return Err(TurnedAway::OtherPrincipal);
         }
         if let Hello::Again { principal, client, token } = &hello
@@ -272,7 +273,7 @@ impl Hall {
         blocks.set_limit(REQUEST_LIMIT);
         let (client, principal) = (bound.client, &*bound.seat.principal);
         let welcome = Welcome { client, token: bound.token };
-        let outgoing = Arc::new(Outgoing::new(&bound.seat.principal));
+        let outgoing = Arc::new(Outbox::new(&bound.seat.principal));
         let (read, write) = tokio::io::split(stream);
         let binding = self.routes.bind(client, outgoing.clone(), &Welcome::write(&Ok(welcome)));
         if self.ended().contains(&client) {
@@ -303,7 +304,7 @@ impl Hall {
         mut blocks: Blocks,
         bound: &Bound,
         binding: u64,
-        outgoing: &Outgoing,
+        outgoing: &Outbox,
     ) -> Option<&'static str> {
         let mut rates = Rates::new(self.limits().pace_of_a_client(), Instant::now());
         let places = Arc::new(Semaphore::new(PLACES));
@@ -359,16 +360,17 @@ impl Hall {
         Ok(block.map(|block| (block, room)))
     }
 
-    // What may go to the master now. A call that goes beyond a limit is answered at once; a change beyond its principal's share is kept.
+    // What may go to the master now. A call that goes beyond what its principal may write is answered at once; a change beyond its
+    // principal's share of those that wait is kept.
     // (One that waits for a lock doesn't count, nor one of another epoch or without a session: the master refuses these.)
-    fn let_in(&self, asked: &Asked, message: Message, binding: u64, outgoing: &Outgoing) -> Option<Message> {
+    fn let_in(&self, asked: &Asked, message: Message, binding: u64, outgoing: &Outbox) -> Option<Message> {
         let Some(deed) = asked.deed() else {
             return Some(message);
         };
         let (admitted, is_counted) = {
             let mut picture = self.picture();
-            let is_present = picture.epoch == deed.epoch && picture.sessions.contains_key(&message.client);
-            (picture.admit(&deed, &message.principal, &self.limits()), is_present && !matches!(deed.act, Act::Acquire(_)))
+            let is_counted = picture.is_present(&deed) && !matches!(deed.act, Act::Acquire(_));
+            (picture.admit(&deed, &message.principal, &self.limits()), is_counted)
         };
         if let Err(reason) = admitted {
             self.metrics.limited();

@@ -11,7 +11,7 @@ use tokio::sync::{OwnedSemaphorePermit, Semaphore};
 /// A block of more bytes has room of its own before it is read.
 pub const SMALL: usize = 16 << 10;
 
-/// So many bytes large blocks have in all, from before they are read until the master takes them; and those of one principal.
+/// How many bytes large blocks have in all, from before they are read until the master takes them; and those of one principal.
 const ROOM: usize = 32 << 20;
 const ROOM_OF_A_PRINCIPAL: usize = 8 << 20;
 
@@ -21,19 +21,19 @@ pub const UNIT: usize = 1 << 10;
 /// Those that are there.
 #[derive(Debug)]
 pub struct Crowd {
-    state: Mutex<State>,
+    state: Mutex<CrowdState>,
     room: Arc<Semaphore>,
 }
 
 #[derive(Debug, Default)]
-struct State {
+struct CrowdState {
     count: usize,
-    principals: HashMap<Arc<str>, Share>,
+    principals: HashMap<Arc<str>, PrincipalShare>,
 }
 
 /// Those of one principal, and how much they send.
 #[derive(Debug)]
-struct Share {
+struct PrincipalShare {
     count: usize,
     rates: Rates,
     room: Arc<Semaphore>,
@@ -57,7 +57,7 @@ pub struct Pace {
 
 /// The seat of one connection, which is left when this is dropped.
 #[derive(Debug)]
-pub struct Seat {
+pub struct CrowdSeat {
     crowd: Arc<Crowd>,
     /// For whom its client acts.
     pub principal: Arc<str>,
@@ -99,7 +99,7 @@ impl Default for Crowd {
 }
 
 impl Crowd {
-    fn state(&self) -> MutexGuard<'_, State> {
+    fn state(&self) -> MutexGuard<'_, CrowdState> {
         self.state.lock().unwrap_or_else(PoisonError::into_inner)
     }
 
@@ -109,13 +109,13 @@ impl Crowd {
     }
 
     /// One more comes, where the limits let it in.
-    pub fn enter(self: &Arc<Crowd>, principal: &str, limits: &Limits) -> Result<Seat, TurnedAway> {
+    pub fn enter(self: &Arc<Crowd>, principal: &str, limits: &Limits) -> Result<CrowdSeat, TurnedAway> {
         let mut state = self.state();
         if state.count >= limits.connections {
             return Err(TurnedAway::Full);
         }
         let key = state.principals.get_key_value(principal).map_or_else(|| principal.into(), |(key, _)| key.clone());
-        let new = || Share {
+        let new = || PrincipalShare {
             count: 0,
             rates: Rates::new(limits.pace_of_a_principal(), Instant::now()),
             room: Arc::new(Semaphore::new(ROOM_OF_A_PRINCIPAL / UNIT)),
@@ -127,11 +127,11 @@ impl Crowd {
         share.count += 1;
         let room = share.room.clone();
         state.count += 1;
-        Ok(Seat { crowd: self.clone(), principal: key, room })
+        Ok(CrowdSeat { crowd: self.clone(), principal: key, room })
     }
 }
 
-impl Seat {
+impl CrowdSeat {
     /// Takes a message of so many bytes from what the principal's clients may send; how long to wait before it is let in.
     pub fn take(&self, bytes: usize, limits: &Limits) -> Duration {
         let mut state = self.crowd.state();
@@ -154,7 +154,7 @@ impl Seat {
     }
 }
 
-impl Drop for Seat {
+impl Drop for CrowdSeat {
     fn drop(&mut self) {
         let mut state = self.crowd.state();
         state.count -= 1;
@@ -173,7 +173,7 @@ mod tests {
     use tokio::time::timeout;
 
     // Of how many parts the room is that a block of so many bytes gets at once.
-    async fn parts(seat: &Seat, bytes: usize) -> Option<usize> {
+    async fn parts(seat: &CrowdSeat, bytes: usize) -> Option<usize> {
         timeout(Duration::from_millis(20), seat.room(bytes)).await.ok().map(|room| room.len())
     }
 

@@ -1,27 +1,19 @@
 //! Where clients come in: the sockets that the server listens at, and whom each connection shows.
 
-use crate::options::Options;
+use crate::options::ServerOptions;
 use anyhow::{Context, Result, bail};
-use host_wire::handshakes::{Handshakes, Trusted, server_config};
-use host_wire::sockets::{listen_unix, user_name};
-use host_wire::trust::common_name;
+use host_wire::handshakes::{Certificates, Trusted, server_config};
+use host_wire::sockets::{Stream, listen_unix, not_listening, user_name};
 use host_wire::{Address, is_component};
 use openssl::ssl::SslContext;
 use std::io;
 use std::net::SocketAddr;
-use std::sync::{Arc, PoisonError, RwLock};
-use tokio::io::{AsyncRead, AsyncWrite};
+use std::sync::Arc;
 use tokio::net::{TcpListener, TcpSocket, TcpStream, UnixListener, UnixStream, lookup_host};
-use tokio_openssl::SslStream;
 
-/// So many connections may wait until they are taken: all clients come at once where a server is replaced, and one that finds no place
+/// How many connections may wait until they are taken: all clients come at once where a server is replaced, and one that finds no place
 /// tries again after a second. (The system has a limit of its own.)
 const BACKLOG: u32 = 4096;
-
-/// A stream of bytes to a client.
-pub trait Stream: AsyncRead + AsyncWrite + Send + Unpin {}
-
-impl<S: AsyncRead + AsyncWrite + Send + Unpin> Stream for S {}
 
 /// A socket that takes connections.
 #[derive(Debug)]
@@ -39,48 +31,30 @@ pub enum Guest {
     Tcp(TcpStream),
 }
 
-/// What the server shows to clients, as it was last read, and who makes the handshakes with them.
-pub struct Certificates {
-    context: RwLock<SslContext>,
-    handshakes: Handshakes,
+/// Who comes to an address by TLS.
+#[derive(Clone, Copy, Debug, PartialEq, Eq)]
+pub enum Comer {
+    /// A client, who shows a certificate.
+    Client,
+    /// An operator, who shows a certificate or says a token later.
+    Operator,
 }
 
-impl std::fmt::Debug for Certificates {
-    fn fmt(&self, out: &mut std::fmt::Formatter<'_>) -> std::fmt::Result {
-        out.write_str("Certificates")
-    }
-}
-
-impl Certificates {
-    fn read(options: &Options) -> Result<SslContext> {
-        let (Some(cert), Some(key), Some(client_ca)) = (&options.cert, &options.key, &options.client_ca) else {
-            bail!("tls: wants --cert, --key and --client-ca");
-        };
-        let clients = Trusted { authority: client_ca, revoked: options.client_crl.as_deref(), takes_none: false };
-        Ok(server_config(cert, key, Some(clients))?)
-    }
-
-    /// Those of the options.
-    pub fn new(options: &Options) -> Result<Certificates> {
-        Ok(Certificates { context: RwLock::new(Certificates::read(options)?), handshakes: Handshakes::new()? })
-    }
-
-    /// Reads them again; where that fails the old ones stay.
-    pub fn renew(&self, options: &Options) -> Result<()> {
-        let read = Certificates::read(options)?;
-        *self.context.write().unwrap_or_else(PoisonError::into_inner) = read;
-        Ok(())
-    }
-
-    // The handshake with who has connected.
-    async fn greet(&self, stream: TcpStream) -> Result<SslStream<TcpStream>> {
-        let context = self.context.read().unwrap_or_else(PoisonError::into_inner).clone();
-        Ok(self.handshakes.make(&context, stream).await?)
+/// What is shown by TLS to those who come, by the files of the options, as they are now.
+pub fn context(options: &ServerOptions, comer: Comer) -> Result<SslContext> {
+    let takes_none = comer == Comer::Operator;
+    let revoked = options.client_crl.as_deref();
+    let clients = options.client_ca.as_deref().map(|authority| Trusted { authority, revoked, takes_none });
+    match (&options.cert, &options.key, comer, clients) {
+        (Some(cert), Some(key), _, Some(clients)) => Ok(server_config(cert, key, Some(clients))?),
+        (Some(cert), Some(key), Comer::Operator, None) => Ok(server_config(cert, key, None)?),
+        (.., Comer::Operator, _) => bail!("--admin tls: wants --cert and --key"),
+        (.., Comer::Client, _) => bail!("tls: wants --cert, --key and --client-ca"),
     }
 }
 
-// A socket at the first of the place's addresses that can be had.
-async fn listen_tcp(place: &str) -> io::Result<TcpListener> {
+/// A socket at the first of the place's addresses that can be had.
+pub async fn listen_tcp(place: &str) -> io::Result<TcpListener> {
     let mut listener = Err(io::Error::from(io::ErrorKind::AddrNotAvailable));
     for address in lookup_host(place).await? {
         listener = listen_at(address);
@@ -108,7 +82,7 @@ impl Door {
             (Address::Tcp(place), _) if address.is_local() || is_insecure => (place, None),
             (Address::Tcp(_), _) => bail!("{address}: who connects there acts for anybody, and nothing is encrypted; only with --insecure"),
         };
-        let listener = listen_tcp(place).await.with_context(|| format!("listening at {address}"))?;
+        let listener = listen_tcp(place).await.map_err(|error| not_listening(&address.to_string(), &error))?;
         let address = address.at(listener.local_addr()?);
         let door = match certificates {
             Some(certificates) => Door::Tls(listener, certificates),
@@ -129,7 +103,7 @@ impl Door {
 
 /// Whom a connection shows.
 #[derive(Clone, Debug, PartialEq, Eq)]
-pub enum Shown {
+pub enum Credentials {
     /// Nobody: the client says for whom it acts.
     Nobody,
     /// This principal, and it acts for no other.
@@ -138,9 +112,9 @@ pub enum Shown {
     Other(String),
 }
 
-impl Shown {
-    fn of(name: String) -> Shown {
-        if is_component(&name) { Shown::Principal(name) } else { Shown::Other(name) }
+impl Credentials {
+    fn of(name: String) -> Credentials {
+        if is_component(&name) { Credentials::Principal(name) } else { Credentials::Other(name) }
     }
 }
 
@@ -157,22 +131,19 @@ impl Guest {
     }
 
     /// Lets it in, as far as its greeting: the stream to it, and whom it shows.
-    pub async fn come_in(self) -> Result<(Box<dyn Stream>, Shown)> {
+    pub async fn come_in(self) -> Result<(Box<dyn Stream>, Credentials)> {
         match self {
             Guest::Unix(stream) => {
                 let name = user_name(stream.peer_cred()?.uid()).await?;
-                Ok((Box::new(stream), Shown::of(name)))
+                Ok((Box::new(stream), Credentials::of(name)))
             }
             Guest::Tls(stream, certificates) => {
-                stream.set_nodelay(true)?;
-                let stream = certificates.greet(stream).await?;
-                let certificate = stream.ssl().peer_certificate().context("no certificate")?;
-                let name = common_name(&certificate).unwrap_or_default();
-                Ok((Box::new(stream), Shown::of(name)))
+                let (stream, shown) = certificates.greet(stream).await?;
+                Ok((Box::new(stream), Credentials::of(shown.context("no certificate")?)))
             }
             Guest::Tcp(stream) => {
                 stream.set_nodelay(true)?;
-                Ok((Box::new(stream), Shown::Nobody))
+                Ok((Box::new(stream), Credentials::Nobody))
             }
         }
     }

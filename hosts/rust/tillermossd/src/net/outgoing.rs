@@ -8,43 +8,43 @@ use tokio::io::{AsyncWrite, AsyncWriteExt};
 use tokio::sync::Notify;
 use tokio::time::timeout;
 
-/// So many bytes may wait for a client that doesn't read, and one more message.
+/// How many bytes may wait for a client that doesn't read, and one more message.
 const ROOM: usize = 1 << 20;
 
-/// So long may one write to a client last, which has so many bytes at most.
+/// How long may one write to a client last, which has so many bytes at most.
 const PATIENCE: Duration = Duration::from_secs(10);
 const PIECE: usize = 1 << 16;
 
-/// So many bytes of room are kept where nothing is to be written.
+/// How many bytes of room are kept where nothing is to be written.
 const KEPT: usize = 4096;
 
 /// The messages to one connection, which a task writes: those that wait together in one write.
 #[derive(Debug)]
-pub struct Outgoing {
+pub struct Outbox {
     /// For whom its client acts.
     pub principal: Arc<str>,
-    state: Mutex<State>,
+    state: Mutex<OutboxState>,
     filled: Notify,
     ended: Notify,
 }
 
 // The blocks that wait, and how many bytes are being written.
 #[derive(Debug, Default)]
-struct State {
+struct OutboxState {
     waiting: Vec<u8>,
     writing: usize,
     cut: Option<&'static str>,
 }
 
-impl Outgoing {
+impl Outbox {
     /// Nothing is sent yet.
     #[must_use]
-    pub fn new(principal: &Arc<str>) -> Outgoing {
+    pub fn new(principal: &Arc<str>) -> Outbox {
         let (principal, state) = (principal.clone(), Mutex::default());
-        Outgoing { principal, state, filled: Notify::new(), ended: Notify::new() }
+        Outbox { principal, state, filled: Notify::new(), ended: Notify::new() }
     }
 
-    fn state(&self) -> MutexGuard<'_, State> {
+    fn state(&self) -> MutexGuard<'_, OutboxState> {
         self.state.lock().unwrap_or_else(PoisonError::into_inner)
     }
 
@@ -162,7 +162,7 @@ mod tests {
 
     #[tokio::test]
     async fn what_waits_together_is_one_write() {
-        let (outgoing, noted) = (Arc::new(Outgoing::new(&"ann".into())), Noted::default());
+        let (outgoing, noted) = (Arc::new(Outbox::new(&"ann".into())), Noted::default());
         let (writer, stream) = (outgoing.clone(), noted.clone());
         let writing = tokio::spawn(async move { writer.write_all(stream).await });
         tokio::task::yield_now().await;
@@ -197,7 +197,7 @@ mod tests {
             (&[10, ROOM - 17, 1], true),
         ];
         for (lengths, wanted) in rows {
-            let outgoing = Outgoing::new(&"ann".into());
+            let outgoing = Outbox::new(&"ann".into());
             for length in *lengths {
                 outgoing.send(&vec![0; *length]);
             }

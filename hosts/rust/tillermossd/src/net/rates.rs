@@ -2,7 +2,7 @@
 
 use std::time::{Duration, Instant};
 
-/// So many a second, and as many at once where none came for a second.
+/// How many a second, and as many at once where none came for a second.
 #[derive(Clone, Copy, Debug)]
 pub struct Rate {
     left: f64,

@@ -1,6 +1,6 @@
 //! Over which connection a client is reached.
 
-use crate::net::outgoing::Outgoing;
+use crate::net::outgoing::Outbox;
 use std::collections::HashMap;
 use std::sync::{Arc, Mutex, MutexGuard, PoisonError};
 
@@ -11,7 +11,7 @@ pub struct Routes(Mutex<Table>);
 #[derive(Debug, Default)]
 struct Table {
     bound: u64,
-    open: HashMap<u64, (u64, Arc<Outgoing>)>,
+    open: HashMap<u64, (u64, Arc<Outbox>)>,
 }
 
 impl Routes {
@@ -21,7 +21,7 @@ impl Routes {
 
     /// From here on the client is reached so, and this is what it gets first; an earlier connection of it is cut off. Gives the
     /// number of this binding. Who got that is bound, before any that connects later.
-    pub fn bind(&self, client: u64, outgoing: Arc<Outgoing>, first: &[u8]) -> u64 {
+    pub fn bind(&self, client: u64, outgoing: Arc<Outbox>, first: &[u8]) -> u64 {
         let mut table = self.table();
         outgoing.send(first);
         table.bound += 1;
@@ -71,9 +71,9 @@ impl Routes {
         self.table().open.get(&client).map(|(_, outgoing)| outgoing.principal.clone())
     }
 
-    /// Puts a message behind those that wait for a client; gives its connection where that is to be woken. A client that has no
+    /// Puts a message after those that wait for a client; gives its connection where that is to be woken. A client that has no
     /// connection doesn't get it, as if it were lost.
-    pub fn put(&self, client: u64, message: &[u8]) -> Option<Arc<Outgoing>> {
+    pub fn put(&self, client: u64, message: &[u8]) -> Option<Arc<Outbox>> {
         let table = self.table();
         let (_, outgoing) = table.open.get(&client)?;
         outgoing.put(message).then(|| outgoing.clone())
@@ -88,7 +88,7 @@ mod tests {
 
     fn bound(routes: &Routes, client: u64, first: &[u8]) -> (u64, DuplexStream) {
         let (stream, other) = duplex(1024);
-        let outgoing = Arc::new(Outgoing::new(&"ann".into()));
+        let outgoing = Arc::new(Outbox::new(&"ann".into()));
         let binding = routes.bind(client, outgoing.clone(), first);
         tokio::spawn(async move { outgoing.write_all(other).await });
         (binding, stream)

@@ -5,7 +5,7 @@ use std::error::Error;
 use std::time::{Duration, Instant};
 use trials::{Trouble, folder, run_gateway_history};
 
-/// So long between two troubles.
+/// The time between two troubles.
 const BETWEEN: Duration = Duration::from_secs(25);
 
 fn main() -> Result<(), Box<dyn Error>> {

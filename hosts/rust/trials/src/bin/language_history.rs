@@ -5,7 +5,7 @@ use std::error::Error;
 use std::time::Duration;
 use trials::{folder, run_languages};
 
-/// So long a server lives.
+/// How long a server lives.
 const LIFE: Duration = Duration::from_secs(10);
 
 fn main() -> Result<(), Box<dyn Error>> {

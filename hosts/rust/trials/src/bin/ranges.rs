@@ -1,6 +1,8 @@
 //! Reads one content again and again over so many connections, each read after the answer to the last one: a file of a gateway by HTTP/1.1,
 //! or a key of etcd by gRPC. `bench/gateway` starts the services and asks for the figures.
-//! Usage: ranges gateway|etcd|etcd-serializable HOST:PORT NAME CONNECTIONS SECONDS
+//! Usage: ranges gateway|etcd|etcd-serializable HOST:PORT NAME CONNECTIONS SECONDS [DEPTH]
+//! With DEPTH so many reads of a gateway go out together over each connection, and the next ones after all their answers: so who reads
+//! takes less of a processor.
 
 use bytes::Bytes;
 use http::Request;
@@ -37,35 +39,41 @@ async fn connect(place: &str) -> Done<TcpStream> {
 }
 
 // (its answers are read whole, by the length that each one says)
-async fn read_by_http(place: String, name: String, count: Arc<Count>) -> Done<()> {
+async fn read_by_http(place: String, name: String, depth: usize, count: Arc<Count>) -> Done<()> {
     let mut stream = connect(&place).await?;
-    let asked = format!("GET /v1/file/{name} HTTP/1.1\r\nHost: {place}\r\n\r\n");
-    let mut came = Vec::with_capacity(4096);
+    let asked = format!("GET /v1/file/{name} HTTP/1.1\r\nHost: {place}\r\n\r\n").repeat(depth);
+    let mut came = Vec::with_capacity(4096 * depth);
     loop {
         stream.write_all(asked.as_bytes()).await?;
-        while !is_whole(&came)? {
+        let (mut goes_on, mut left) = (true, depth);
+        while left > 0 {
             if stream.read_buf(&mut came).await? == 0 {
                 return Err("the connection ended".into());
             }
+            let mut at = 0;
+            while let Some(length) = whole(&came[at..])? {
+                (at, left, goes_on) = (at + length, left - 1, count.goes_on());
+            }
+            came.drain(..at);
         }
-        came.clear();
-        if !count.goes_on() {
+        if !goes_on {
             return Ok(());
         }
     }
 }
 
-// Whether a whole answer came, which has a content.
-fn is_whole(came: &[u8]) -> Done<bool> {
+// How long the first answer is, which has a content; None where it isn't whole.
+fn whole(came: &[u8]) -> Done<Option<usize>> {
     let Some(end) = came.windows(4).position(|four| four == b"\r\n\r\n") else {
-        return Ok(false);
+        return Ok(None);
     };
     let head = std::str::from_utf8(&came[..end])?;
     if !head.starts_with("HTTP/1.1 200") {
         return Err(head.to_owned().into());
     }
     let length = head.lines().find_map(|line| line.strip_prefix("content-length: ")).ok_or("no length")?;
-    Ok(came.len() >= end + 4 + length.parse::<usize>()?)
+    let whole = end + 4 + length.parse::<usize>()?;
+    Ok((came.len() >= whole).then_some(whole))
 }
 
 // A message of gRPC: that it isn't compressed, its length, and a range of one key, which a member answers by itself where that is said.
@@ -107,15 +115,16 @@ async fn read_by_grpc(place: String, asked: Bytes, count: Arc<Count>) -> Done<()
 #[tokio::main]
 async fn main() -> Done<()> {
     let words: Vec<String> = std::env::args().skip(1).collect();
-    let [kind, place, name, connections, seconds] = &words[..] else {
-        return Err("usage: ranges gateway|etcd|etcd-serializable HOST:PORT NAME CONNECTIONS SECONDS".into());
+    let [kind, place, name, connections, seconds, depth @ ..] = &words[..] else {
+        return Err("usage: ranges gateway|etcd|etcd-serializable HOST:PORT NAME CONNECTIONS SECONDS [DEPTH]".into());
     };
+    let depth = depth.first().map_or(Ok(1), |depth| depth.parse())?;
     let (count, mut reading) = (Arc::new(Count::default()), JoinSet::new());
     let places: Vec<&str> = place.split(',').collect();
     for number in 0..connections.parse()? {
         let place = places[number % places.len()].to_owned();
         match kind.as_str() {
-            "gateway" => reading.spawn(read_by_http(place, name.clone(), count.clone())),
+            "gateway" => reading.spawn(read_by_http(place, name.clone(), depth, count.clone())),
             "etcd" | "etcd-serializable" => reading.spawn(read_by_grpc(place, range(name, kind != "etcd")?, count.clone())),
             other => return Err(format!("{other}: no such service").into()),
         };

@@ -3,7 +3,7 @@
 use std::error::Error;
 use std::fs;
 use tillermoss::{Client, Options};
-use trials::{Gateway, Start, folder, tell_watchers};
+use trials::{GatewayProcess, Start, folder, tell_watchers};
 
 fn main() -> Result<(), Box<dyn Error>> {
     let mut words = std::env::args().skip(1);
@@ -12,7 +12,7 @@ fn main() -> Result<(), Box<dyn Error>> {
     let folder = folder("watchers");
     let server = Start::new(&folder.join("store.db")).start()?;
     let words = ["0", "--server", &server.address, "--as", "ann"];
-    let gateways = [Gateway::start(&folder, &words)?, Gateway::start(&folder, &words)?];
+    let gateways = [GatewayProcess::start(&folder, &words)?, GatewayProcess::start(&folder, &words)?];
     let client = Client::connect(&Options::new(&server.address, "ann"))?;
     let file = client.create("/ls/c/watched", b"")?;
     let times = tell_watchers(&[&gateways[0], &gateways[1]], "watched", count, (&client, file), sets)?;

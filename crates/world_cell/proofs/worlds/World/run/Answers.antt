@@ -12,6 +12,9 @@ use Rattle.world_cell.proofs.FitsByRuns.{run_fits}
 use Rattle.world_cell.proofs.SureRuns.{run_sure}
 use Rattle.world_cell.proofs.LocksByRuns.{run_legal, run_generations}
 use Rattle.world_cell.proofs.ToldByRuns.{run_shows}
+use Rattle.world_cell.proofs.LimitsByRuns.{run_stays}
+use Rattle.world_cell.proofs.HoldsByName.{run_rises}
+use Rattle.world_cell.proofs.TurnsByRuns.{run_turns}
 use Rattle.world_cell.proofs.worlds.World.run.Goals as goal
 
 pub returns-in_err-here-clause-part : goal.returns-in_err-here-clause-part
@@ -153,3 +156,48 @@ pub returns-in_err-append-clause-told : goal.returns-in_err-append-clause-told
 returns-in_err-append-clause-told g c = λ none.
     let run = run_more c.args.self.now c.loop-step.self c.line_step.new.self c.args.steps.now c.loop-step.step-index c.step-item.result c.loop-step.lines _ (omega arith) c.step-item.is c.loop-step.invariant c.in_ok-here.ensures.ok in
     run_shows c.args.self.now c.args.steps.now c.line_step.new.self (began_consistent c.args.self.now c.line_step.new.self _ _ c.consistent.ensures run none)
+
+pub returns-clause-limits : goal.returns-clause-limits
+returns-clause-limits g c = λ none.
+    let run = whole_sure c.args.self.now c.loop-step.self c.args.steps.now c.loop-step.step-index c.loop-step.lines (omega arith) c.consistent.ensures c.loop-step.invariant none in
+    run_stays c.args.self.now c.args.steps.now c.loop-step.lines c.loop-step.self run.0 run.1
+
+pub returns-in_err-here-clause-limits : goal.returns-in_err-here-clause-limits
+returns-in_err-here-clause-limits g c = λ none.
+    let run = run_more c.args.self.now c.loop-step.self c.line_step.new.self c.args.steps.now c.loop-step.step-index c.step-item.result c.loop-step.lines _ (omega arith) c.step-item.is c.loop-step.invariant (inr c.in_err-here.ensures.err.1) in
+    run_stays c.args.self.now _ _ c.line_step.new.self (began_consistent c.args.self.now c.line_step.new.self _ _ c.consistent.ensures run none) (run_sure c.args.self.now _ _ c.line_step.new.self run none)
+
+pub returns-in_err-append-clause-limits : goal.returns-in_err-append-clause-limits
+returns-in_err-append-clause-limits g c = λ none.
+    let run = run_more c.args.self.now c.loop-step.self c.line_step.new.self c.args.steps.now c.loop-step.step-index c.step-item.result c.loop-step.lines _ (omega arith) c.step-item.is c.loop-step.invariant c.in_ok-here.ensures.ok in
+    run_stays c.args.self.now _ _ c.line_step.new.self (began_consistent c.args.self.now c.line_step.new.self _ _ c.consistent.ensures run none) (run_sure c.args.self.now _ _ c.line_step.new.self run none)
+
+pub returns-clause-fencing : goal.returns-clause-fencing
+returns-clause-fencing g c = λ none.
+    let run = whole_sure c.args.self.now c.loop-step.self c.args.steps.now c.loop-step.step-index c.loop-step.lines (omega arith) c.consistent.ensures c.loop-step.invariant none in
+    run_rises c.args.self.now c.args.steps.now c.loop-step.self run.0
+
+pub returns-in_err-here-clause-fencing : goal.returns-in_err-here-clause-fencing
+returns-in_err-here-clause-fencing g c = λ none.
+    let run = run_more c.args.self.now c.loop-step.self c.line_step.new.self c.args.steps.now c.loop-step.step-index c.step-item.result c.loop-step.lines _ (omega arith) c.step-item.is c.loop-step.invariant (inr c.in_err-here.ensures.err.1) in
+    run_rises c.args.self.now c.args.steps.now c.line_step.new.self (began_consistent c.args.self.now c.line_step.new.self _ _ c.consistent.ensures run none)
+
+pub returns-in_err-append-clause-fencing : goal.returns-in_err-append-clause-fencing
+returns-in_err-append-clause-fencing g c = λ none.
+    let run = run_more c.args.self.now c.loop-step.self c.line_step.new.self c.args.steps.now c.loop-step.step-index c.step-item.result c.loop-step.lines _ (omega arith) c.step-item.is c.loop-step.invariant c.in_ok-here.ensures.ok in
+    run_rises c.args.self.now c.args.steps.now c.line_step.new.self (began_consistent c.args.self.now c.line_step.new.self _ _ c.consistent.ensures run none)
+
+pub returns-clause-turns : goal.returns-clause-turns
+returns-clause-turns g c = λ none.
+    let run = whole_sure c.args.self.now c.loop-step.self c.args.steps.now c.loop-step.step-index c.loop-step.lines (omega arith) c.consistent.ensures c.loop-step.invariant none in
+    run_turns c.args.self.now c.args.steps.now c.loop-step.self run.0
+
+pub returns-in_err-here-clause-turns : goal.returns-in_err-here-clause-turns
+returns-in_err-here-clause-turns g c = λ none.
+    let run = run_more c.args.self.now c.loop-step.self c.line_step.new.self c.args.steps.now c.loop-step.step-index c.step-item.result c.loop-step.lines _ (omega arith) c.step-item.is c.loop-step.invariant (inr c.in_err-here.ensures.err.1) in
+    run_turns c.args.self.now c.args.steps.now c.line_step.new.self (began_consistent c.args.self.now c.line_step.new.self _ _ c.consistent.ensures run none)
+
+pub returns-in_err-append-clause-turns : goal.returns-in_err-append-clause-turns
+returns-in_err-append-clause-turns g c = λ none.
+    let run = run_more c.args.self.now c.loop-step.self c.line_step.new.self c.args.steps.now c.loop-step.step-index c.step-item.result c.loop-step.lines _ (omega arith) c.step-item.is c.loop-step.invariant c.in_ok-here.ensures.ok in
+    run_turns c.args.self.now c.args.steps.now c.line_step.new.self (began_consistent c.args.self.now c.line_step.new.self _ _ c.consistent.ensures run none)

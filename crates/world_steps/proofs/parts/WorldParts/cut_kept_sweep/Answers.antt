@@ -12,9 +12,9 @@ pub returns-in_err-swept-clause-left : goal.returns-in_err-swept-clause-left
 returns-in_err-swept-clause-left g c =
     let s = c.self.inside in
     let after : CellState = c.sweep_with_room.new.self in
-    let view : Option CellState → WorldView = λ master. the_view (param 0 g.row.R) g.R.Records (record { alloc = s.alloc; master = master; records = s.records; clock = s.clock; clients = s.clients; messages = s.messages; lease = s.lease }) in
-    let new : WorldView = the_view (param 0 g.row.R) g.R.Records (record { alloc = s.alloc; master = Some after; records = s.records; clock = s.clock; clients = s.clients; messages = s.messages; lease = s.lease }) in
+    let view : Option CellState → WorldView = λ master. the_view (param 0 g.row.R) g.R.Records (record { alloc = s.alloc; master = master; records = s.records; clock = s.clock; clients = s.clients; messages = s.messages; terms = s.terms }) in
+    let new : WorldView = the_view (param 0 g.row.R) g.R.Records (record { alloc = s.alloc; master = Some after; records = s.records; clock = s.clock; clients = s.clients; messages = s.messages; terms = s.terms }) in
     let Left : WorldView → Type 0 = λ v. IsLeft (option_map_or (λ master. sweep_frees master v.world.clock) v.world.master false) (option_map_or (λ master. sweep_edits master v.world.clock) v.world.master []) v new in
     let here : Left (view (Some c.in-Some.cell)) =
-    sweep_left (sweep_frees c.in-Some.cell.master s.clock) (sweep_edits c.in-Some.cell.master s.clock) c.in_err-swept.field-0.0 (sweep_step c.in-Some.cell.master s.clock) c.in-Some.cell after s.clock s.clients s.messages.items s.lease c.in_err-swept.ensures.err c.in_err-swept.ensures.fault in
+    sweep_left (sweep_frees c.in-Some.cell.master s.clock) (sweep_edits c.in-Some.cell.master s.clock) c.in_err-swept.field-0.0 (sweep_step c.in-Some.cell.master s.clock) c.in-Some.cell after s.clock s.clients s.messages.items s.terms c.in_err-swept.ensures.err c.in_err-swept.ensures.fault in
     whenever c.from_residual.result _ (subst Left c.self.view_is (subst (λ (master : Option CellState). Left (view master)) (sym c.in-Some.is) here))

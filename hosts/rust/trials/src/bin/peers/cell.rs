@@ -55,7 +55,7 @@ impl Session for Cell {
         Ok(())
     }
 
-    // (a read behind a write is answered by the master, and grants the right to keep it)
+    // (a read after a write is answered by the master, and grants the right to keep it)
     fn follow(&mut self, name: &str) -> Measured<()> {
         self.read(name)
     }

@@ -10,7 +10,7 @@ use std::time::{Duration, Instant};
 use tokio::net::TcpStream;
 use tokio::runtime::{Builder, Runtime};
 
-/// So many seconds a lease lasts without being kept, and so often it is kept.
+/// How many seconds a lease lasts without being kept, and so often it is kept.
 const LEASE: u64 = 12;
 const KEPT: Duration = Duration::from_secs(4);
 
@@ -24,14 +24,14 @@ pub struct Etcd {
     watch: Option<Stream>,
 }
 
-/// A call whose messages come one behind the other. It lasts while what is sent isn't at its end.
+/// A call whose messages come one after the other. It lasts while what is sent isn't at its end.
 struct Stream {
     _asking: SendStream<Bytes>,
     body: RecvStream,
     came: Vec<u8>,
 }
 
-/// The fields of a message: numbers, and bytes behind their length. A field that isn't there is 0, or empty.
+/// The fields of a message: numbers, and bytes after their length. A field that isn't there is 0, or empty.
 #[derive(Clone, Default)]
 struct Fields(Vec<u8>);
 
@@ -122,7 +122,7 @@ fn number_of(message: &[u8], number: u64) -> Measured<u64> {
     }
 }
 
-// A message behind the byte that it isn't compressed, and its length.
+// A message after the byte that it isn't compressed, and its length.
 fn framed(message: &Fields) -> Measured<Bytes> {
     let length = u32::try_from(message.0.len())?.to_be_bytes();
     Ok([&[0][..], &length, &message.0].concat().into())
@@ -193,7 +193,7 @@ impl Etcd {
         self.runtime.block_on(async {
             let mut stream = begun(&self.sending, "etcd", path, asked, true).await?;
             let message = stream.message().await?.ok_or("no answer")?;
-            // (a unary call is over behind its trailers)
+            // (a unary call is over after its trailers)
             if !path.ends_with("KeepAlive") {
                 stream.message().await?;
             }

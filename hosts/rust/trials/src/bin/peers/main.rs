@@ -16,11 +16,11 @@ type Measured<T> = Result<T, Box<dyn Error + Send + Sync>>;
 /// The content of each file, or the value of each key.
 const CONTENT: [u8; 64] = [b'a'; 64];
 
-/// So many files each of the reading clients reads, and so many clients read.
+/// How many files each of the reading clients reads, and so many clients read.
 const FILES: u32 = 2000;
 const READERS: u32 = 8;
 
-/// So many threads fill a service, and so many names stand in one directory.
+/// How many threads fill a service, and so many names stand in one directory.
 const FILLERS: u32 = 32;
 const CHILDREN: u32 = 1000;
 
@@ -102,7 +102,7 @@ fn main() -> Measured<()> {
 }
 
 // Does it with each session in a thread of its own, again and again for so long; how often a second all of them did it. (The sessions
-// end behind that.)
+// end after that.)
 fn all_at_once(
     sessions: Vec<Box<dyn Session>>,
     lasting: Duration,

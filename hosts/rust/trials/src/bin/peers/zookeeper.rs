@@ -1,15 +1,15 @@
-//! ZooKeeper, by its own messages, as its C and Java clients send them: each behind its length in four bytes, big-endian.
+//! ZooKeeper, by its own messages, as its C and Java clients send them: each after its length in four bytes, big-endian.
 
 use crate::{CONTENT, Measured, Session};
 use std::io::{Read, Write};
 use std::net::TcpStream;
 use std::time::{Duration, Instant};
 
-/// So many milliseconds a session lasts without being kept, and so often it is kept.
+/// How many milliseconds a session lasts without being kept, and so often it is kept.
 const LEASE: i32 = 12_000;
 const KEPT: Duration = Duration::from_secs(4);
 
-/// So long an answer may take.
+/// How long an answer may take.
 const SILENCE: Duration = Duration::from_secs(10);
 
 const CREATE: i32 = 1;
@@ -35,7 +35,7 @@ pub struct ZooKeeper {
     held: Option<String>,
 }
 
-/// Fields one behind the other.
+/// Fields one after the other.
 #[derive(Default)]
 struct Fields(Vec<u8>);
 
@@ -119,7 +119,7 @@ impl ZooKeeper {
         }
     }
 
-    // What it comes to, and the fields behind.
+    // What it comes to, and the fields after.
     fn ask(&mut self, kind: i32, fields: Fields) -> Measured<(i32, Vec<u8>)> {
         self.number += 1;
         let head = Fields::default().word(self.number).word(kind);

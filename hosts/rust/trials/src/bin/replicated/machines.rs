@@ -16,23 +16,23 @@ use std::time::{Duration, Instant};
 use tempfile::TempDir;
 use trials::{Holder, Passing, Proxy, Relay, guards, master_program, masters, program};
 
-/// So many members, and so many servers.
+/// How many members, and so many servers.
 const MACHINES: usize = 3;
 
-/// So long a server is away that was killed, and a member.
+/// How long a server is away that was killed, and a member.
 const SERVER_AWAY: Duration = Duration::from_secs(3);
 const MEMBER_AWAY: Duration = Duration::from_secs(10);
 
-/// So long a server is stopped, and so long it is cut off.
+/// How long a server is stopped, and so long it is cut off.
 const STOPPED: Duration = Duration::from_secs(30);
 const CUT_OFF: Duration = Duration::from_secs(15);
 
-/// So long two members are stopped at once: for longer than a mastership lasts.
+/// How long two members are stopped at once: for longer than a mastership lasts.
 const MEMBERS_STOPPED: Duration = Duration::from_secs(10);
 
-/// So long a server may take to go beside a master that is stuck.
+/// How long a server may take to go beside a master that is stuck.
 const GOING: Duration = Duration::from_secs(25);
-/// So long the next master has to come up while a commit of the one before it is held back.
+/// How long the next master has to come up while a commit of the one before it is held back.
 const COMING_UP: Duration = Duration::from_secs(1);
 
 /// What a server says that has shot its master.
@@ -41,10 +41,10 @@ const REPLACED: &str = "the master is gone; another takes its place";
 /// What one says whose mastership was over before.
 const ENDED: &str = "the mastership has ended";
 
-/// So often a commit is held back until the server shoots its master.
+/// How often a commit is held back until the server shoots its master.
 const TRIES: usize = 5;
 
-/// So long there may be no master.
+/// How long there may be no master.
 const WITHOUT: Duration = Duration::from_secs(60);
 
 /// What goes wrong.

@@ -1,4 +1,4 @@
-//! Three members of an etcd and three servers on this machine, one cell over them, and eight clients behind a bad network. Masters and
+//! Three members of an etcd and three servers on this machine, one cell over them, and eight clients over a bad network. Masters and
 //! members are killed, masters are stopped for longer than a mastership and go on, and servers are cut off from etcd, but not from their
 //! clients. What was read was there, the lock was held by one at a time, and no replaced master has committed. `hosts/check_replicated`
 //! runs it.
@@ -22,10 +22,10 @@ type Tried<T> = Result<T, Box<dyn Error + Send + Sync>>;
 const SEED: u64 = 20_061_106;
 const CLIENTS: u64 = 8;
 
-/// So long a call is tried again: longer than any recovery.
+/// How long a call is tried again: longer than any recovery.
 const PATIENCE: Duration = Duration::from_secs(180);
 
-/// So long a server is cut off that has nothing to write.
+/// How long a server is cut off that has nothing to write.
 const QUIET: Duration = Duration::from_secs(80);
 
 /// What the words ask for.
@@ -69,7 +69,7 @@ fn run(words: &Words) -> Tried<()> {
         let deeds: Tried<Vec<Deeds>> = working.into_iter().map(|worker| Ok(worker.join().map_err(|_| "a client panicked")??)).collect();
         Ok::<_, Box<dyn Error + Send + Sync>>((deeds?, troubled?))
     })?;
-    let lost = lost(words, &deeds);
+    let lost: usize = deeds.iter().map(|deeds| deeds.lost).sum();
     deeds.extend(others);
     let last = finish(&cell, begun)?;
     let etcd = cell.etcd.clone();
@@ -89,15 +89,7 @@ fn run(words: &Words) -> Tried<()> {
     if acted < 1000 { Err("too little was read".into()) } else { Ok(()) }
 }
 
-// How many sessions were lost that had no reason to be. (A client that knows one server alone loses its own where that one is cut off
-// from etcd for longer than a session lasts: it can't be told of another.)
-fn lost(words: &Words, deeds: &[Deeds]) -> usize {
-    let is_quiet = words.troubles.contains(&Trouble::Quiet);
-    let counted = if is_quiet { deeds.len() - 2 } else { deeds.len() };
-    deeds[..counted].iter().map(|deeds| deeds.lost).sum()
-}
-
-// The last two know one server alone, and stay with that one while it is master.
+// The last two know one server alone, and stay with that one while it is master. (If it is cut off from etcd it tells them of another.)
 fn worker(cell: &Cell, number: u64, begun: Instant) -> Tried<Worker> {
     let places = match number.checked_sub(CLIENTS - 2) {
         Some(at) => cell.place(at as usize),
@@ -170,7 +162,7 @@ fn finish(cell: &Cell, begun: Instant) -> Tried<Deeds> {
     Ok(worker.deeds())
 }
 
-// So many seconds behind each kill a server answered a read. (An answer may be on its way when its master is killed.)
+// How many seconds after each kill a server answered a read. (An answer may be on its way when its master is killed.)
 fn fail_overs(deeds: &[Deeds], kills: &[u64]) -> Vec<f64> {
     const ON_ITS_WAY: u64 = 1_000_000_000;
     let answered = |kill: u64| deeds.iter().flat_map(|deeds| &deeds.answered).filter(move |at| **at > kill + ON_ITS_WAY).min();
