@@ -133,6 +133,11 @@ impl Timers {
         self.later.first().map(|entry| entry.0)
     }
 
+    /// Of the keys that aren't to be looked at yet the one that may be due first.
+    pub fn first_later(&self) -> Option<u64> {
+        self.later.first().map(|entry| entry.1)
+    }
+
     /// The first of the keys to look at.
     pub fn first(&self) -> Option<u64> {
         self.soon.first().copied()
