@@ -188,7 +188,7 @@ impl<K> Sessions<K> {
         None
     }
 
-    fn due_at(&self, number: u64, spares: bool, now: u64) -> Option<ClientNumber>
+    pub(crate) fn due_at(&self, number: u64, spares: bool, now: u64) -> Option<ClientNumber>
         ensures { result ≡ (if passes self.now (is_client_due_by spares self.now.lease now) number then Some number else None) }
     {
         match self.map.get(&number) {

@@ -1,8 +1,9 @@
 //! When something is to be done for sessions by themselves.
-ghost use Rattle.std.specs.Prelude.{◌≡◌, ◌≤◌};
+ghost use Rattle.std.specs.Prelude.{◌≡◌, ◌≤◌, true, is_some};
 ghost use Rattle.std.specs.Option.{option_map_or};
 ghost use Rattle.lease_core.specs.Lease.{longest_lease};
 ghost use Rattle.collections.specs.Timers.{never};
+ghost use Rattle.session_core.specs.Session.{is_client_expired, is_client_due};
 ghost use Rattle.session_core.specs.Quiet.{end_moment, answer_moment, is_client_unheard, AreNoted};
 
 use crate::bounds::Bounds;
@@ -12,7 +13,7 @@ use collections::Timers;
 use std::collections::BTreeMap;
 
 impl<K> Sessions<K> {
-    ghost use Rattle.session_core.specs.Sessions.{lowest, passes, session_of};
+    ghost use Rattle.session_core.specs.Sessions.{lowest, passes, session_of, has_work};
 
     /// Finds the sessions that expire and the Beats that fall due by `now`, so that from then on `expired` and `due` look at
     /// these alone. To be called with each moment; elsewhere it does no harm. Takes no memory that it can't do without: where
@@ -31,6 +32,33 @@ impl<K> Sessions<K> {
     /// never. It says where to look first: whether something is to be done there is for `expired` and `due` to tell.
     pub fn next_moment(&self) -> u64 {
         self.bounds.next_moment()
+    }
+
+    /// Whether it shows at a glance that there is something to do at `now`: a session that the master may end, or a Beat that
+    /// is to be answered. It looks at the two sessions alone for whom that may be so first behind the moment noted last, and
+    /// takes none of the others into view, as `note_moment` would. False where these two don't show it. Takes no memory.
+    pub fn shows_work(&self, now: u64) -> bool
+        ensures { result ≡ true → has_work self.now now ≡ true }
+    {
+        self.shows_end(now) || self.shows_answer(now)
+    }
+
+    fn shows_end(&self, now: u64) -> bool
+        ensures { result ≡ true → is_some (lowest self.now (is_client_expired now)) ≡ true }
+    {
+        match self.bounds.ends.first_later() {
+            None => false,
+            Some(client) => self.is_expired(client, now),
+        }
+    }
+
+    fn shows_answer(&self, now: u64) -> bool
+        ensures { result ≡ true → is_some (lowest self.now (is_client_due self.now.lease now)) ≡ true }
+    {
+        match self.bounds.answers.first_later() {
+            None => false,
+            Some(client) => self.due_at(client, false, now).is_some(),
+        }
     }
 
     // Where memory was wanting for some session's moments, notes those of all sessions anew.
