@@ -8,8 +8,8 @@ use std::path::Path;
 use std::process::{Command, ExitStatus, Stdio};
 use std::thread;
 use std::time::{Duration, Instant};
-use tillermoss::{Client, Options};
-use trials::{Kill, Member, Server, Start, certificates, folder, free, program};
+use tillermoss::{Client, Mode, Options};
+use trials::{Etcd, Kill, Member, Network, Server, Start, certificates, folder, free, program};
 
 // Waits until it ends, and kills it where it doesn't.
 fn end(server: &mut Server, most: Duration) -> Option<ExitStatus> {
@@ -73,6 +73,61 @@ fn a_server_over_etcd_goes_beside_a_stuck_master() {
     let next = over_etcd(&folder, "second", &member).start().unwrap();
     assert!(begun.elapsed() < Duration::from_secs(20), "{:?}", begun.elapsed());
     drop((next, member));
+    fs::remove_dir_all(folder).unwrap();
+}
+
+/// How long the end of a server may take, with what a busy machine adds.
+const END: Duration = Duration::from_secs(17);
+
+// Its master is stuck, and all members of etcd hang: it waits for neither for long. Its guard gives the mastership back once they go on.
+#[test]
+fn a_server_goes_in_time_whatever_it_waits_for() {
+    let etcd = Etcd::of_three(Network { one_way: Duration::ZERO, rate: None }).unwrap();
+    let mut server = etcd.server_of_all("first").with(&["--mastership", "60"]).start().unwrap();
+    let client = Client::connect(&Options::new(&server.address, "ann")).unwrap();
+    client.create("/ls/c/f", b"kept").unwrap();
+    let master = server.master().unwrap();
+    server.signal_master(Signal::SIGSTOP).unwrap();
+    etcd.signal(Signal::SIGSTOP).unwrap();
+    // (the renewals wait, too)
+    thread::sleep(Duration::from_secs(15));
+    server.signal(Signal::SIGTERM).unwrap();
+    let begun = Instant::now();
+    let status = end(&mut server, Duration::from_secs(90));
+    println!("signals: SIGTERM beside a stuck master and an etcd that hangs: {status:?} in {:.1} s", begun.elapsed().as_secs_f64());
+    assert_eq!(status.and_then(|status| status.code()), Some(1), "{}", server.logged());
+    assert!(begun.elapsed() < END && server.logged().contains("the server ends at once"), "{}", server.logged());
+    assert!(kill(Pid::from_raw(master.cast_signed()), None).is_err(), "its master is there");
+    etcd.signal(Signal::SIGCONT).unwrap();
+    let begun = Instant::now();
+    let next = etcd.server_of_all("next").start().unwrap();
+    assert!(begun.elapsed() < Duration::from_secs(30), "{:?}: {}", begun.elapsed(), next.logged());
+    drop(client);
+}
+
+#[test]
+fn a_second_signal_ends_a_server_at_once() {
+    let folder = folder("told-twice");
+    let start = Start::new(&folder.join("store.db"));
+    let mut server = start.start().unwrap();
+    let client = Client::connect(&Options::new(&server.address, "ann")).unwrap();
+    client.create("/ls/c/f", b"kept").unwrap();
+    let master = server.master().unwrap();
+    server.signal_master(Signal::SIGSTOP).unwrap();
+    server.signal(Signal::SIGTERM).unwrap();
+    assert!(server.has_logged("going"), "{}", server.logged());
+    server.signal(Signal::SIGINT).unwrap();
+    let begun = Instant::now();
+    let status = end(&mut server, Duration::from_secs(25));
+    println!("signals: told to go twice beside a stuck master: {status:?} in {:.1} s", begun.elapsed().as_secs_f64());
+    assert_eq!(status.and_then(|status| status.code()), Some(1), "{}", server.logged());
+    assert!(begun.elapsed() < Duration::from_secs(5) && server.logged().contains("it was told to go once more"), "{}", server.logged());
+    assert!(kill(Pid::from_raw(master.cast_signed()), None).is_err(), "its master is there");
+    drop(client);
+    let next = start.start().unwrap();
+    let reader = Client::connect(&Options::new(&next.address, "ann")).unwrap();
+    assert_eq!(reader.read(reader.open("/ls/c/f", Mode::READ).unwrap()).unwrap().content, b"kept");
+    drop((reader, next));
     fs::remove_dir_all(folder).unwrap();
 }
 
