@@ -23,6 +23,15 @@ fn end(server: &mut Server, most: Duration) -> Option<ExitStatus> {
     None
 }
 
+// Whether this process is gone, or goes now. (One that was killed is there until the system has heard of it.)
+fn is_gone(process: u32) -> bool {
+    let begun = Instant::now();
+    while kill(Pid::from_raw(process.cast_signed()), None).is_ok() && begun.elapsed() < Duration::from_secs(5) {
+        thread::sleep(Duration::from_millis(20));
+    }
+    kill(Pid::from_raw(process.cast_signed()), None).is_err()
+}
+
 fn over_etcd(folder: &Path, name: &str, member: &Member) -> Start {
     Start::new(&folder.join(name)).with(&[&format!("tcp:{}", free())]).rows(&member.rows("c"))
 }
@@ -47,7 +56,7 @@ fn stop_beside_a_stuck_master(server: &mut Server) {
     println!("signals: SIGTERM beside a stuck master: {status:?} in {:.1} s", begun.elapsed().as_secs_f64());
     assert_eq!(status.and_then(|status| status.code()), Some(1), "{}", server.logged());
     assert!(server.logged().contains("the master doesn't go"));
-    assert!(kill(Pid::from_raw(master.cast_signed()), None).is_err(), "its master is there");
+    assert!(is_gone(master), "its master is there");
     drop((client, file));
 }
 
@@ -97,7 +106,7 @@ fn a_server_goes_in_time_whatever_it_waits_for() {
     println!("signals: SIGTERM beside a stuck master and an etcd that hangs: {status:?} in {:.1} s", begun.elapsed().as_secs_f64());
     assert_eq!(status.and_then(|status| status.code()), Some(1), "{}", server.logged());
     assert!(begun.elapsed() < END && server.logged().contains("the server ends at once"), "{}", server.logged());
-    assert!(kill(Pid::from_raw(master.cast_signed()), None).is_err(), "its master is there");
+    assert!(is_gone(master), "its master is there");
     etcd.signal(Signal::SIGCONT).unwrap();
     let begun = Instant::now();
     let next = etcd.server_of_all("next").start().unwrap();
@@ -122,12 +131,10 @@ fn a_second_signal_ends_a_server_at_once() {
     println!("signals: told to go twice beside a stuck master: {status:?} in {:.1} s", begun.elapsed().as_secs_f64());
     assert_eq!(status.and_then(|status| status.code()), Some(1), "{}", server.logged());
     assert!(begun.elapsed() < Duration::from_secs(5) && server.logged().contains("it was told to go once more"), "{}", server.logged());
-    assert!(kill(Pid::from_raw(master.cast_signed()), None).is_err(), "its master is there");
-    drop(client);
-    let next = start.start().unwrap();
-    let reader = Client::connect(&Options::new(&next.address, "ann")).unwrap();
-    assert_eq!(reader.read(reader.open("/ls/c/f", Mode::READ).unwrap()).unwrap().content, b"kept");
-    drop((reader, next));
+    assert!(is_gone(master), "its master is there");
+    let next = start.with(&[&server.address]).start().unwrap();
+    assert_eq!(client.read(client.open("/ls/c/f", Mode::READ).unwrap()).unwrap().content, b"kept");
+    drop((client, next));
     fs::remove_dir_all(folder).unwrap();
 }
 
@@ -136,12 +143,14 @@ fn a_second_signal_ends_a_server_at_once() {
 fn a_server_goes_while_its_master_comes_up() {
     let folder = folder("coming-up");
     let (master, started) = (folder.join("master"), folder.join("started"));
-    fs::write(&master, format!("#!/bin/sh\n[ \"$1\" = serve ] || exit\ntouch {}\nexec sleep 600\n", started.display())).unwrap();
+    let version = format!("[ \"$1\" = serve ] || exec echo cellctl {}", env!("CARGO_PKG_VERSION"));
+    fs::write(&master, format!("#!/bin/sh\n{version}\ntouch {}\nexec sleep 600\n", started.display())).unwrap();
     fs::set_permissions(&master, fs::Permissions::from_mode(0o700)).unwrap();
     let mut command = Command::new(program("tillermossd"));
     command.arg("0").arg("--store").arg(folder.join("store.db")).arg("--master").arg(&master);
     let mut child = command.stdout(Stdio::null()).stderr(Stdio::null()).spawn().unwrap();
     while !started.exists() {
+        assert_eq!(child.try_wait().unwrap(), None, "it has ended");
         thread::sleep(Duration::from_millis(20));
     }
     kill(Pid::from_raw(child.id().cast_signed()), Signal::SIGTERM).unwrap();
