@@ -76,16 +76,17 @@ impl Going {
 
 // Ends the server, whatever its threads do, and kills its master. (Its guard gives a mastership back.)
 fn end_at_once(reason: &'static str) -> ! {
-    if let Some(master) = processes::master().and_then(|master| master.parse().ok()) {
-        // (one that is gone can't be killed)
-        let _ = kill(Pid::from_raw(master), Signal::SIGKILL);
-    }
     let (note, noted) = mpsc::channel();
     thread::spawn(move || {
         error!(reason, "the server ends at once");
         note.send(())
     });
     let _ = noted.recv_timeout(LAST_LINE);
+    // (after the line: whoever waits for the master ends the server, too)
+    if let Some(master) = processes::master().and_then(|master| master.parse().ok()) {
+        // (one that is gone can't be killed)
+        let _ = kill(Pid::from_raw(master), Signal::SIGKILL);
+    }
     process::exit(1)
 }
 

@@ -88,18 +88,16 @@ fn a_server_over_etcd_goes_beside_a_stuck_master() {
 /// How long the end of a server may take, with what a busy machine adds.
 const END: Duration = Duration::from_secs(17);
 
-// Its master is stuck, and all members of etcd hang: it waits for neither for long. Its guard gives the mastership back once they go on.
+// Its master is stuck, and all members of etcd hang, so that it can't give its mastership back: that its guard does once they go on.
 #[test]
 fn a_server_goes_in_time_whatever_it_waits_for() {
     let etcd = Etcd::of_three(Network { one_way: Duration::ZERO, rate: None }).unwrap();
-    let mut server = etcd.server_of_all("first").with(&["--mastership", "60"]).start().unwrap();
+    let mut server = etcd.server_of_all("first").with(&["--mastership", "20"]).start().unwrap();
     let client = Client::connect(&Options::new(&server.address, "ann")).unwrap();
     client.create("/ls/c/f", b"kept").unwrap();
     let master = server.master().unwrap();
     server.signal_master(Signal::SIGSTOP).unwrap();
     etcd.signal(Signal::SIGSTOP).unwrap();
-    // (the renewals wait, too)
-    thread::sleep(Duration::from_secs(15));
     server.signal(Signal::SIGTERM).unwrap();
     let begun = Instant::now();
     let status = end(&mut server, Duration::from_secs(90));
