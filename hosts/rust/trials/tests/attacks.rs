@@ -1018,9 +1018,11 @@ fn changes_of_one_principal_hold_up_no_other() {
     let beat = silent.beat();
     silent.ask(beat);
     silent.connection.send(&silent.client.beat(0).unwrap()).unwrap();
+    let begun = Instant::now();
     let answers = writers.iter_mut().map(|(writer, _)| said(answer(&mut writer.connection)));
     let others: Vec<_> = answers.filter(|answer| *answer != "done").collect();
-    assert!(others.is_empty(), "{} of {WRITERS} weren't done: {:?}", others.len(), others.first());
+    println!("attack: {WRITERS} changes of bob were done within {:?} once nobody cached the file", begun.elapsed());
+    assert!(others.is_empty(), "{} of {WRITERS} weren't done: {:?}: {}", others.len(), others.first(), server.logged());
     drop(writers);
     fs::remove_dir_all(folder).unwrap();
 }

@@ -104,7 +104,7 @@ fn run(server: &Server, crowd: &Crowd) -> Duration {
         refused.len(),
         epochs(server)
     );
-    assert!(refused.is_empty(), "{}: {refused:?}", crowd.what);
+    assert!(refused.is_empty(), "{}: {:?}: {}", crowd.what, refused.first(), server.logged());
     assert_eq!(epochs(server), 1, "{}: {}", crowd.what, server.logged());
     spent
 }
