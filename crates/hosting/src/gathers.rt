@@ -83,7 +83,7 @@ fn go_on<R: Records, I: Read>(
     match do_held(alloc, group, &sent, told) {
         Tried::Done => {
             drop(sent);
-            if group.is_parted() {
+            if group.ends_here() {
                 return Onward::Ends(Behind::Nothing);
             }
             next_there(alloc, reader, buffer, told.len())

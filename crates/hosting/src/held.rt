@@ -5,7 +5,7 @@ ghost use Rattle.hosting.specs.Serving.{Answers, EndsIn, is_shut, Settles};
 
 use crate::answers::Answered;
 use crate::holds::Group;
-use crate::settling::{End, Round, Settled, ended_in, no_beats};
+use crate::settling::{End, Round, SWEEP_LIMIT, Settled, ended_in, no_beats};
 use rows_cell::Records;
 use std::alloc::Global;
 use tags_cell::Request;
@@ -45,7 +45,7 @@ fn sweep_on<R: Records>(alloc: Global, group: &mut Group<R>, now: u64) -> Round
     ensures store { ground group.new ≡ ground group.old }
 {
     let mut sweeps = Vec::new(alloc);
-    for _done in 0..u64::MAX {
+    for _done in 0..SWEEP_LIMIT {
         match group.sweep_with_room(now, &mut sweeps) {
             Ok(swept) => {
                 let quiet = swept.quiet;
@@ -57,5 +57,6 @@ fn sweep_on<R: Records>(alloc: Global, group: &mut Group<R>, now: u64) -> Round
             Err(fault) => return ended_in(sweeps, End::Refused(fault)),
         }
     }
+    group.note_more();
     ended_in(sweeps, End::Unfinished)
 }

@@ -3,7 +3,7 @@ use Rattle.over_core.specs.Sweep.{sweep_edits}
 use Rattle.hosting.specs.declared.settling.Round.{Round}
 use Rattle.hosting.specs.Held.{ground, seen}
 use Rattle.hosting.specs.Serving.{is_shut}
-use Rattle.hosting.proofs.Sweeps.{begins, begins_counting, counts_more, goes_on, ends_quiet, ends_refused, ends_late}
+use Rattle.hosting.proofs.Sweeps.{begins, begins_counting, counts_more, goes_on, ends_quiet, ends_refused, ends_late_as}
 use Rattle.hosting.proofs.HeldSweeps.{held_once, store_kept, held_refused, open_held}
 use Rattle.hosting.proofs.held.sweep_on.Goals as goal
 
@@ -46,7 +46,10 @@ pub returns-in-Err-clause-store : goal.returns-in-Err-clause-store
 returns-in-Err-clause-store g c = ap ground c.in-Err.ensures.err ∙ c.loop-done.invariant.store
 
 pub returns-clause-ends : goal.returns-clause-ends
-returns-clause-ends g c = ends_late _ _ _ _ _ _ c.loop-done.invariant.going (omega arith) c.ended_in-2.ensures
+returns-clause-ends g c = ends_late_as _ _ _ (seen c.loop-done.group) (seen c.note_more.new.self) _ _ (ap seen c.note_more.ensures) c.loop-done.invariant.going (omega arith) c.ended_in-2.ensures
+
+pub returns-clause-store : goal.returns-clause-store
+returns-clause-store g c = ap ground c.note_more.ensures ∙ c.loop-done.invariant.store
 
 pub returns-clause-open : goal.returns-clause-open
 returns-clause-open g c = ap (λ (r : Round). is_shut r.end) c.ended_in-2.ensures
