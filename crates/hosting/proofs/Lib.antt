@@ -14,6 +14,7 @@ pub mod HeldBack
 pub mod PieceLaws
 pub mod HeldKept
 pub mod HeldSweeps
+pub mod PartedLaws
 pub mod Grouped
 pub mod Doubts
 pub mod Gathering

@@ -5,6 +5,7 @@ use Rattle.hosting.specs.Held.{ground, seen}
 use Rattle.hosting.specs.Serving.{is_shut}
 use Rattle.hosting.proofs.Sweeps.{begins, begins_counting, counts_more, goes_on, ends_quiet, ends_refused, ends_late_as}
 use Rattle.hosting.proofs.HeldSweeps.{held_once, store_kept, held_refused, open_held}
+use Rattle.hosting.proofs.PartedLaws.{parts_none, parts_more, parts_same}
 use Rattle.hosting.proofs.held.sweep_on.Goals as goal
 
 pub loop-done-init : goal.loop-done-init
@@ -12,6 +13,7 @@ loop-done-init g c = record {
   going = begins _ _ _ c.new-sweeps.ensures.items;
   counted = begins_counting _ c.new-sweeps.ensures.items;
   store = refl;
+  parted = parts_none c.args.now _;
 }
 
 pub loop-done-preserved : goal.loop-done-preserved
@@ -21,6 +23,8 @@ loop-done-preserved g c = record {
       c.push_reserved.ensures.items;
   counted = counts_more _ _ _ _ _ c.loop-done.invariant.counted c.in-Ok.ensures.items c.push_reserved.ensures.items;
   store = store_kept c.loop-done.group c.sweep_with_room.new.self (sweep_edits c.loop-done.group.master c.args.now) c.in-Ok.ensures.held ∙ c.loop-done.invariant.store;
+  parted =
+      parts_more c.args.now _ c.loop-done.group c.sweep_with_room.new.self _ (sweep_edits c.loop-done.group.master c.args.now) c.loop-done.invariant.parted c.loop-done.invariant.going.done c.loop-done.invariant.store c.in-Ok.ensures.held;
 }
 
 pub returns-then-quiet-clause-ends : goal.returns-then-quiet-clause-ends
@@ -33,6 +37,16 @@ returns-then-quiet-clause-open g c = ap (λ (r : Round). is_shut r.end) c.ended_
 
 pub returns-then-quiet-clause-store : goal.returns-then-quiet-clause-store
 returns-then-quiet-clause-store g c = store_kept c.loop-done.group c.sweep_with_room.new.self (sweep_edits c.loop-done.group.master c.args.now) c.in-Ok.ensures.held ∙ c.loop-done.invariant.store
+
+pub returns-then-quiet-clause-parted : goal.returns-then-quiet-clause-parted
+returns-then-quiet-clause-parted g c =
+    parts_more c.args.now _ c.loop-done.group c.sweep_with_room.new.self _ (sweep_edits c.loop-done.group.master c.args.now) c.loop-done.invariant.parted c.loop-done.invariant.going.done c.loop-done.invariant.store c.in-Ok.ensures.held
+
+pub returns-in-Err-clause-parted : goal.returns-in-Err-clause-parted
+returns-in-Err-clause-parted g c = parts_same c.args.now _ c.loop-done.group _ c.loop-done.invariant.parted c.in-Err.ensures.err
+
+pub returns-clause-parted : goal.returns-clause-parted
+returns-clause-parted g c = parts_same c.args.now _ c.loop-done.group _ c.loop-done.invariant.parted c.note_more.ensures
 
 pub returns-in-Err-clause-ends : goal.returns-in-Err-clause-ends
 returns-in-Err-clause-ends g c =
