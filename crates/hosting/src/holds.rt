@@ -121,6 +121,7 @@ impl<R: Records> Group<R> {
             mut records,
             master,
             held,
+            ..
         } = self;
         match held.commit(&mut records) {
             Ok(()) => Ok(Cell::of_parts(master, records)),
