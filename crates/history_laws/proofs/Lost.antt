@@ -65,20 +65,20 @@ by_leave (edit ∷ edits) mid new rows (inr leave) so among =
     one_more (inr (inr none)) = absurd none
 
 -- a step of the master left them
-LeftAs : (terms : GroupTerms) (text : Known) (old : Hosted) (rows : Rows) → Type 0
+abbrev LeftAs : (terms : GroupTerms) (text : Known) (old : Hosted) (rows : Rows) → Type 0
 LeftAs terms text old rows = (store : Store) × StandsSo terms.master text old store × (store.rows ≡ rows) × (store.doubt ≡ old.store.doubt)
 
 module _ (terms : GroupTerms) (text : Known) (old new : Hosted) (fault : Fault) (rows : Rows) (group : LostGroup terms text old fault new) where
-  front : List (List Edit)
+  abbrev front : List (List Edit)
   front = group.refused.0
 
-  piece : List Edit
+  abbrev piece : List Edit
   piece = group.refused.1
 
-  back : List (List Edit)
+  abbrev back : List (List Edit)
   back = group.refused.2
 
-  mid : Store
+  abbrev mid : Store
   mid = group.refused.3
 
   stood : IsCommitted (joined front) old.store mid
@@ -182,17 +182,17 @@ last_clock : (end : Clocks) (deeds : List Deed) → AreAtClocks (end ∷ []) (at
 last_clock end deeds = (deeds, [], sym (append-nil (at_moment end deeds)), refl)
 
 -- these parts without their master
-gone : Parts → Rows → List Out → Parts
+abbrev gone : Parts → Rows → List Out → Parts
 gone p rows outs = record p { rows = rows; master = None; told = p.told ++ map ToClient outs }
 
 goes_so : (p : Parts) (end : Clocks) (cell : CellState) (outs : List Out) → AreDeeds (placed p cell outs) end (lines.Down ∷ []) (gone p cell.store.rows outs)
 goes_so p end cell outs = one_deed (placed p cell outs) (gone p cell.store.rows outs) end Goes (lines.Down ∷ []) (record { master = cell.master; up = refl; left = refl; prints = refl })
 
 module _ (p : Parts) (text : Known) (old : Hosted) (store : Store) (cell : CellState) (answers : List Answer) (front : List Clocks) (done : AreDeedsOf p front answers (with_master cell)) where
-  outs : List Out
+  abbrev outs : List Out
   outs = answers_outs answers
 
-  here : Parts
+  abbrev here : Parts
   here = placed p cell outs
 
   ends_done : (end : Clocks) → cell.store.rows ≡ store.rows → EndsUnheard p (front ++ end ∷ []) store.rows

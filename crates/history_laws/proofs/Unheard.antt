@@ -34,41 +34,39 @@ get_behind {X} (x ∷ xs) ys i =
     ap (λ n. slice_get ((x ∷ xs) ++ ys) n) e ∙ get_behind xs ys i
 
 module _ (front unheard back : List Message) where
-  with_them : List Message
+  abbrev with_them : List Message
   with_them = front ++ (unheard ++ back)
 
-  without_them : List Message
+  abbrev without_them : List Message
   without_them = front ++ back
 
-  place : ℕ → ℕ
+  abbrev place : ℕ → ℕ
   place at = place_beside (length front) (length unheard) at
 
   front_same : (at : ℕ) → at ≤ length front → message_at with_them at ≡ message_at without_them at
-  front_same zero h = refl
-  front_same (suc n) h =
-      let e : suc n - 1 ≡ n = omega arith in
-      ap (λ i. slice_get with_them i) e ∙ get_front front (unheard ++ back) back n (omega (arith, h)) ∙ ap (λ i. slice_get without_them i) (sym e)
+  front_same at le =
+      (elim (at == 0) as (λ b. (at == 0) ≡ b → cond b None (slice_get with_them (at - 1)) ≡ cond b None (slice_get without_them (at - 1))) [
+        | true ↦ (λ h. refl)
+        | false ↦ (λ h. let few : (at - 1) + 1 ≤ length front = grind (arith, nat_tests) in get_front front (unheard ++ back) back (at - 1) few)
+      ]) refl
 
-  behind_same : (k : ℕ) → message_at with_them (length front + suc k + length unheard) ≡ message_at without_them (length front + suc k)
-  behind_same k =
-      let a : (length front + suc k + length unheard) - 1 ≡ length front + (length unheard + k) = omega arith in
-      let b : (length front + suc k) - 1 ≡ length front + k = omega arith in
-      let c : ((length front + suc k + length unheard) == 0) ≡ false = grind (arith, nat_tests) in
-      let d : ((length front + suc k) == 0) ≡ false = grind (arith, nat_tests) in
-      ap (λ t. cond t None (slice_get with_them ((length front + suc k + length unheard) - 1))) c
-      ∙ ap (λ i. slice_get with_them i) a ∙ get_behind front (unheard ++ back) (length unheard + k) ∙ get_behind unheard back k ∙ sym (get_behind front back k)
-      ∙ ap (λ i. slice_get without_them i) (sym b)
-      ∙ sym (ap (λ t. cond t None (slice_get without_them ((length front + suc k) - 1))) d)
+  behind_same : (at : ℕ) → length front + 1 ≤ at → message_at with_them (at + length unheard) ≡ message_at without_them at
+  behind_same at le =
+      let k : ℕ = at - (length front + 1) in
+      let a : (at + length unheard) - 1 ≡ length front + (length unheard + k) = omega arith in
+      let b : at - 1 ≡ length front + k = omega arith in
+      let c : ((at + length unheard) == 0) ≡ false = grind (arith, nat_tests) in
+      let d : (at == 0) ≡ false = grind (arith, nat_tests) in
+      let with_k : slice_get with_them ((at + length unheard) - 1) ≡ slice_get back k =
+      ap (λ (i : ℕ). slice_get with_them i) a ∙ get_behind front (unheard ++ back) (length unheard + k) ∙ get_behind unheard back k in
+      let without_k : slice_get without_them (at - 1) ≡ slice_get back k = ap (λ (i : ℕ). slice_get without_them i) b ∙ get_behind front back k in
+      ap (λ (t : Bool). cond t None (slice_get with_them ((at + length unheard) - 1))) c ∙ with_k ∙ sym without_k ∙ sym (ap (λ (t : Bool). cond t None (slice_get without_them (at - 1))) d)
 
   place_same : (at : ℕ) → message_at with_them (place at) ≡ message_at without_them at
   place_same at =
       (elim (nat_le at (length front)) as (λ b. nat_le at (length front) ≡ b → message_at with_them (cond b at (at + length unheard)) ≡ message_at without_them at) [
         | true ↦ (λ h. let le : at ≤ length front = grind (arith, nat_tests) in front_same at le)
-        | false ↦ (λ h.
-            let k : ℕ = at - (length front + 1) in
-            let e : at ≡ length front + suc k = grind (arith, nat_tests) in
-            let P : ℕ → Type 0 = λ n. message_at with_them (n + length unheard) ≡ message_at without_them n in
-            subst P (sym e) (behind_same k))
+        | false ↦ (λ h. let le : length front + 1 ≤ at = grind (arith, nat_tests) in behind_same at le)
       ]) refl
 
   request_same : (at : ℕ) → request_at with_them (place at) ≡ request_at without_them at
