@@ -18,3 +18,4 @@ pub mod PartedLaws
 pub mod Grouped
 pub mod Doubts
 pub mod Gathering
+pub mod Whole
