@@ -1,12 +1,18 @@
 -- Frames that are done in a group, one behind the other.
-use Rattle.std.proofs.Common.{◌≡◌, ℕ, List, [], ◌∷◌, ◌++◌, Option, None, Some, Result, refl, sym, ap, subst, ◌∙◌, append-nil, append_assoc}
+use Rattle.std.proofs.Common.{◌≡◌, ℕ, List, [], ◌∷◌, ◌++◌, Option, None, Some, Result, Ok, refl, sym, ap, subst, ◌∙◌, append-nil, append_assoc}
 use Rattle.codec.specs.declared.faults.WireFault.{WireFault}
 use Rattle.master_state.specs.State.{MasterState}
-use Rattle.hosting.specs.Held.{GroupState, ground}
+use Rattle.hosting.specs.Held.{GroupState, ground, seen}
 use Rattle.hosting.specs.Pieces.{no_pieces}
 use Rattle.hosting.specs.declared.pieces.GroupTerms.{GroupTerms}
+use Rattle.tags_cell.specs.declared.messages.requests.Request.{Request}
 use Rattle.hosting.specs.declared.frames.Frame.{Frame}
+use Rattle.hosting.specs.declared.frames.Frame.TheVariants as frames
+use Rattle.hosting.specs.declared.answers.Answered.{Answered}
+use Rattle.hosting.specs.declared.settling.Settled.{Settled}
 use Rattle.hosting.specs.declared.seats.Reply.{Reply}
+use Rattle.hosting.specs.declared.seats.Reply.TheVariants as replies
+use Rattle.hosting.specs.Serving.{Answers, Settles}
 use Rattle.hosting.specs.declared.stops.Stop.{Stop}
 use Rattle.hosting.specs.declared.gathers.Behind.{Behind}
 use Rattle.hosting.specs.declared.gathers.Behind.TheVariants as behinds
@@ -17,7 +23,7 @@ use Rattle.hosting.specs.declared.gathers.Tried.TheVariants as tries
 use Rattle.hosting.specs.Streams.{FrameIs, Answer, Turns}
 use Rattle.rows_cell.specs.declared.tables.Edit.{Edit}
 use Rattle.over_core.specs.Sweep.{IsSettled}
-use Rattle.hosting.specs.Parted.{StandsSo, store_with, PartsFrames}
+use Rattle.hosting.specs.Parted.{StandsSo, store_with, PartsSweeps, PartsAnswer, PartsFrames}
 use Rattle.hosting.proofs.PartedLaws.{full_then, full_as, store_of, frames_none, frames_one}
 use Rattle.hosting.specs.Groups.{together, HeldTurn, DoesHeld, PutsTold, PutsReply, Tries, StandsBehind, NextThere, Gathered, Gathers, GathersOn, GathersBy, GathersOnBy, Goes, GoesBy, Keeps, ServesBehind}
 use Rattle.rows_cell.specs.declared.settings.MasterTerms.{MasterTerms}
@@ -146,6 +152,22 @@ so_far_ends onward behind begun sent here there rest old mid new before between 
 pub so_far_full : (begun sent : Result Frame WireFault) (here rest : Known) (old new : GroupState) (before after : List ℕ) → SoFar begun here old sent new rest before after
     → GathersBy begun here old (behinds.Found (Some sent)) new rest before after
 so_far_full begun sent here rest old new before after s terms text f = s terms text f
+
+-- ---- what a frame does in a group
+
+pub does_message : (sent : Result Frame WireFault) (frame : Frame) (now : ℕ) (message : Request) (answered : Answered) (old new : GroupState) → sent ≡ Ok frame → frame ≡ frames.Message now message
+    → Answers now message (seen old) answered (seen new) → ground new ≡ ground old → PartsAnswer now message old new → DoesHeld sent old (Some (replies.Answered answered)) new
+does_message sent frame now message answered old new is frame_is answers store parted =
+    let P : Result Frame WireFault → Type 0 = λ u. DoesHeld u old (Some (replies.Answered answered)) new in
+    let Q : Frame → Type 0 = λ f. DoesHeld (Ok f) old (Some (replies.Answered answered)) new in
+    subst P (sym is) (subst Q (sym frame_is) ((λ terms. (seen new, answers, refl)), store, parted))
+
+pub does_tick : (sent : Result Frame WireFault) (frame : Frame) (now : ℕ) (settled : Settled) (old new : GroupState) → sent ≡ Ok frame → frame ≡ frames.Tick now
+    → Settles now (seen old) settled (seen new) → ground new ≡ ground old → PartsSweeps now old new → DoesHeld sent old (Some (replies.Swept settled)) new
+does_tick sent frame now settled old new is frame_is settles store parted =
+    let P : Result Frame WireFault → Type 0 = λ u. DoesHeld u old (Some (replies.Swept settled)) new in
+    let Q : Frame → Type 0 = λ f. DoesHeld (Ok f) old (Some (replies.Swept settled)) new in
+    subst P (sym is) (subst Q (sym frame_is) ((λ terms. (seen new, settles, refl)), store, parted))
 
 -- ---- what is told of a frame
 
