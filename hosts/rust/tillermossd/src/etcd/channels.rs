@@ -11,6 +11,7 @@ use http::{Request, StatusCode};
 use prost::Message;
 use std::future::Future;
 use std::pin::Pin;
+use std::sync::atomic::{AtomicBool, Ordering};
 use std::sync::mpsc::sync_channel;
 use std::sync::{Arc, Weak};
 use std::thread;
@@ -163,11 +164,18 @@ fn words(told: &HeaderMap) -> String {
     String::from_utf8_lossy(&plain).into_owned()
 }
 
-/// A connection that is kept. All that is open over it, and who keeps it, have a part of `open`.
+/// A connection that is kept.
 #[derive(Clone, Debug)]
 struct Connection {
     sending: SendRequest<Bytes>,
-    open: Arc<()>,
+    open: Arc<Open>,
+}
+
+/// Has a part in each answer that is open over a connection, and in what is kept of it.
+#[derive(Debug, Default)]
+struct Open {
+    /// Nothing more is asked over it.
+    is_left: AtomicBool,
 }
 
 /// An answer that is coming. (What is asked isn't at its end before this is dropped, unless it was whole.)
@@ -175,7 +183,7 @@ struct Answer {
     body: RecvStream,
     came: BytesMut,
     _asking: SendStream<Bytes>,
-    _open: Arc<()>,
+    _open: Arc<Open>,
 }
 
 impl Answer {
@@ -203,7 +211,7 @@ impl Connection {
         let mut builder = Builder::new();
         builder.initial_window_size(WINDOW).initial_connection_window_size(WINDOWS).max_header_list_size(HEAD_LIMIT).enable_push(false);
         let (sending, mut connection) = builder.handshake(stream).await?;
-        let open = Arc::new(());
+        let open = Arc::<Open>::default();
         let (pings, watched) = (connection.ping_pong().context("a connection without pings")?, Arc::downgrade(&open));
         // (where it ends, so does what is open over it)
         tokio::spawn(async move {
@@ -233,7 +241,7 @@ impl Connection {
 }
 
 // Pings while something is open beside the one who keeps the connection; over where the member doesn't answer.
-async fn ping(mut pings: PingPong, open: Weak<()>) {
+async fn ping(mut pings: PingPong, open: Weak<Open>) {
     loop {
         sleep(PINGING).await;
         if open.strong_count() > 1 && !matches!(timeout(PINGED, pings.ping(Ping::opaque())).await, Ok(Ok(_))) {
@@ -264,26 +272,24 @@ impl Member {
         }
     }
 
-    // One that is ready: that is kept, or a new one where it has ended.
+    // One that is ready: that is kept, or a new one where it has ended or was left.
     async fn connection(&self) -> Result<Connection> {
         let mut kept: MutexGuard<Option<Connection>> = self.kept.lock().await;
-        if let Some(Connection { sending, open }) = kept.clone()
+        if let Some(Connection { sending, open }) = kept.take_if(|kept| !kept.open.is_left.load(Ordering::SeqCst))
             && let Ok(sending) = sending.ready().await
         {
-            return Ok(Connection { sending, open });
+            return Ok(kept.insert(Connection { sending, open }).clone());
         }
-        let made = self.connect().await?;
-        *kept = Some(made.clone());
-        Ok(made)
+        Ok(kept.insert(self.connect().await?).clone())
     }
 
     // Asks; after a question that wasn't answered the next one goes over another connection.
     async fn ask<T>(&self, limit: Limit, deed: impl AsyncFnOnce(Connection) -> Result<T, Fault>) -> Result<T, Fault> {
         let connection = limit.wait(self.connection()).await?;
-        let open = Arc::downgrade(&connection.open);
+        let open = connection.open.clone();
         let answered = deed(connection).await;
         if matches!(answered, Err(Fault::Late | Fault::Cut(_))) {
-            self.kept.lock().await.take_if(|kept| Arc::as_ptr(&kept.open) == open.as_ptr());
+            open.is_left.store(true, Ordering::SeqCst);
         }
         answered
     }
