@@ -1,7 +1,11 @@
 //! What an etcd answers to each question that is asked of it here: Debian's etcd-server, of one member, as a process.
 
+use crate::etcd::channels::{Asked, Channels};
 use crate::etcd::gateway::{Compare, Followed, Lost, Members, Operation};
+use crate::etcd::messages::{Question, Watch, WatchWanted};
 use crate::net::tls::client_config;
+use nix::sys::signal::{Signal, kill};
+use nix::unistd::Pid;
 use std::net::TcpListener;
 use std::path::PathBuf;
 use std::process::{Child, Command, Stdio};
@@ -168,6 +172,27 @@ fn changes_are_told_until_they_are_forgotten() {
     assert!(matches!(&page, Err(Lost::Refused(error)) if error.to_string().contains("compacted")), "{page:?}");
     members.look_for_room().unwrap();
     assert!(members.health().has_room());
+}
+
+// (nothing is told for longer than this test takes)
+#[test]
+fn a_member_that_hangs_is_noticed_by_pings() {
+    let (etcd, members) = new();
+    let tell = |signal| kill(Pid::from_raw(etcd.child.id().cast_signed()), signal).unwrap();
+    let channels = Channels::new(from_ref(&etcd.place), None).unwrap();
+    let wanted = WatchWanted { key: b"c/".to_vec(), end: b"c0".to_vec(), from: 0 };
+    let asked = Asked::new(Watch::METHOD, &Watch { wanted: Some(wanted) }, None);
+    let begun = Instant::now();
+    let mut told = 0;
+    let followed = channels.follow(0, asked, 2 * COMING_UP, |_| {
+        told += 1;
+        tell(Signal::SIGSTOP);
+        Ok(true)
+    });
+    tell(Signal::SIGCONT);
+    assert!(followed.is_err() && told == 1, "{followed:?} {told}");
+    assert!(begun.elapsed() < COMING_UP, "{:?}", begun.elapsed());
+    up(members);
 }
 
 // By openssl: a certificate that this authority signs, or one that signs itself.
