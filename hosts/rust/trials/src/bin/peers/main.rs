@@ -134,18 +134,19 @@ fn each_by_itself<S: Send>(some: Vec<S>, deed: impl Fn(&mut S) -> Measured<()> +
 // Writes a second, each client's to a file of its own.
 fn sets(service: Service<'_>, clients: u32, lasting: Duration) -> Measured<f64> {
     let mut sessions = service.sessions(clients)?;
+    // (each run has names that no other had)
+    let run = std::process::id();
     for (number, session) in sessions.iter_mut().enumerate() {
-        let name = format!("set{clients}-{number}");
+        let name = format!("set{run}-{number}");
         session.make(&name)?;
         session.open(&name)?;
     }
-    all_at_once(sessions, lasting, |session, number| session.set(&format!("set{clients}-{number}")))
+    all_at_once(sessions, lasting, |session, number| session.set(&format!("set{run}-{number}")))
 }
 
 // Transactions a second of an etcd, each client's of keys of its own.
 fn transactions(address: &str, clients: u32, lasting: Duration) -> Measured<f64> {
     let clients_there = (0..clients).map(|_| etcd::Etcd::connect(address)).collect::<Measured<Vec<_>>>()?;
-    // (each run has keys that no other had)
     let run = std::process::id();
     all_at_once(clients_there, lasting, |etcd, number| etcd.transact(&format!("transaction{run}-{number}")))
 }
