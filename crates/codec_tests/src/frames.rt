@@ -1,4 +1,6 @@
 //! Frames to a master that a program hosts, and what is told of them.
+ghost use Rattle.std.specs.Prelude.{◌≡◌};
+
 use crate::blocks::block_words;
 use crate::dice::Dice;
 use crate::flushes::flushed;
@@ -14,7 +16,9 @@ use rows_cell::{Limits, ListRecords, MasterTerms, Settings};
 use std::alloc::{AllocError, Global};
 
 /// The terms of every master: a lease of 12,000 ms, and no limits.
-pub(crate) fn terms() -> MasterTerms {
+pub(crate) fn terms() -> MasterTerms
+    ensures { result.lease ≡ 12000 }
+{
     MasterTerms {
         lease: 12_000,
         limits: Limits::none(),

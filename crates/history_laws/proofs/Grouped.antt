@@ -20,11 +20,11 @@ use Rattle.history_laws.proofs.Hosted.{told_more, history_append, as_same, same_
 abbrev Known : Type 0
 Known = Option (List ℕ)
 
-none_before : (a b : ℕ) → a ≤ b → b ≡ 0 → a ≡ 0
+pub none_before : (a b : ℕ) → a ≤ b → b ≡ 0 → a ≡ 0
 none_before a b h k = omega (arith, h, k)
 
 -- the frames are deeds, and lead there
-abbrev AreDeedsOf : Parts → List Clocks → List Answer → Hosted → Type 0
+abbrev pub AreDeedsOf : Parts → List Clocks → List Answer → Hosted → Type 0
 AreDeedsOf p clocks answers new =
     ((entries : List Entry) × AreAtClocks clocks entries × History p entries (answers_lines answers) (behind_frame p new (answers_outs answers))) × IsHostedIn (behind_frame p new (answers_outs answers)) new
 
@@ -32,7 +32,7 @@ AreDeedsOf p clocks answers new =
 behind_again : (p : Parts) (mid new : Hosted) (a b : List Out) → behind_frame (behind_frame p mid a) new b ≡ behind_frame p new (a ++ b)
 behind_again p mid new a b = ap (λ told. record p { rows = new.store.rows; master = new.master; told = told }) (told_more p.told a b)
 
-turns_are : (p : Parts) (clocks : List Clocks) (text : Known) (old : Hosted) (answers : List Answer) (new : Hosted) (rest : Known) (turns : Turns p.terms text old answers new rest)
+pub turns_are : (p : Parts) (clocks : List Clocks) (text : Known) (old : Hosted) (answers : List Answer) (new : Hosted) (rest : Known) (turns : Turns p.terms text old answers new rest)
     → IsHostedIn p old → new.store.doubt ≡ 0 → ComeAt p clocks p.terms text old answers new rest turns → AreDeedsOf p clocks answers new
 turns_are p clocks text old [] new rest turns in_it sure none =
     let T : Hosted → Type 0 = λ h. behind_frame p h [] ≡ p in

@@ -50,13 +50,13 @@ use Rattle.history_laws.specs.Hosted.{swept_lines, swept_outs, settled_lines, se
 -- ---- the parts behind some steps
 
 -- with this master and these rows, and with messages more
-abbrev placed : Parts → CellState → List Out → Parts
+abbrev pub placed : Parts → CellState → List Out → Parts
 placed p cell outs = behind_frame p (with_master cell) outs
 
 pub told_more : (told : List Message) (a b : List Out) → (told ++ map ToClient a) ++ map ToClient b ≡ told ++ map ToClient (a ++ b)
 told_more told a b = append_assoc told (map ToClient a) (map ToClient b) ∙ ap (λ ms. told ++ ms) (sym (map-append ToClient a b))
 
-placed_again : (p : Parts) (mid new : CellState) (a b : List Out) → placed (placed p mid a) new b ≡ placed p new (a ++ b)
+pub placed_again : (p : Parts) (mid new : CellState) (a b : List Out) → placed (placed p mid a) new b ≡ placed p new (a ++ b)
 placed_again p mid new a b = ap (λ told. record p { rows = new.store.rows; master = Some new.master; told = told }) (told_more p.told a b)
 
 -- ---- histories, one behind the other
@@ -67,7 +67,7 @@ history_append old mid new (entry ∷ first) second printed told one two =
     (one.0, one.1, one.2 ++ told, one.3, history_append one.0 mid new first second one.2 told one.4 two, ap (λ l. l ++ told) one.5 ∙ append_assoc one.1 one.2 told)
 
 -- what some steps of a master are
-abbrev AreDeeds : Parts → Clocks → List Line → Parts → Type 0
+abbrev pub AreDeeds : Parts → Clocks → List Line → Parts → Type 0
 AreDeeds p clocks printed new = (deeds : List Deed) × History p (at_moment clocks deeds) printed new
 
 no_deeds : (p : Parts) (clocks : Clocks) → AreDeeds p clocks [] p
@@ -76,11 +76,11 @@ no_deeds p clocks = ([], (refl, refl))
 at_append : (clocks : Clocks) (a b : List Deed) → at_moment clocks (a ++ b) ≡ at_moment clocks a ++ at_moment clocks b
 at_append clocks a b = map-append (λ deed. record { clocks = clocks; deed = deed }) a b
 
-deeds_append : (p mid new : Parts) (clocks : Clocks) (printed told : List Line) → AreDeeds p clocks printed mid → AreDeeds mid clocks told new → AreDeeds p clocks (printed ++ told) new
+pub deeds_append : (p mid new : Parts) (clocks : Clocks) (printed told : List Line) → AreDeeds p clocks printed mid → AreDeeds mid clocks told new → AreDeeds p clocks (printed ++ told) new
 deeds_append p mid new clocks printed told one two =
     (one.0 ++ two.0, subst (λ es. History p es (printed ++ told) new) (sym (at_append clocks one.0 two.0)) (history_append p mid new (at_moment clocks one.0) (at_moment clocks two.0) printed told one.1 two.1))
 
-one_deed : (p new : Parts) (clocks : Clocks) (deed : Deed) (printed : List Line) → Does p clocks deed new printed → AreDeeds p clocks printed new
+pub one_deed : (p new : Parts) (clocks : Clocks) (deed : Deed) (printed : List Line) → Does p clocks deed new printed → AreDeeds p clocks printed new
 one_deed p new clocks deed printed does = (deed ∷ [], (new, printed, [], does, (refl, refl), sym (append-nil printed)))
 
 -- ---- sweeps, and Beats that are answered
@@ -90,13 +90,13 @@ pub record HasCell (p : Parts) (cell : CellState) : Type 0 where
   pub master : p.master ≡ Some cell.master
   pub rows : p.rows ≡ cell.store.rows
 
-placed_has : (p : Parts) (cell : CellState) (outs : List Out) → HasCell (placed p cell outs) cell
+pub placed_has : (p : Parts) (cell : CellState) (outs : List Out) → HasCell (placed p cell outs) cell
 placed_has p cell outs = record { master = refl; rows = refl }
 
 same_placed : (p : Parts) (cell : CellState) → HasCell p cell → placed p cell [] ≡ p
 same_placed p cell has = ap (λ m. record p { rows = cell.store.rows; master = m; told = p.told ++ [] }) (sym has.master) ∙ ap (λ rows. record p { rows = rows; told = p.told ++ [] }) (sym has.rows) ∙ ap (λ told. record p { told = told }) (append-nil p.told)
 
-sweep_is : (p : Parts) (clocks : Clocks) (now : ℕ) (old new : CellState) (swept : Swept) → clocks.master ≡ now → HasCell p old → SweepsOnce now old swept new → AreDeeds p clocks swept.lines (placed p new swept.outs)
+pub sweep_is : (p : Parts) (clocks : Clocks) (now : ℕ) (old new : CellState) (swept : Swept) → clocks.master ≡ now → HasCell p old → SweepsOnce now old swept new → AreDeeds p clocks swept.lines (placed p new swept.outs)
 sweep_is p clocks now old new swept at has once =
     one_deed p (placed p new swept.outs) clocks Sweeps swept.lines (record {
       master = old.master;
@@ -124,7 +124,7 @@ beat_is p clocks now old new swept at has once =
 abbrev EachIsDeed : Clocks → (CellState → Swept → CellState → Type 0) → Type 0
 EachIsDeed clocks Once = (p : Parts) (old new : CellState) (swept : Swept) → HasCell p old → Once old swept new → AreDeeds p clocks swept.lines (placed p new swept.outs)
 
-steps_are : (clocks : Clocks) (Once : CellState → Swept → CellState → Type 0) → EachIsDeed clocks Once → (p : Parts) (old new : CellState) (sweeps : List Swept) → HasCell p old → StepsTo Once old sweeps new → AreDeeds p clocks (swept_lines sweeps) (placed p new (swept_outs sweeps))
+pub steps_are : (clocks : Clocks) (Once : CellState → Swept → CellState → Type 0) → EachIsDeed clocks Once → (p : Parts) (old new : CellState) (sweeps : List Swept) → HasCell p old → StepsTo Once old sweeps new → AreDeeds p clocks (swept_lines sweeps) (placed p new (swept_outs sweeps))
 steps_are clocks Once each p old new [] has h =
     subst (λ q. AreDeeds p clocks [] q) (sym (ap (λ cell. placed p cell []) h ∙ same_placed p old has)) (no_deeds p clocks)
 steps_are clocks Once each p old new (swept ∷ rest) has h =
@@ -174,8 +174,8 @@ settles_are clocks now at p old new settled has h =
 -- ---- the store behind them
 
 pub record IsLater (old new : Store) : Type 0 where
-  cell : new.cell ≡ old.cell
-  doubted : old.doubt ≤ new.doubt
+  pub cell : new.cell ≡ old.cell
+  pub doubted : old.doubt ≤ new.doubt
 
 at_once : (s : Store) → IsLater s s
 at_once s = record { cell = refl; doubted = omega arith }
@@ -186,7 +186,7 @@ later_on a b c one two = let x = one.doubted in let y = two.doubted in record { 
 pub as_same : (a b : Store) → b ≡ a → IsLater a b
 as_same a b same = rw same (at_once a)
 
-steps_later : (Once : CellState → Swept → CellState → Type 0) → ((old new : CellState) (swept : Swept) → Once old swept new → IsLater old.store new.store) → (old new : CellState) (sweeps : List Swept) → StepsTo Once old sweeps new → IsLater old.store new.store
+pub steps_later : (Once : CellState → Swept → CellState → Type 0) → ((old new : CellState) (swept : Swept) → Once old swept new → IsLater old.store new.store) → (old new : CellState) (sweeps : List Swept) → StepsTo Once old sweeps new → IsLater old.store new.store
 steps_later Once each old new [] h = as_same old.store new.store (ap (λ (c : CellState). c.store) h)
 steps_later Once each old new (swept ∷ rest) h = later_on old.store h.0.store new.store (each old h.0 swept h.1) (steps_later Once each h.0 new rest h.2)
 
@@ -195,7 +195,7 @@ ends_later Once Stops each stops old new sweeps ends.Quiet h = steps_later Once 
 ends_later Once Stops each stops old new sweeps (ends.Refused fault) h = later_on old.store h.0.store new.store (steps_later Once each old h.0 sweeps h.1) (stops h.0 new fault h.3)
 ends_later Once Stops each stops old new sweeps ends.Unfinished h = steps_later Once each old new sweeps h.0
 
-sweep_later : (now : ℕ) (old new : CellState) (swept : Swept) → SweepsOnce now old swept new → IsLater old.store new.store
+pub sweep_later : (now : ℕ) (old new : CellState) (swept : Swept) → SweepsOnce now old swept new → IsLater old.store new.store
 sweep_later now old new swept once = record { cell = once.committed.cell; doubted = once.committed.doubted }
 
 beat_later : (now : ℕ) (old new : CellState) (swept : Swept) → BeatsOnce now old swept new → IsLater old.store new.store
@@ -241,7 +241,7 @@ stays_in p old new outs in_it later = record { master = refl; rows = refl; cell 
 
 module _ (p : Parts) (clocks : Clocks) (now : ℕ) (at : clocks.master ≡ now) (store : Store) where
   -- it takes a message
-  take_is : (master next : MasterState) (message : Request) (taken : Taken) (place : ℕ) → HasCell p (cell_of master store) → request_at p.told place ≡ Some message → is_client_number (request_client message) ≡ true → take_step master now message ≡ Ok (next, taken) → AreDeeds p clocks taken.lines (placed p (cell_of next store) taken.outs)
+  pub take_is : (master next : MasterState) (message : Request) (taken : Taken) (place : ℕ) → HasCell p (cell_of master store) → request_at p.told place ≡ Some message → is_client_number (request_client message) ≡ true → take_step master now message ≡ Ok (next, taken) → AreDeeds p clocks taken.lines (placed p (cell_of next store) taken.outs)
   take_is master next message taken place has told numbered step =
       one_deed p (placed p (cell_of next store) taken.outs) clocks (Takes place) taken.lines (record {
         master = master;

@@ -7,4 +7,6 @@ mod Tried
 mod Example
 mod Hosted
 mod Grouped
+mod Lost
+mod Unheard
 mod Kept

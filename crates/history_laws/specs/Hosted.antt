@@ -34,7 +34,7 @@ use Rattle.watch_cell.specs.Trail.{step_of}
 use Rattle.history_laws.specs.Parts.{Parts, Deed}
 use Rattle.history_laws.specs.Histories.{Clocks, Entry, Does, History}
 
-abbrev Known : Type 0
+abbrev pub Known : Type 0
 Known = Option (List ℕ)
 
 -- ---- what is told of a frame

@@ -3,4 +3,5 @@ pub mod Histories
 pub mod Laws
 pub mod Example
 pub mod Hosted
+pub mod Lost
 pub mod Kept

@@ -1,6 +1,7 @@
 //! Parts that run apart are a world.
 ghost use Rattle.history_laws.specs.Laws.{HistoriesAreRuns, HistoriesHold, CachesShowTheRows, CachesAnswerTheRows};
 ghost use Rattle.history_laws.specs.Hosted.{FramesAreDeeds, GroupsAreDeeds, BytesCarryMessages, TrailsAreDeeds};
+ghost use Rattle.history_laws.specs.Lost.{LostGroupsAreEnds, UnheardAreAsUntold};
 ghost use Rattle.history_laws.specs.Kept.{ViewsAnswerTheRows};
 ghost use Rattle.history_laws.specs.Example.{TwoProgramsArePossible, NothingComesOfNobody};
 
@@ -40,6 +41,18 @@ pub fn frames_are_deeds()
 /// committed together, and only then it is told of them.
 pub fn groups_are_deeds()
     ensures { GroupsAreDeeds }
+{}
+
+/// A group of frames of which the store refused a piece is an end of its master, of which nobody was told: whichever rows the next master
+/// finds, those that stand or those that a crash may leave, are as a step of this one left them, after which it was gone.
+pub fn lost_groups_are_ends()
+    ensures { LostGroupsAreEnds }
+{}
+
+/// Messages of which nobody hears are as messages that weren't told: each history that goes on without them goes on with them, by the same
+/// deeds at the same clocks, and with the same lines.
+pub fn unheard_are_as_untold()
+    ensures { UnheardAreAsUntold }
 {}
 
 /// Where messages travel as bytes, whoever reads the bytes of one takes the message that was told.

@@ -1,12 +1,18 @@
 -- Frames that are done in a group, one behind the other.
-use Rattle.std.proofs.Common.{◌≡◌, ℕ, List, [], ◌∷◌, ◌++◌, Option, None, Some, Result, refl, sym, ap, subst, ◌∙◌, append-nil, append_assoc}
+use Rattle.std.proofs.Common.{◌≡◌, ℕ, List, [], ◌∷◌, ◌++◌, Option, None, Some, Result, Ok, refl, sym, ap, subst, ◌∙◌, append-nil, append_assoc}
 use Rattle.codec.specs.declared.faults.WireFault.{WireFault}
 use Rattle.master_state.specs.State.{MasterState}
-use Rattle.hosting.specs.Held.{GroupState, ground}
+use Rattle.hosting.specs.Held.{GroupState, ground, seen}
 use Rattle.hosting.specs.Pieces.{no_pieces}
 use Rattle.hosting.specs.declared.pieces.GroupTerms.{GroupTerms}
+use Rattle.tags_cell.specs.declared.messages.requests.Request.{Request}
 use Rattle.hosting.specs.declared.frames.Frame.{Frame}
+use Rattle.hosting.specs.declared.frames.Frame.TheVariants as frames
+use Rattle.hosting.specs.declared.answers.Answered.{Answered}
+use Rattle.hosting.specs.declared.settling.Settled.{Settled}
 use Rattle.hosting.specs.declared.seats.Reply.{Reply}
+use Rattle.hosting.specs.declared.seats.Reply.TheVariants as replies
+use Rattle.hosting.specs.Serving.{Answers, Settles}
 use Rattle.hosting.specs.declared.stops.Stop.{Stop}
 use Rattle.hosting.specs.declared.gathers.Behind.{Behind}
 use Rattle.hosting.specs.declared.gathers.Behind.TheVariants as behinds
@@ -14,21 +20,44 @@ use Rattle.hosting.specs.declared.gathers.Onward.{Onward}
 use Rattle.hosting.specs.declared.gathers.Onward.TheVariants as onwards
 use Rattle.hosting.specs.declared.gathers.Tried.{Tried}
 use Rattle.hosting.specs.declared.gathers.Tried.TheVariants as tries
-use Rattle.hosting.specs.Streams.{FrameIs}
+use Rattle.hosting.specs.Streams.{FrameIs, Answer, Turns}
+use Rattle.rows_cell.specs.declared.tables.Edit.{Edit}
+use Rattle.over_core.specs.Sweep.{IsSettled}
+use Rattle.hosting.specs.Parted.{StandsSo, store_with, PartsSweeps, PartsAnswer, PartsFrames}
+use Rattle.hosting.proofs.PartedLaws.{full_then, full_as, store_of, frames_none, frames_one}
 use Rattle.hosting.specs.Groups.{together, HeldTurn, DoesHeld, PutsTold, PutsReply, Tries, StandsBehind, NextThere, Gathered, Gathers, GathersOn, GathersBy, GathersOnBy, Goes, GoesBy, Keeps, ServesBehind}
 use Rattle.rows_cell.specs.declared.settings.MasterTerms.{MasterTerms}
 use Rattle.rows_cell.specs.Stores.{Store}
 use Rattle.hosting.specs.declared.stops.GroupStop.TheVariants.{Stopped}
 use Rattle.hosting.specs.declared.groups.Course.{Course}
 use Rattle.hosting.specs.declared.groups.Course.TheVariants as courses
-use Rattle.hosting.specs.Seats.{Hosted, without_master, IsDue}
+use Rattle.hosting.specs.Seats.{Hosted, with_master, without_master, IsDue}
 use Rattle.hosting.proofs.Grouped.{turns_behind, answers_behind, kept_goes, behind_goes, lost_goes}
 
 abbrev Known : Type 0
 Known = Option (List ℕ)
 
+-- from the first frames on
+stands_behind : (terms : MasterTerms) (text there : Known) (old mid : Hosted) (front : List Answer) (store : Store) → Turns terms text old front mid there → StandsSo terms there mid store → StandsSo terms text old store
+stands_behind terms text there old mid front store turns s = record {
+  cell = s.cell;
+  answers = front ++ s.answers;
+  rest = s.rest;
+  turns = turns_behind terms text there s.rest old mid (with_master s.cell) front s.answers turns s.turns;
+  so = s.so;
+}
+
+parts_then : (terms : MasterTerms) (text there : Known) (old mid new : GroupState) (front : List Answer) → Turns terms text (together old) front (together mid) there → ground mid ≡ ground old → PartsFrames terms text old mid
+    → PartsFrames terms there mid new → PartsFrames terms text old new
+parts_then terms text there old mid new front turns same one two =
+    let Holds : List (List Edit) → Type 0 = λ full. StandsSo terms text (together old) (store_with old.store full) in
+    let Later : List (List Edit) → Type 0 = λ full. StandsSo terms there (together mid) (store_with mid.store full) in
+    full_then Holds old.held mid.held new.held one
+    (full_as Later Holds (λ full s. stands_behind terms text there (together old) (together mid) front (store_with old.store full) turns
+    (subst (λ (u : Store). StandsSo terms there (together mid) (store_with u full)) (store_of old mid same) s)) mid.held new.held two)
+
 gathered_none : (terms : MasterTerms) (text : Known) (group : GroupState) (told : List ℕ) → Gathered terms text group group text told told
-gathered_none terms text group told = record { answers = []; bytes = []; turns = (refl, refl); told = refl; behind = sym (append-nil told); store = refl }
+gathered_none terms text group told = record { answers = []; bytes = []; turns = (refl, refl); told = refl; behind = sym (append-nil told); store = refl; parted = frames_none terms text group }
 
 gathered_then : (terms : MasterTerms) (text there rest : Known) (old mid new : GroupState) (before between after : List ℕ) → Gathered terms text old mid there before between
     → Gathered terms there mid new rest between after → Gathered terms text old new rest before after
@@ -39,6 +68,7 @@ gathered_then terms text there rest old mid new before between after g h = recor
   told = answers_behind g.answers h.answers g.bytes h.bytes g.told h.told;
   behind = h.behind ∙ ap (λ (u : List ℕ). u ++ h.bytes) g.behind ∙ append_assoc before g.bytes h.bytes;
   store = h.store ∙ g.store;
+  parted = parts_then terms text there old mid new g.answers g.turns g.store g.parted h.parted;
 }
 
 -- ---- one frame
@@ -52,6 +82,7 @@ gathered_one terms sent text here old new before after f h = record {
   told = (h.bytes, [], h.blocks, refl, sym (append-nil h.bytes));
   behind = h.told;
   store = h.store;
+  parted = frames_one terms sent text here old new f h.parted;
 }
 
 -- what stands behind what was done
@@ -122,6 +153,22 @@ pub so_far_full : (begun sent : Result Frame WireFault) (here rest : Known) (old
     → GathersBy begun here old (behinds.Found (Some sent)) new rest before after
 so_far_full begun sent here rest old new before after s terms text f = s terms text f
 
+-- ---- what a frame does in a group
+
+pub does_message : (sent : Result Frame WireFault) (frame : Frame) (now : ℕ) (message : Request) (answered : Answered) (old new : GroupState) → sent ≡ Ok frame → frame ≡ frames.Message now message
+    → Answers now message (seen old) answered (seen new) → ground new ≡ ground old → PartsAnswer now message old new → DoesHeld sent old (Some (replies.Answered answered)) new
+does_message sent frame now message answered old new is frame_is answers store parted =
+    let P : Result Frame WireFault → Type 0 = λ u. DoesHeld u old (Some (replies.Answered answered)) new in
+    let Q : Frame → Type 0 = λ f. DoesHeld (Ok f) old (Some (replies.Answered answered)) new in
+    subst P (sym is) (subst Q (sym frame_is) ((λ terms. (seen new, answers, refl)), store, parted))
+
+pub does_tick : (sent : Result Frame WireFault) (frame : Frame) (now : ℕ) (settled : Settled) (old new : GroupState) → sent ≡ Ok frame → frame ≡ frames.Tick now
+    → Settles now (seen old) settled (seen new) → ground new ≡ ground old → PartsSweeps now old new → DoesHeld sent old (Some (replies.Swept settled)) new
+does_tick sent frame now settled old new is frame_is settles store parted =
+    let P : Result Frame WireFault → Type 0 = λ u. DoesHeld u old (Some (replies.Swept settled)) new in
+    let Q : Frame → Type 0 = λ f. DoesHeld (Ok f) old (Some (replies.Swept settled)) new in
+    subst P (sym is) (subst Q (sym frame_is) ((λ terms. (seen new, settles, refl)), store, parted))
+
 -- ---- what is told of a frame
 
 pub tries_by : (tried : Tried) (sent : Result Frame WireFault) (old mid new : GroupState) (reply : Reply) (before after : List ℕ) → DoesHeld sent old (Some reply) mid
@@ -136,6 +183,7 @@ tries_by tries.Done sent old mid new reply before after d p same =
       blocks = p.2.1;
       told = p.2.2;
       store = d.1;
+      parted = d.2;
     })
 tries_by tries.Alone sent old mid new reply before after d p same = absurd p
 tries_by (tries.Stopped stop) sent old mid new reply before after d p same = (p, ap ground same ∙ d.1)
@@ -166,25 +214,25 @@ from_none t0 t1 begun here rest first group behind empty g =
     subst P empty g
 
 pub together_nothing : (behind : Behind) (course : Course) (terms : GroupTerms) (begun : Result Frame WireFault) (here rest before after : Known) (first group : GroupState) (t0 told slice : List ℕ) (new : Hosted)
-    → behind ≡ behinds.Nothing → t0 ≡ [] → slice ≡ told → first.held ≡ no_pieces terms.limits → GathersBy begun here first behind group rest t0 told → Keeps group slice course new before after
+    → behind ≡ behinds.Nothing → t0 ≡ [] → slice ≡ told → first.held ≡ no_pieces terms.limits → IsSettled first.store → GathersBy begun here first behind group rest t0 told → Keeps group slice course new before after
     → GoesBy terms (Some begun) here (together first) course new rest before after
-together_nothing behind course terms begun here rest before after first group t0 told slice new is empty same none g k text f =
+together_nothing behind course terms begun here rest before after first group t0 told slice new is empty same none sure g k text f =
     let P : Behind → Type 0 = λ u. GathersBy begun here first u group rest [] told in
     let done = subst P is (from_none t0 told begun here rest first group behind empty g) terms.master text f in
     let Q : List ℕ → Type 0 = λ u. Keeps group u course new before after in
     let W : Known → Type 0 = λ u. Goes terms text (together first) course new u before after in
-    subst W (sym done.2) (kept_goes course terms text done.0 before after first group told new none done.1 (subst Q same k))
+    subst W (sym done.2) (kept_goes course terms text done.0 before after first group told new none sure done.1 (subst Q same k))
 
 pub together_found : (behind : Behind) (found : Option (Result Frame WireFault)) (kept course : Course) (terms : GroupTerms) (begun : Result Frame WireFault) (here rest before between after : Known)
-    (first group : GroupState) (t0 told slice : List ℕ) (mid new : Hosted) → behind ≡ behinds.Found found → t0 ≡ [] → slice ≡ told → first.held ≡ no_pieces terms.limits
+    (first group : GroupState) (t0 told slice : List ℕ) (mid new : Hosted) → behind ≡ behinds.Found found → t0 ≡ [] → slice ≡ told → first.held ≡ no_pieces terms.limits → IsSettled first.store
     → GathersBy begun here first behind group rest t0 told → Keeps group slice kept mid before between
     → ((there : Known) → ServesBehind terms kept found there mid course new between after) → GoesBy terms (Some begun) here (together first) course new rest before after
-together_found behind found kept course terms begun here rest before between after first group t0 told slice mid new is empty same none g k s text f =
+together_found behind found kept course terms begun here rest before between after first group t0 told slice mid new is empty same none sure g k s text f =
     let P : Behind → Type 0 = λ u. GathersBy begun here first u group rest [] told in
     let done = subst P is (from_none t0 told begun here rest first group behind empty g) terms.master text f in
     let Q : List ℕ → Type 0 = λ u. Keeps group u kept mid before between in
     behind_goes kept course terms found text done.0 rest before between after (together first) mid new
-    (kept_goes kept terms text done.0 before between first group told mid none done.1 (subst Q same k)) (s rest) done.2
+    (kept_goes kept terms text done.0 before between first group told mid none sure done.1 (subst Q same k)) (s rest) done.2
 
 pub together_lost : (behind : Behind) (stop : Stop) (terms : GroupTerms) (begun : Result Frame WireFault) (here rest before : Known) (first group : GroupState) (t0 told : List ℕ) (store : Store)
     → behind ≡ behinds.Lost stop → first.held ≡ no_pieces terms.limits → GathersBy begun here first behind group rest t0 told → store ≡ group.store

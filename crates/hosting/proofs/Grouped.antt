@@ -7,11 +7,12 @@ use Rattle.rows_cell.specs.declared.settings.MasterTerms.{MasterTerms}
 use Rattle.rows_cell.specs.Stores.{Store}
 use Rattle.codec.specs.declared.faults.WireFault.{WireFault}
 use Rattle.output.specs.Fronts.{AppendsFront}
-use Rattle.hosting.specs.Held.{GroupState, ground, store_behind}
+use Rattle.hosting.specs.Held.{GroupState, ground, store_behind, seen}
 use Rattle.hosting.specs.Pieces.{HeldPieces, AreTaken, CommitsEach, IsCutShort, all_held, all_pieces, joined, no_pieces}
 use Rattle.hosting.specs.declared.pieces.GroupLimits.{GroupLimits}
 use Rattle.hosting.specs.declared.pieces.GroupTerms.{GroupTerms}
 use Rattle.hosting.proofs.HeldBack.{behind_none}
+use Rattle.hosting.proofs.PartedLaws.{parted_fronts}
 use Rattle.hosting.specs.declared.frames.Frame.{Frame}
 use Rattle.hosting.specs.declared.stops.Stop.{Stop}
 use Rattle.hosting.specs.declared.stops.Stop.TheVariants.{Unread, Unwritten, NoMemory}
@@ -22,6 +23,9 @@ use Rattle.hosting.specs.declared.streams.Turned.TheVariants as turned_as
 use Rattle.hosting.specs.declared.groups.Course.{Course}
 use Rattle.hosting.specs.declared.groups.Course.TheVariants as courses
 use Rattle.over_core.specs.Kept.{CellState}
+use Rattle.over_core.specs.Sweep.{IsSettled}
+use Rattle.rows_cell.specs.declared.tables.Edit.{Edit}
+use Rattle.hosting.specs.Parted.{StandsSo, ArePartedBySteps, store_with}
 use Rattle.hosting.specs.Seats.{Hosted, with_master, without_master}
 use Rattle.hosting.specs.Streams.{FoundFrame, Answer, Turns, AreAnswers, TakesTurn, DoesFound}
 use Rattle.hosting.specs.Groups.{KeptGroup, LostGroup, TakesGroup, Groups, all_answers, ServedGroups, EndsGroups, Goes, GoesBy, course_of, ServesBehind, together, IsLosing, Gathered, IsKeptAs, IsLostAs, Keeps}
@@ -187,9 +191,20 @@ kept_groups : (terms : GroupTerms) (text there : Known) (first group : GroupStat
     → Groups terms text (together first) (g.answers ∷ []) new there
 kept_groups terms text there first group told new none g k = (new, there, inr (kept_group terms text there first group told new none g k), (refl, refl))
 
-lost_group : (fault : Fault) (terms : GroupTerms) (text there : Known) (first group : GroupState) (told : List ℕ) (new : Hosted) → first.held ≡ no_pieces terms.limits → Gathered terms.master text first group there [] told → IsLostAs fault group new
-    → LostGroup terms text (together first) fault new
-lost_group fault terms text there first group told new none g k =
+parted_so : (terms : GroupTerms) (text there : Known) (first group : GroupState) (told : List ℕ) → first.held ≡ no_pieces terms.limits → Gathered terms.master text first group there [] told
+    → ArePartedBySteps terms.master text (together first) (all_pieces group.held)
+parted_so terms text there first group told none g front back is =
+    let old = together first in
+    let Holds : List (List Edit) → Type 0 = λ full. StandsSo terms.master text old (store_with first.store full) in
+    let start : Holds [] = record { cell = seen first; answers = []; rest = text; turns = (refl, refl); so = inl (sym (begun terms.limits first none)) } in
+    let same : store_with first.store (all_pieces group.held) ≡ (together group).store = ap (λ (s : Store × GroupLimits). store_behind s.0 (all_held group.held)) (sym g.store) in
+    let whole : Holds (all_pieces group.held) = record { cell = seen group; answers = g.answers; rest = there; turns = g.turns; so = inl same } in
+    subst (λ (s : Store). StandsSo terms.master text old (store_with s front)) (sym (begun terms.limits first none))
+    (parted_fronts Holds first.held group.held (ap (λ (h : HeldPieces). h.full) none) g.parted start whole front back is)
+
+lost_group : (fault : Fault) (terms : GroupTerms) (text there : Known) (first group : GroupState) (told : List ℕ) (new : Hosted) → first.held ≡ no_pieces terms.limits → IsSettled first.store
+    → Gathered terms.master text first group there [] told → IsLostAs fault group new → LostGroup terms text (together first) fault new
+lost_group fault terms text there first group told new none sure g k =
     let same = from_first terms.limits first group none g.store in
     let pieces = all_pieces group.held in
     let P : Store → Type 0 = λ s. IsCutShort fault pieces s new.store in
@@ -201,14 +216,16 @@ lost_group fault terms text there first group told new none g k =
       turns = g.turns;
       pieces = pieces;
       taken = subst Q (limits_kept terms.limits first group none g.store) k.taken;
+      settled = subst IsSettled (sym (begun terms.limits first none)) sure;
       held = ap (λ (s : Store). store_behind s (joined pieces)) same;
+      parted = parted_so terms text there first group told none g;
       refused = subst P same k.refused;
       gone = k.gone;
     }
 
-pub kept_goes : (course : Course) (terms : GroupTerms) (text there before after : Known) (first group : GroupState) (told : List ℕ) (new : Hosted) → first.held ≡ no_pieces terms.limits
+pub kept_goes : (course : Course) (terms : GroupTerms) (text there before after : Known) (first group : GroupState) (told : List ℕ) (new : Hosted) → first.held ≡ no_pieces terms.limits → IsSettled first.store
     → Gathered terms.master text first group there [] told → Keeps group told course new before after → Goes terms text (together first) course new there before after
-kept_goes courses.On terms text there before after first group told new none g k =
+kept_goes courses.On terms text there before after first group told new none sure g k =
     let P : List ℕ → Type 0 = λ u. Appends before after u in
     let Q : List Answer → Type 0 = λ u. AreAnswers u g.bytes in
     record {
@@ -218,16 +235,16 @@ kept_goes courses.On terms text there before after first group told new none g k
       told = subst Q (sym (append-nil g.answers)) g.told;
       written = subst P g.behind k.1;
     }
-kept_goes courses.Over terms text there before after first group told new none g k = absurd k
-kept_goes (courses.Ends (Stopped Unread)) terms text there before after first group told new none g k = absurd k
-kept_goes (courses.Ends (Stopped NoMemory)) terms text there before after first group told new none g k = absurd k
-kept_goes (courses.Ends (Stopped Unwritten)) terms text there before after first group told new none g k =
+kept_goes courses.Over terms text there before after first group told new none sure g k = absurd k
+kept_goes (courses.Ends (Stopped Unread)) terms text there before after first group told new none sure g k = absurd k
+kept_goes (courses.Ends (Stopped NoMemory)) terms text there before after first group told new none sure g k = absurd k
+kept_goes (courses.Ends (Stopped Unwritten)) terms text there before after first group told new none sure g k =
     let old = together first in
     let P : List ℕ → Type 0 = λ u. AppendsFront before after u in
     (old, text, there, before, served_none terms text old before, (g.answers, g.bytes, inr (kept_group terms text there first group told new none g k.0), g.told, subst P g.behind k.1))
-kept_goes (courses.Ends (Refused fault)) terms text there before after first group told new none g k =
+kept_goes (courses.Ends (Refused fault)) terms text there before after first group told new none sure g k =
     let old = together first in
-    (old, text, served_as terms text text before before after old old old (served_none terms text old before) refl k.1, lost_group fault terms text there first group told new none g k.0)
+    (old, text, served_as terms text text before before after old old old (served_none terms text old before) refl k.1, lost_group fault terms text there first group told new none sure g k.0)
 
 -- what was found behind it is done by itself
 pub behind_goes : (kept course : Course) (terms : GroupTerms) (found : Option (Result Frame WireFault)) (text there here before between after : Known) (old mid new : Hosted)

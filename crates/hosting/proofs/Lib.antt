@@ -14,6 +14,8 @@ pub mod HeldBack
 pub mod PieceLaws
 pub mod HeldKept
 pub mod HeldSweeps
+pub mod PartedLaws
 pub mod Grouped
 pub mod Doubts
 pub mod Gathering
+pub mod Whole

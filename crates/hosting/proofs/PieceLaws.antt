@@ -21,7 +21,7 @@ total_behind (edit ∷ front) back = omega (arith, total_behind front back)
 
 -- ---- all that is held
 
-joined_behind : (front : List (List Edit)) (piece : List Edit) → joined (front ++ piece ∷ []) ≡ joined front ++ piece
+pub joined_behind : (front : List (List Edit)) (piece : List Edit) → joined (front ++ piece ∷ []) ≡ joined front ++ piece
 joined_behind [] piece = append-nil piece
 joined_behind (first ∷ front) piece = ap (λ (u : List Edit). first ++ u) (joined_behind front piece) ∙ sym (append_assoc first (joined front) piece)
 
@@ -38,7 +38,7 @@ beside_all held edits =
     joined_behind held.full (held.last ++ edits) ∙ sym (append_assoc (joined held.full) held.last edits) ∙ ap (λ (u : List Edit). u ++ edits) (sym (joined_behind held.full held.last))
 
 -- whichever piece they go into
-by_room : (P : HeldPieces → Type 0) (held : HeldPieces) (edits : List Edit) (within : Bool) → (within ≡ true → P (record held { last = held.last ++ edits })) → P (begun held edits)
+pub by_room : (P : HeldPieces → Type 0) (held : HeldPieces) (edits : List Edit) (within : Bool) → (within ≡ true → P (record held { last = held.last ++ edits })) → P (begun held edits)
     → P (if within then record held { last = held.last ++ edits } else begun held edits)
 by_room P held edits true beside begins = beside refl
 by_room P held edits false beside begins = begins

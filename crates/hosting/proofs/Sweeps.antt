@@ -73,6 +73,13 @@ ends_late Once Stops old new sweeps result g many given =
     let P : Round → Type 0 = λ r. EndsBy Once Stops old r.sweeps r.end new in
     subst P (sym given) (g.done, g.busy, many)
 
+-- the same of a master that is told apart from the one that made them
+pub ends_late_as : (Once : Step) (Stops : Stop) (old mid new : CellState) (sweeps : List Swept) (result : Round) → new ≡ mid → Going Once old sweeps mid → length sweeps ≡ sweep_limit
+    → result ≡ record { sweeps = sweeps; end = Unfinished } → EndsBy Once Stops old result.sweeps result.end new
+ends_late_as Once Stops old mid new sweeps result same g many given =
+    let P : CellState → Type 0 = λ s. EndsBy Once Stops old result.sweeps result.end s in
+    subst P (sym same) (ends_late Once Stops old mid sweeps result g many given)
+
 pub begins : (Once : Step) (old : CellState) (sweeps : List Swept) → sweeps ≡ [] → Going Once old sweeps old
 begins Once old sweeps empty =
     let P : List Swept → Type 0 = λ u. Going Once old u old in

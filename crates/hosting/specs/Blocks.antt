@@ -1,5 +1,5 @@
 -- Blocks of bytes in a stream, each with its number of bytes in front.
-use Rattle.std.specs.Prelude.{ℕ, List, [], ◌∷◌, length, take, drop, Option, Some, None, Result, Ok, Err, nat_lt, if◌then◌else◌}
+use Rattle.std.specs.Prelude.{ℕ, List, [], ◌∷◌, length, take, drop, Bool, true, false, Option, Some, None, Result, Ok, Err, nat_lt, if◌then◌else◌}
 use Rattle.byteorder.specs.Endian.{big_number}
 use Rattle.codec.specs.declared.faults.WireFault.{WireFault}
 use Rattle.codec.specs.declared.faults.WireFault.TheVariants.{TooLong, Cut}
@@ -46,3 +46,15 @@ block_at count bytes = block_within block_limit count bytes
 
 abbrev pub next_block : List ℕ → Option (Result (List ℕ) WireFault × List ℕ)
 next_block bytes = next_within block_limit bytes
+
+abbrev pub is_block : Result (List ℕ) WireFault → Bool
+is_block (Ok block) = true
+is_block (Err fault) = false
+
+abbrev pub is_whole : Option (Result (List ℕ) WireFault × List ℕ) → Bool
+is_whole None = false
+is_whole (Some next) = is_block next.0
+
+-- whether a block that a master reads stands whole in front
+abbrev pub stands_whole : List ℕ → Bool
+stands_whole bytes = is_whole (next_block bytes)

@@ -6,10 +6,12 @@ use Rattle.node_core.specs.declared.refusals.Fault.{Fault}
 use Rattle.rows_cell.specs.declared.settings.MasterTerms.{MasterTerms}
 use Rattle.rows_cell.specs.declared.tables.Edit.{Edit}
 use Rattle.master_state.specs.State.{MasterState}
+use Rattle.over_core.specs.Sweep.{IsSettled}
 use Rattle.codec.specs.declared.faults.WireFault.{WireFault}
 use Rattle.output.specs.Fronts.{AppendsFront}
 use Rattle.hosting.specs.Held.{GroupState, ground, store_behind, seen}
 use Rattle.hosting.specs.Pieces.{AreTaken, CommitsEach, IsCutShort, all_pieces, joined}
+use Rattle.hosting.specs.Parted.{PartsFrame, PartsFrames, ArePartedBySteps}
 use Rattle.hosting.specs.declared.pieces.GroupTerms.{GroupTerms}
 use Rattle.hosting.specs.declared.frames.Frame.{Frame}
 use Rattle.hosting.specs.declared.seats.Reply.{Reply}
@@ -47,8 +49,8 @@ pub record KeptGroup (terms : GroupTerms) (text : Known) (old : Hosted) (answers
   pub committed : CommitsEach pieces old.store new.store
   pub master : new.master ≡ done.master
 
--- frames were done likewise; the store refused a piece of what they changed, the master is gone, and the rows are as the pieces before it
--- left them
+-- frames were done likewise, over a store that a crash leaves as it is; the store refused a piece of what they changed, the master is
+-- gone, and the rows are as the pieces before it left them, each of which ends after a step of the master
 pub record LostGroup (terms : GroupTerms) (text : Known) (old : Hosted) (fault : Fault) (new : Hosted) : Type 0 where
   pub done : Hosted
   pub answers : List Answer
@@ -56,7 +58,9 @@ pub record LostGroup (terms : GroupTerms) (text : Known) (old : Hosted) (fault :
   pub turns : Turns terms.master text old answers done rest
   pub pieces : List (List Edit)
   pub taken : AreTaken terms.limits pieces
+  pub settled : IsSettled old.store
   pub held : done.store ≡ store_behind old.store (joined pieces)
+  pub parted : ArePartedBySteps terms.master text old pieces
   pub refused : IsCutShort fault pieces old.store new.store
   pub gone : new.master ≡ None
 
@@ -141,10 +145,11 @@ pub record HeldTurn (sent : Result Frame WireFault) (old new : GroupState) (befo
   pub blocks : AreBlocks (all_told answer.reply answer.deadline) bytes
   pub told : after ≡ before ++ bytes
   pub store : ground new ≡ ground old
+  pub parted : PartsFrame sent old new
 
 -- a frame was done so, or it is none that is done in a group
 abbrev pub DoesHeld : Result Frame WireFault → GroupState → Option Reply → GroupState → Type 0
-DoesHeld sent old (Some reply) new = ((terms : MasterTerms) → Does terms sent (together old) reply (together new)) × (ground new ≡ ground old)
+DoesHeld sent old (Some reply) new = ((terms : MasterTerms) → Does terms sent (together old) reply (together new)) × (ground new ≡ ground old) × PartsFrame sent old new
 DoesHeld sent old None new = new ≡ old
 
 -- why a group is lost before it is committed
@@ -186,6 +191,7 @@ pub record Gathered (terms : MasterTerms) (text : Known) (old new : GroupState) 
   pub told : AreAnswers answers bytes
   pub behind : after ≡ before ++ bytes
   pub store : ground new ≡ ground old
+  pub parted : PartsFrames terms text old new
 
 -- and what stands behind them was looked for
 abbrev pub Gathers : MasterTerms → Known → GroupState → Behind → GroupState → Known → List ℕ → List ℕ → Type 0

@@ -10,4 +10,5 @@ pub mod Replies
 pub mod Streams
 pub mod Pieces
 pub mod Held
+pub mod Parted
 pub mod Groups

@@ -44,9 +44,9 @@ pub record BeatStops (now : ℕ) (old : CellState) (fault : Fault) (new : CellSt
   pub why : fault ≢ NoMemory → beats_step old.master now ≡ Err fault
   pub same : new ≡ old
 
--- the most sweeps that are made for one message
+-- the most sweeps that are made for one frame
 abbrev pub sweep_limit : ℕ
-sweep_limit = 18446744073709551615
+sweep_limit = 64
 
 -- steps of one kind until one found nothing to do, or until one is refused so, or as many as are made
 abbrev pub EndsBy : (CellState → Swept → CellState → Type 0) → (CellState → Fault → CellState → Type 0) → CellState → List Swept → End → CellState → Type 0

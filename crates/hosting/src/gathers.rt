@@ -1,6 +1,7 @@
 //! Frames that are there together are done, and what they change is held back.
 ghost use Rattle.std.specs.Prelude.{◌≡◌, length, None, Some};
 ghost use Rattle.std.specs.Io.Buffered.{reader_remaining};
+ghost use Rattle.hosting.specs.Blocks.{stands_whole};
 ghost use Rattle.hosting.specs.Groups.{DoesHeld, Tries, NextThere, GathersBy, GathersOnBy, PutsReply, PutsTold};
 
 use crate::blocks::BLOCK_LIMIT;
@@ -83,7 +84,7 @@ fn go_on<R: Records, I: Read>(
     match do_held(alloc, group, &sent, told) {
         Tried::Done => {
             drop(sent);
-            if group.is_parted() {
+            if group.ends_here() {
                 return Onward::Ends(Behind::Nothing);
             }
             next_there(alloc, reader, buffer, told.len())
@@ -117,12 +118,18 @@ fn next_there<I: Read>(
 }
 
 /// Whether a block stands whole in front.
-pub(crate) fn is_there(bytes: &[u8]) -> bool {
+pub(crate) fn is_there(bytes: &[u8]) -> bool
+    ensures { result ≡ stands_whole bytes.now }
+{
     if bytes.len() < 4 {
         return false;
     }
-    let count = BigEndian::read_u32(&bytes[..4]) as usize;
-    count <= BLOCK_LIMIT && bytes.len() - 4 >= count
+    let (front, block) = bytes.split_at(4);
+    let count = BigEndian::read_u32(front) as usize;
+    if count > BLOCK_LIMIT {
+        return false;
+    }
+    block.len() >= count
 }
 
 // Does a frame, and puts what is told of it behind what is told.

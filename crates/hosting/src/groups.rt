@@ -1,6 +1,7 @@
 //! Frames that are there together are committed together.
 ghost use Rattle.std.specs.Prelude.{◌≡◌, ◌≤◌, ℕ, List, [], length, Option, Some};
 ghost use Rattle.std.specs.Io.Buffered.{reader_remaining};
+ghost use Rattle.over_core.specs.Sweep.{IsSettled};
 ghost use Rattle.hosting.specs.Seats.{hosted, with_master};
 ghost use Rattle.hosting.specs.Pieces.{no_pieces};
 ghost use Rattle.hosting.specs.Groups.{EndsGroups, Goes, GoesBy, Keeps, ServesBehind, together, course_of};
@@ -199,6 +200,7 @@ fn serve_together<R: Records, I: Read, W: Write>(
     requires lease { (1000 ≤ terms.master.lease) × (terms.master.lease ≤ 60000) }
     requires room { length buffer.old ≡ 1048576 }
     requires none { first.held ≡ no_pieces terms.limits }
+    requires settled { IsSettled first.store }
     ensures { GoesBy terms (Some begun) (reader_remaining I.remaining reader.old) (together first) result.1 (hosted R.store result.0) (reader_remaining I.remaining reader.new) (W.contents writer.old) (W.contents writer.new) }
 {
     let mut told = Vec::new(alloc);

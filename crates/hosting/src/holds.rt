@@ -24,6 +24,8 @@ pub struct Group<R: Records> {
     records: R,
     master: cell_core::Cell,
     held: Pieces,
+    // Whether the last frame left something to do.
+    has_more: bool,
 }
 
 impl<R: Records> Model for Group<R> {
@@ -57,6 +59,7 @@ impl<R: Records> Group<R> {
             records,
             master,
             held: Pieces::new(alloc, limits),
+            has_more: false,
         }
     }
 
@@ -86,9 +89,17 @@ impl<R: Records> Group<R> {
         sweep_held(&mut self.master, &mut self.held, now, room)
     }
 
-    /// Whether what is held back is more than one piece.
-    pub(crate) fn is_parted(&self) -> bool {
-        self.held.is_parted()
+    /// A frame left something to do: the group ends with it, so that what was done is told before more is.
+    pub(crate) fn note_more(&mut self)
+        ensures { self.new ≡ self.old }
+    {
+        self.has_more = true;
+    }
+
+    /// Whether no other frame is to be done in the group: what is held back is more than one piece, or the last frame left something
+    /// to do.
+    pub(crate) fn ends_here(&self) -> bool {
+        self.has_more || self.held.is_parted()
     }
 
     /// The earliest moment at which a sweep would do something, as `next_deadline` of `over_core` tells it.
@@ -110,6 +121,7 @@ impl<R: Records> Group<R> {
             mut records,
             master,
             held,
+            ..
         } = self;
         match held.commit(&mut records) {
             Ok(()) => Ok(Cell::of_parts(master, records)),

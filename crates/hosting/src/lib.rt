@@ -40,7 +40,7 @@ pub use outputs::write_reply;
 pub use pieces::{GroupLimits, GroupTerms};
 pub use runs::{Asked, serve};
 pub use seats::{Reply, Seat};
-pub use settling::{End, Round, Settled, settle};
+pub use settling::{End, Round, SWEEP_LIMIT, Settled, settle};
 pub use standing::{Counts, Delay, LONGEST_LIMIT, Recovery, Standing, standing_of};
 pub use stops::{GroupStop, Stop};
 pub use streams::{Turned, serve_on};

@@ -8,6 +8,10 @@ use over_core::{Cell, Swept};
 use rows_cell::Records;
 use std::alloc::Global;
 
+/// The most sweeps of one frame, and the most answers to Beats where the store refuses. What is left to do then is done by the frames after
+/// it: so a frame takes no longer than these, also where thousands of Beats are due at once.
+pub const SWEEP_LIMIT: u64 = 64;
+
 /// How sweeps, or answers to Beats, came to an end.
 #[derive(Clone, Copy)]
 pub enum End {
@@ -15,7 +19,7 @@ pub enum End {
     Quiet,
     /// The next one was refused.
     Refused(Fault),
-    /// There were 2^64-1 of them.
+    /// There were `SWEEP_LIMIT` of them.
     Unfinished,
 }
 
@@ -33,7 +37,7 @@ pub struct Settled {
     pub beats: Round,
 }
 
-/// Sweeps at a moment, in milliseconds, until one is quiet or is refused. What was committed before a refusal is told. Where
+/// Sweeps at a moment, in milliseconds, until one is quiet or is refused, `SWEEP_LIMIT` at most. What was committed before a refusal is told. Where
 /// the store refused what a sweep was to commit, that stays to be done, and the Beats that are due are answered all the same:
 /// so sessions live while nothing can be committed.
 pub fn settle<R: Records>(alloc: Global, cell: &mut Cell<R>, now: u64) -> Settled
@@ -48,7 +52,7 @@ fn sweep_on<R: Records>(alloc: Global, cell: &mut Cell<R>, now: u64) -> Round
     ensures { EndsIn now cell.old result.sweeps result.end cell.new }
 {
     let mut sweeps = Vec::new(alloc);
-    for _done in 0..u64::MAX {
+    for _done in 0..SWEEP_LIMIT {
         match cell.sweep_with_room(now, &mut sweeps) {
             Ok(swept) => {
                 let quiet = swept.quiet;
@@ -84,7 +88,7 @@ fn answer_beats<R: Records>(alloc: Global, cell: &mut Cell<R>, now: u64) -> Roun
     ensures { EndsBeats now cell.old result.sweeps result.end cell.new }
 {
     let mut beats = Vec::new(alloc);
-    for _done in 0..u64::MAX {
+    for _done in 0..SWEEP_LIMIT {
         match cell.beats_with_room(now, &mut beats) {
             Ok(swept) => {
                 let quiet = swept.quiet;

@@ -9,7 +9,7 @@ use Rattle.tags_cell.specs.declared.messages.outs.Reply.{Reply}
 use Rattle.session_core.specs.declared.records.Session.{Session}
 use Rattle.session_core.specs.declared.records.Parked.{Parked}
 use Rattle.session_core.specs.Session.{is_client_expired, owes, nears_end, is_given_up, is_due, is_client_due}
-use Rattle.session_core.specs.Sessions.{all_heard, lowest}
+use Rattle.session_core.specs.Sessions.{all_heard, lowest, has_work}
 use Rattle.lock_core.specs.declared.claims.Closing.{Closing}
 use Rattle.lock_core.specs.State.{LockState}
 use Rattle.lock_core.specs.Turns.{time_left}
@@ -168,6 +168,23 @@ quiet_before s t u le h =
 false_of : (b : Bool) → (b ≡ true → ⊥) → b ≡ false
 false_of true h = absurd (h refl)
 false_of false h = refl
+
+nobody_works : (s : MasterState) (moment : ℕ) → lowest s.sessions (is_client_expired moment) ≡ None → lowest s.sessions (is_client_due s.sessions.lease moment) ≡ None → has_work s.sessions moment ≡ false
+nobody_works s moment expired due = rw (expired, due) refl
+
+-- where a session shows that there is something to do a sweep isn't quiet
+pub work_shown : (s : MasterState) (moment : ℕ) → has_work s.sessions moment ≡ true → quiet_at s moment ≡ false
+work_shown s moment shown =
+    false_of (quiet_at s moment)
+    (λ q.
+    let lt : moment ≤ max s.clock moment = omega arith in
+    let none = none_of _ _ _ _ _ _ (ap is_quiet (parts_of (noted s moment)) ∙ q) in
+    let expired : lowest s.sessions (is_client_expired moment) ≡ None =
+    none_mapped _ (λ entry. is_client_expired moment entry.0 entry.1) (λ entry. is_client_expired (max s.clock moment) entry.0 entry.1) s.sessions.sessions (expired_later moment (max s.clock moment) lt) none.is_expired in
+    let due : lowest s.sessions (is_client_due s.sessions.lease moment) ≡ None =
+    none_mapped _ (λ entry. is_client_due s.sessions.lease moment entry.0 entry.1) (λ entry. is_client_due s.sessions.lease (max s.clock moment) entry.0 entry.1) s.sessions.sessions (due_later s.sessions.lease moment (max s.clock moment) lt) none.is_due in
+    let nothing = nobody_works s moment expired due in
+    absurd cc)
 
 -- what isn't quiet isn't quiet later
 pub busy_later : (s : MasterState) (t u : ℕ) → t ≤ u → quiet_at s t ≡ false → quiet_at s u ≡ false

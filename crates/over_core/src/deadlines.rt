@@ -1,5 +1,5 @@
 //! The earliest moment at which a sweep has something to do.
-ghost use Rattle.std.specs.Prelude.{◌≡◌, IfOk, Some};
+ghost use Rattle.std.specs.Prelude.{◌≡◌, true, false, IfOk, Some};
 ghost use Rattle.lease_core.specs.Lease.{IsMoment};
 ghost use Rattle.over_core.specs.Deadlines.{quiet_at, IsDeadline, IsAfter, IsQuietBy, IsBusyBy};
 ghost use Rattle.over_core.specs.Sweep.{is_quiet};
@@ -54,13 +54,21 @@ fn busy_from(cell: &mut Cell, moment: u64) -> Result<Option<u64>, AllocError>
     ensures busy { IfOk result (IsBusyBy cell.old) }
     ensures same { cell.new ≡ cell.old }
 {
-    if !is_quiet_at(cell, moment)? {
+    if shows_work(cell, moment) || !is_quiet_at(cell, moment)? {
         return Ok(Some(moment));
     }
     if is_quiet_at(cell, MOMENT_LIMIT - 1)? {
         return Ok(None);
     }
     Ok(Some(MOMENT_LIMIT - 1))
+}
+
+// Whether two sessions alone show that a sweep at a moment would find something to do. Asked before `is_quiet_at`: where thousands
+// of sessions are due at one moment, that takes all of them into view, and the next frame has to put all of them off again.
+fn shows_work(cell: &Cell, moment: u64) -> bool
+    ensures { result ≡ true → quiet_at cell.now moment ≡ false }
+{
+    cell.master().sessions().shows_work(moment)
 }
 
 // The first moment that isn't quiet, behind one that is and not behind one that isn't.

@@ -1,5 +1,5 @@
 -- What an export answers.
-use Rattle.std.specs.Prelude.{◌≡◌, ◌≤◌, ◌<◌, ◌+◌, ℕ, List, length, take, Result, Ok, Err}
+use Rattle.std.specs.Prelude.{◌≡◌, ◌≤◌, ◌<◌, ◌+◌, ℕ, List, ◌++◌, length, drop, Result, Ok, Err}
 use Rattle.collections.specs.Results.{Gives}
 use Rattle.codec.specs.declared.faults.WireFault.{WireFault}
 use Rattle.codec.specs.declared.faults.WireFault.TheVariants as wire
@@ -9,9 +9,9 @@ use Rattle.hosting.specs.Told.{fault_place}
 abbrev pub fault_code : WireFault → ℕ
 fault_code fault = fault_place fault + 1
 
--- bytes go into a room where they fit, from its front; else the room stays
+-- bytes go to the front of a room if they fit, and what stands after them stays; else the room stays
 pub record Fills (bytes before after : List ℕ) : Type 0 where
-  pub fits : length bytes ≤ length before → take (length bytes) after ≡ bytes
+  pub fits : length bytes ≤ length before → after ≡ bytes ++ drop (length bytes) before
   pub stays : length before < length bytes → after ≡ before
 
 -- bytes that were given, and how many they are, which is told by 0; or what is wrong, and all stays

@@ -13,9 +13,9 @@ pub calls_so : (opening : WatchedState) (old new : Desk) (before after : Hand) (
 calls_so opening old new before after event (Ok t) h k s = (old, new, h, k, s)
 calls_so opening old new before after event (Err e) h k s = tt
 
-pub refused_so : (opening : WatchedState) (old : Desk) (event : Event) (r : Result Ticket Fault) → Lies opening old → IfErr r (λ e. CallRefuses old event e) → IfErr r (λ e. IsCallRefused opening event e)
-refused_so opening old event (Ok t) h s = tt
-refused_so opening old event (Err e) h s = (old, h, s)
+pub refused_so : (opening : WatchedState) (old new : Desk) (event : Event) (r : Result Ticket Fault) → Lies opening old → Lies opening new → IfErr r (λ e. CallRefuses old new event e) → IfErr r (λ e. IsCallRefused opening event e)
+refused_so opening old new event (Ok t) h k s = tt
+refused_so opening old new event (Err e) h k s = (old, new, h, k, s)
 
 pub retires_so : {X Y : Type 0} (opening : WatchedState) (old new : Desk) (pass : Hand) (r : Result X Y) → Lies opening old → Lies opening new → OnOk r (new ≡ record old { retired = old.retired ++ pass ∷ [] }) → OnOk r (Retires opening pass)
 retires_so opening old new pass (Ok t) h k s = (old, new, h, k, s)

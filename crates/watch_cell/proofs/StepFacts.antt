@@ -99,17 +99,22 @@ sweep_err : (old : CellState) (now : ℕ) (e : Fault) → sweep_step old.master 
 unfolding step_of
 sweep_err old now e is = ap (after_sweep (watched old) (sweep_edits old.master now)) is
 
-take_refused_by : (old : CellState) (now : ℕ) (request : Request) (e : Fault) → (e ≢ faults.NoMemory → take_step old.master now request ≡ Err e) → StepRefuses (watched old) (Take now request) e
-take_refused_by old now request faults.NoMemory h = inl refl
-take_refused_by old now request e h = inr (inl (take_err old now request e (h (λ k. cc))))
+take_refused_by : (old : CellState) (now : ℕ) (request : Request) (e : Fault) (after : ℕ) → after ≡ old.store.refusals → (e ≢ faults.NoMemory → take_step old.master now request ≡ Err e)
+    → StepRefuses (watched old) (Take now request) e old.store.refusals after
+take_refused_by old now request faults.NoMemory after same h = inl (refl, same)
+take_refused_by old now request e after same h = inr (inl (take_err old now request e (h (λ k. cc)), same))
 
-pub take_refused : (old : CellState) (event : Event) (now : ℕ) (request : Request) (e : Fault) → event ≡ Take now request → (e ≢ faults.NoMemory → take_step old.master now request ≡ Err e) → StepRefuses (watched old) event e
-take_refused old event now request e is h = subst (λ (v : Event). StepRefuses (watched old) v e) (sym is) (take_refused_by old now request e h)
+pub take_refused : (old new : CellState) (event : Event) (now : ℕ) (request : Request) (e : Fault) → event ≡ Take now request → new ≡ old → (e ≢ faults.NoMemory → take_step old.master now request ≡ Err e)
+    → StepRefuses (watched old) event e old.store.refusals new.store.refusals
+take_refused old new event now request e is same h =
+    subst (λ (v : Event). StepRefuses (watched old) v e old.store.refusals new.store.refusals) (sym is) (take_refused_by old now request e new.store.refusals (ap (λ (c : CellState). c.store.refusals) same) h)
 
-sweep_refused : (old new : CellState) (now : ℕ) (e : Fault) → (sweep_step old.master now ≡ Err e × new ≡ old) ⊎ IsHeldUp e (sweep_frees old.master now) (sweep_edits old.master now) old.store new.store → StepRefuses (watched old) (Sweep now) e
-sweep_refused old new now e (inl p) = inr (inl (sweep_err old now e p.0))
-sweep_refused old new now e (inr r) = inr (inr (old.store.refusals, new.store.refusals, r.why))
+sweep_refused : (old new : CellState) (now : ℕ) (e : Fault) → (sweep_step old.master now ≡ Err e × new ≡ old) ⊎ IsHeldUp e (sweep_frees old.master now) (sweep_edits old.master now) old.store new.store
+    → StepRefuses (watched old) (Sweep now) e old.store.refusals new.store.refusals
+sweep_refused old new now e (inl p) = inr (inl (sweep_err old now e p.0, ap (λ (c : CellState). c.store.refusals) p.1))
+sweep_refused old new now e (inr r) = inr (inr r.why)
 
-pub swept_refused : (old new : CellState) (event : Event) (now : ℕ) (result : Result SweptThrice Fault) → event ≡ Sweep now → IfErr result (λ e. (sweep_step old.master now ≡ Err e × new ≡ old) ⊎ IsHeldUp e (sweep_frees old.master now) (sweep_edits old.master now) old.store new.store) → IfErr result (λ e. StepRefuses (watched old) event e)
+pub swept_refused : (old new : CellState) (event : Event) (now : ℕ) (result : Result SweptThrice Fault) → event ≡ Sweep now → IfErr result (λ e. (sweep_step old.master now ≡ Err e × new ≡ old) ⊎ IsHeldUp e (sweep_frees old.master now) (sweep_edits old.master now) old.store new.store)
+    → IfErr result (λ e. StepRefuses (watched old) event e old.store.refusals new.store.refusals)
 swept_refused old new event now (Ok t) is h = tt
-swept_refused old new event now (Err e) is h = subst (λ (v : Event). StepRefuses (watched old) v e) (sym is) (sweep_refused old new now e h)
+swept_refused old new event now (Err e) is h = subst (λ (v : Event). StepRefuses (watched old) v e old.store.refusals new.store.refusals) (sym is) (sweep_refused old new now e h)

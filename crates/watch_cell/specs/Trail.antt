@@ -45,13 +45,10 @@ abbrev pub lets_go : WatchedState → Event → Bool
 lets_go s (Take now request) = false
 lets_go s (Sweep now) = sweep_frees s.master now
 
--- by the store that is asked for this, whatever it counted before
-abbrev pub IsByStore : Bool → List Edit → Fault → Type 0
-IsByStore freed edits fault = (before : ℕ) × (after : ℕ) × MayHoldUp freed edits fault before after
-
--- why the step of an event is refused: for want of memory, as the master's tables say, or by the store
-abbrev pub StepRefuses : WatchedState → Event → Fault → Type 0
-StepRefuses s event fault = (fault ≡ NoMemory) ⊎ ((step_of s event ≡ Err fault) ⊎ IsByStore (lets_go s event) (commits s event) fault)
+-- why the step of an event is refused, by how often the store had refused before and has then: for want of memory or as the master's tables say, which leaves that; or by the store, which is asked for what the step commits
+abbrev pub StepRefuses : WatchedState → Event → Fault → ℕ → ℕ → Type 0
+StepRefuses s event fault before after =
+    ((fault ≡ NoMemory) × (after ≡ before)) ⊎ (((step_of s event ≡ Err fault) × (after ≡ before)) ⊎ MayHoldUp (lets_go s event) (commits s event) fault before after)
 
 -- the last state comes from the first by these entries, each a step with its reply
 abbrev pub Replays : WatchedState → List Entry → WatchedState → Type 0
@@ -118,6 +115,7 @@ pub record Gained (before after : Hand) (event : Event) (t : Ticket) : Type 0 wh
 -- the one change of a call
 pub record Served (old new : Desk) (before after : Hand) (event : Event) (t : Ticket) : Type 0 where
   pub step_is : step_of old.cell event ≡ Ok (new.cell, t.reply)
+  pub refusals_is : new.refusals ≡ old.refusals
   pub trail_is : new.trail ≡ old.trail ++ entry event t.reply ∷ []
   pub event_is : t.event ≡ event
   pub place_is : t.place ≡ length old.trail
@@ -132,13 +130,18 @@ pub record Served (old new : Desk) (before after : Hand) (event : Event) (t : Ti
 abbrev pub Calls : WatchedState → Hand → Hand → Event → Ticket → Type 0
 Calls opening before after event t = (old : Desk) × (new : Desk) × Lies opening old × Lies opening new × Served old new before after event t
 
--- why a call is refused: where the trail is full, and there alone, as that; else as its step is
-abbrev pub CallRefuses : Desk → Event → Fault → Type 0
-CallRefuses d event fault = ((length d.trail ≡ 1000000) × (fault ≡ WatchFull)) ⊎ ((length d.trail < 1000000) × StepRefuses d.cell event fault)
+-- why a call is refused: if the trail is full, and then alone, as that; else as its step is
+abbrev pub WhyRefused : Desk → Event → Fault → ℕ → Type 0
+WhyRefused d event fault after = ((length d.trail ≡ 1000000) × (fault ≡ WatchFull) × (after ≡ d.refusals)) ⊎ ((length d.trail < 1000000) × StepRefuses d.cell event fault d.refusals after)
 
--- and it finds that under the lock
+-- a call that is refused changes nothing of what lies under the lock, but that the store counts its own refusals
+pub record CallRefuses (old new : Desk) (event : Event) (fault : Fault) : Type 0 where
+  pub same : new ≡ record old { refusals = new.refusals }
+  pub why : WhyRefused old event fault new.refusals
+
+-- and it finds that under the lock, and leaves it so
 abbrev pub IsCallRefused : WatchedState → Event → Fault → Type 0
-IsCallRefused opening event fault = (d : Desk) × Lies opening d × CallRefuses d event fault
+IsCallRefused opening event fault = (old : Desk) × (new : Desk) × Lies opening old × Lies opening new × CallRefuses old new event fault
 
 -- what lies under the lock takes in a pass, and else stays
 abbrev pub Retires : WatchedState → Hand → Type 0

@@ -32,9 +32,10 @@ pub record Hand : Type 0 where
   pub calls : ℕ
   pub receipts : List Ticket
 
--- what lies under the lock: the cell, the trail, the four books and the retired passes
+-- what lies under the lock: the cell, how often its store refused, the trail, the four books and the retired passes
 pub record Desk : Type 0 where
   pub cell : WatchedState
+  pub refusals : ℕ
   pub trail : List Entry
   pub issued : ℕ
   pub acknowledged : ℕ
@@ -51,8 +52,8 @@ pub record ClosedState : Type 0 where
   pub handed : List Hand
 
 -- what lies there first
-abbrev pub opened : WatchedState → Desk
-opened cell = record { cell = cell; trail = []; issued = 0; acknowledged = 0; expired = 0; calls = 0; retired = [] }
+abbrev pub opened : CellState → Desk
+opened cell = record { cell = watched cell; refusals = cell.store.refusals; trail = []; issued = 0; acknowledged = 0; expired = 0; calls = 0; retired = [] }
 
 -- a pass that has made no call
 abbrev pub fresh : ℕ → Hand

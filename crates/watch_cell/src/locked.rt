@@ -190,7 +190,7 @@ impl<R: Records, O: Opening, I: Ledger, A: Ledger, E: Ledger, C: Ledger> Model
 
     ghost Value = { Desk };
 
-    ghost view = { λ l. record { cell = watched l.cell; trail = l.trail.items; issued = l.books.issued.total; acknowledged = l.books.acknowledged.total; expired = l.books.expired.total; calls = l.books.calls.total; retired = l.retired.items } };
+    ghost view = { λ l. record { cell = watched l.cell; refusals = l.cell.store.refusals; trail = l.trail.items; issued = l.books.issued.total; acknowledged = l.books.acknowledged.total; expired = l.books.expired.total; calls = l.books.calls.total; retired = l.retired.items } };
 
     ghost use Rattle.std.specs.Prelude.{◌≡◌};
 
@@ -241,7 +241,7 @@ impl<R: Records, O: Opening, I: Ledger, A: Ledger, E: Ledger, C: Ledger> Locked<
         requires books { (books.issued.total ≡ 0) × (books.acknowledged.total ≡ 0) × (books.expired.total ≡ 0) × (books.calls.total ≡ 0) }
         requires parts { (rest.issued.parts ≡ 0) × (rest.acknowledged.parts ≡ 0) × (rest.expired.parts ≡ 0) × (rest.calls.parts ≡ 0) }
         requires amounts { (rest.issued.amount ≡ 0) × (rest.acknowledged.amount ≡ 0) × (rest.expired.amount ≡ 0) × (rest.calls.amount ≡ 0) }
-        ensures { result ≡ opened (watched cell) }
+        ensures { result ≡ opened cell }
     {
         Locked {
             alloc,
@@ -461,7 +461,7 @@ pub fn open_locked<R: Records, O: Opening, I: Ledger, A: Ledger, E: Ledger, C: L
     requires acknowledged { (blanks.acknowledged.name ≡ A.name) × (blanks.acknowledged.parts ≡ A.parts) × (A.parts ≡ seats) }
     requires expired { (blanks.expired.name ≡ E.name) × (blanks.expired.parts ≡ E.parts) × (E.parts ≡ seats) }
     requires calls { (blanks.calls.name ≡ C.name) × (blanks.calls.parts ≡ C.parts) × (C.parts ≡ seats) }
-    ensures locked { IfOk result (λ r. r.0 ≡ opened (watched cell)) }
+    ensures locked { IfOk result (λ r. r.0 ≡ opened cell) }
     ensures passes { IfOk result (λ r. r.1.items ≡ fresh_hands seats) }
     ensures err { IfErr result (λ e. (e.1 ≡ cell) × (e.2 ≡ blanks)) }
 {
@@ -495,16 +495,16 @@ fn fill<I: Ledger, A: Ledger, E: Ledger, C: Ledger>(
 /// One call: the cell makes the event's step, the trail gains its entry, the books and the pass's shares rise by what its
 /// lines tell of rights and by one call, and the pass gains the receipt that is answered. Refused as WatchFull exactly
 /// where the trail has 1,000,000 entries, before all else; then for want of memory, and as the step is, or by the store. A
-/// refusal changes nothing. All memory is taken before the step has an effect. Costs what the step costs.
+/// refusal changes nothing, but that the store counts its own. All memory is taken before the step has an effect. Costs what the step costs.
 pub fn serve<R: Records, O: Opening, I: Ledger, A: Ledger, E: Ledger, C: Ledger>(
     locked: &mut Locked<R, O, I, A, E, C>,
     pass: &mut Pass<I, A, E, C>,
     event: Event,
 ) -> Result<Receipt, Fault>
     ensures ok { IfOk result (λ t. Served locked.old locked.new pass.old pass.new event t) }
-    ensures err { OnErr result ((locked.new ≡ locked.old) × (pass.new ≡ pass.old)) }
+    ensures err { OnErr result (pass.new ≡ pass.old) }
     ensures full { IsErrOf result WatchFull ↔ (length locked.old.trail ≡ 1000000) }
-    ensures refusal { IfErr result (λ e. CallRefuses locked.old event e) }
+    ensures refusal { IfErr result (λ e. CallRefuses locked.old locked.new event e) }
 {
     if locked.trail.len() >= MOST {
         drop(event);
@@ -580,7 +580,8 @@ fn made<R: Records>(
     ensures items { (trail.new.items ≡ trail.old.items) × (receipts.new.items ≡ receipts.old.items) }
     ensures room { OnOk result ((vec_len trail.new < vec_capacity trail.new) × (vec_len receipts.new < vec_capacity receipts.new)) }
     ensures fault { IfErr result (λ e. e ≢ WatchFull) }
-    ensures refusal { IfErr result (λ e. StepRefuses (watched cell.old) events e) }
+    ensures counted { OnOk result (cell.new.store.refusals ≡ cell.old.store.refusals) }
+    ensures refusal { IfErr result (λ e. StepRefuses (watched cell.old) events e cell.old.store.refusals cell.new.store.refusals) }
     ensures err { OnErr result (watched cell.new ≡ watched cell.old) }
 {
     match stepped(cell, trail, receipts, events.event()) {
@@ -612,7 +613,8 @@ fn stepped<R: Records>(
     ensures items { (trail.new.items ≡ trail.old.items) × (receipts.new.items ≡ receipts.old.items) }
     ensures room { OnOk result ((vec_len trail.new < vec_capacity trail.new) × (vec_len receipts.new < vec_capacity receipts.new)) }
     ensures fault { IfErr result (λ e. e ≢ WatchFull) }
-    ensures refusal { IfErr result (λ e. StepRefuses (watched cell.old) event.now e) }
+    ensures counted { OnOk result (cell.new.store.refusals ≡ cell.old.store.refusals) }
+    ensures refusal { IfErr result (λ e. StepRefuses (watched cell.old) event.now e cell.old.store.refusals cell.new.store.refusals) }
     ensures err { OnErr result (watched cell.new ≡ watched cell.old) }
 {
     receipts.reserve(1)?;

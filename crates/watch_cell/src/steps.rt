@@ -1,5 +1,5 @@
 //! The step of an event, and what its lines tell of rights.
-ghost use Rattle.std.specs.Prelude.{◌≡◌, ◌≢◌, Some, Ok, IfOk, IfErr, OnErr, count_by, map};
+ghost use Rattle.std.specs.Prelude.{◌≡◌, ◌≢◌, Some, Ok, IfOk, IfErr, OnOk, OnErr, count_by, map};
 ghost use Rattle.node_core.specs.declared.refusals.Fault.TheVariants.{WatchFull};
 ghost use Rattle.rights_core.specs.Grants.{Tells, is_granted_line, is_acked_line, is_expired_line};
 ghost use Rattle.over_core.specs.Sweep.{swept_as};
@@ -20,7 +20,8 @@ pub(crate) fn step_thrice<R: Records>(
     ensures ok { IfOk result (λ t. step_of (watched cell.old) event.now ≡ Ok (watched cell.new, swept_as t.answers t.quiet)) }
     ensures tells { IfOk result (λ t. Tells cell.old.master.rights t.answers.lines cell.new.master.rights) }
     ensures fault { IfErr result (λ e. e ≢ WatchFull) }
-    ensures refusal { IfErr result (λ e. StepRefuses (watched cell.old) event.now e) }
+    ensures counted { OnOk result (cell.new.store.refusals ≡ cell.old.store.refusals) }
+    ensures refusal { IfErr result (λ e. StepRefuses (watched cell.old) event.now e cell.old.store.refusals cell.new.store.refusals) }
     ensures err { OnErr result (watched cell.new ≡ watched cell.old) }
 {
     cell.kept();

@@ -4,11 +4,11 @@ use Rattle.hosting.specs.declared.gathers.Onward.TheVariants as onwards
 use Rattle.hosting.proofs.Gathering.{done_on, alone_on, stopped_on}
 use Rattle.hosting.proofs.gathers.go_on.Goals as goal
 
-pub returns-then-is_parted : goal.returns-then-is_parted
-returns-then-is_parted g c = done_on (onwards.Ends behinds.Nothing) _ _ _ _ _ _ _ _ c.in-Done.is c.do_held.ensures refl
+pub returns-then-ends_here : goal.returns-then-ends_here
+returns-then-ends_here g c = done_on (onwards.Ends behinds.Nothing) _ _ _ _ _ _ _ _ c.in-Done.is c.do_held.ensures refl
 
-pub returns-else-is_parted : goal.returns-else-is_parted
-returns-else-is_parted g c = done_on _ _ _ _ _ _ _ _ _ c.in-Done.is c.do_held.ensures c.next_there.ensures
+pub returns-else-ends_here : goal.returns-else-ends_here
+returns-else-ends_here g c = done_on _ _ _ _ _ _ _ _ _ c.in-Done.is c.do_held.ensures c.next_there.ensures
 
 pub returns-in-Alone : goal.returns-in-Alone
 returns-in-Alone g c = alone_on _ _ _ _ _ _ _ c.in-Alone.is c.do_held.ensures

@@ -1,6 +1,8 @@
-use Rattle.std.proofs.Common.{Some, refl}
+use Rattle.std.proofs.Common.{Some, refl, sym, subst}
 use Rattle.std.specs.Io.Buffered.{reader_remaining}
 use Rattle.hosting.proofs.Grouped.{seat_up}
+use Rattle.hosting.specs.Held.{GroupState}
+use Rattle.over_core.specs.Sweep.{IsSettled}
 use Rattle.hosting.proofs.groups.serve_up.Goals as goal
 
 pub returns-then-is_settled : goal.returns-then-is_settled

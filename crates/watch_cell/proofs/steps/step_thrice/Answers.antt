@@ -14,7 +14,7 @@ pub returns-in-Sweep-clause-fault : goal.returns-in-Sweep-clause-fault
 returns-in-Sweep-clause-fault g c = swept_not_full c.args.cell.now c.sweep_thrice.new.self _ c.sweep_thrice.result c.sweep_thrice.ensures.fault
 
 pub returns-in-Err-clause-refusal : goal.returns-in-Err-clause-refusal
-returns-in-Err-clause-refusal g c = take_refused c.args.cell.now c.args.event.now _ _ _ c.in-Take.is c.in-Err.ensures.fault
+returns-in-Err-clause-refusal g c = take_refused c.args.cell.now c.take_thrice.new.self c.args.event.now _ _ _ c.in-Take.is c.in-Err.ensures.err c.in-Err.ensures.fault
 
 pub returns-in-Sweep-clause-refusal : goal.returns-in-Sweep-clause-refusal
 returns-in-Sweep-clause-refusal g c = swept_refused c.args.cell.now c.sweep_thrice.new.self c.args.event.now _ c.sweep_thrice.result c.in-Sweep.is c.sweep_thrice.ensures.fault
