@@ -13,7 +13,7 @@ loop-done-init g c = record {
   going = begins _ _ _ c.new-sweeps.ensures.items;
   counted = begins_counting _ c.new-sweeps.ensures.items;
   store = refl;
-  parted = parts_none c.args.now _;
+  parted = parts_none c.args.now c.args.group.now;
 }
 
 pub loop-done-preserved : goal.loop-done-preserved
@@ -24,7 +24,7 @@ loop-done-preserved g c = record {
   counted = counts_more _ _ _ _ _ c.loop-done.invariant.counted c.in-Ok.ensures.items c.push_reserved.ensures.items;
   store = store_kept c.loop-done.group c.sweep_with_room.new.self (sweep_edits c.loop-done.group.master c.args.now) c.in-Ok.ensures.held ∙ c.loop-done.invariant.store;
   parted =
-      parts_more c.args.now _ c.loop-done.group c.sweep_with_room.new.self _ (sweep_edits c.loop-done.group.master c.args.now) c.loop-done.invariant.parted c.loop-done.invariant.going.done c.loop-done.invariant.store c.in-Ok.ensures.held;
+      parts_more c.args.now c.args.group.now c.loop-done.group c.sweep_with_room.new.self _ (sweep_edits c.loop-done.group.master c.args.now) c.loop-done.invariant.parted c.loop-done.invariant.going.done c.loop-done.invariant.store c.in-Ok.ensures.held;
 }
 
 pub returns-then-quiet-clause-ends : goal.returns-then-quiet-clause-ends
@@ -40,13 +40,13 @@ returns-then-quiet-clause-store g c = store_kept c.loop-done.group c.sweep_with_
 
 pub returns-then-quiet-clause-parted : goal.returns-then-quiet-clause-parted
 returns-then-quiet-clause-parted g c =
-    parts_more c.args.now _ c.loop-done.group c.sweep_with_room.new.self _ (sweep_edits c.loop-done.group.master c.args.now) c.loop-done.invariant.parted c.loop-done.invariant.going.done c.loop-done.invariant.store c.in-Ok.ensures.held
+    parts_more c.args.now c.args.group.now c.loop-done.group c.sweep_with_room.new.self _ (sweep_edits c.loop-done.group.master c.args.now) c.loop-done.invariant.parted c.loop-done.invariant.going.done c.loop-done.invariant.store c.in-Ok.ensures.held
 
 pub returns-in-Err-clause-parted : goal.returns-in-Err-clause-parted
-returns-in-Err-clause-parted g c = parts_same c.args.now _ c.loop-done.group _ c.loop-done.invariant.parted c.in-Err.ensures.err
+returns-in-Err-clause-parted g c = parts_same c.args.now c.args.group.now c.loop-done.group c.sweep_with_room.new.self c.loop-done.invariant.parted c.in-Err.ensures.err
 
 pub returns-clause-parted : goal.returns-clause-parted
-returns-clause-parted g c = parts_same c.args.now _ c.loop-done.group _ c.loop-done.invariant.parted c.note_more.ensures
+returns-clause-parted g c = parts_same c.args.now c.args.group.now c.loop-done.group c.note_more.new.self c.loop-done.invariant.parted c.note_more.ensures
 
 pub returns-in-Err-clause-ends : goal.returns-in-Err-clause-ends
 returns-in-Err-clause-ends g c =
