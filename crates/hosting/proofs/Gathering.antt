@@ -5,14 +5,14 @@ use Rattle.master_state.specs.State.{MasterState}
 use Rattle.hosting.specs.Held.{GroupState, ground, seen}
 use Rattle.hosting.specs.Pieces.{no_pieces}
 use Rattle.hosting.specs.declared.pieces.GroupTerms.{GroupTerms}
+use Rattle.tags_cell.specs.declared.messages.requests.Request.{Request}
 use Rattle.hosting.specs.declared.frames.Frame.{Frame}
 use Rattle.hosting.specs.declared.frames.Frame.TheVariants as frames
 use Rattle.hosting.specs.declared.answers.Answered.{Answered}
 use Rattle.hosting.specs.declared.settling.Settled.{Settled}
+use Rattle.hosting.specs.declared.seats.Reply.{Reply}
 use Rattle.hosting.specs.declared.seats.Reply.TheVariants as replies
 use Rattle.hosting.specs.Serving.{Answers, Settles}
-use Rattle.tags_cell.specs.declared.messages.requests.Request.{Request}
-use Rattle.hosting.specs.declared.seats.Reply.{Reply}
 use Rattle.hosting.specs.declared.stops.Stop.{Stop}
 use Rattle.hosting.specs.declared.gathers.Behind.{Behind}
 use Rattle.hosting.specs.declared.gathers.Behind.TheVariants as behinds
@@ -23,7 +23,7 @@ use Rattle.hosting.specs.declared.gathers.Tried.TheVariants as tries
 use Rattle.hosting.specs.Streams.{FrameIs, Answer, Turns}
 use Rattle.rows_cell.specs.declared.tables.Edit.{Edit}
 use Rattle.over_core.specs.Sweep.{IsSettled}
-use Rattle.hosting.specs.Parted.{StandsSo, store_with, PartsAnswer, PartsSweeps, PartsFrames}
+use Rattle.hosting.specs.Parted.{StandsSo, store_with, PartsSweeps, PartsAnswer, PartsFrames}
 use Rattle.hosting.proofs.PartedLaws.{full_then, full_as, store_of, frames_none, frames_one}
 use Rattle.hosting.specs.Groups.{together, HeldTurn, DoesHeld, PutsTold, PutsReply, Tries, StandsBehind, NextThere, Gathered, Gathers, GathersOn, GathersBy, GathersOnBy, Goes, GoesBy, Keeps, ServesBehind}
 use Rattle.rows_cell.specs.declared.settings.MasterTerms.{MasterTerms}
@@ -153,23 +153,21 @@ pub so_far_full : (begun sent : Result Frame WireFault) (here rest : Known) (old
     → GathersBy begun here old (behinds.Found (Some sent)) new rest before after
 so_far_full begun sent here rest old new before after s terms text f = s terms text f
 
--- ---- what a frame does
+-- ---- what a frame does in a group
 
-pub held_message : (sent : Result Frame WireFault) (field : Frame) (now n : ℕ) (message m : Request) (old new : GroupState) (answered : Answered) → sent ≡ Ok field → field ≡ frames.Message n m
-    → Answers now message (seen old) answered (seen new) → ground new ≡ ground old → PartsAnswer now message old new → now ≡ n → message ≡ m → DoesHeld sent old (Some (replies.Answered answered)) new
-held_message sent field now n message m old new answered is named does kept parted at same =
-    let P : Result Frame WireFault → Type 0 = λ s. DoesHeld s old (Some (replies.Answered answered)) new in
-    let so : field ≡ frames.Message now message = named ∙ ap (λ (t : ℕ). frames.Message t m) (sym at) ∙ ap (λ (r : Request). frames.Message now r) (sym same) in
-    let whole : sent ≡ Ok (frames.Message now message) = is ∙ ap (λ (f : Frame). Ok f) so in
-    subst P (sym whole) (λ terms. (seen new, does, refl), kept, parted)
+pub does_message : (sent : Result Frame WireFault) (frame : Frame) (now : ℕ) (message : Request) (answered : Answered) (old new : GroupState) → sent ≡ Ok frame → frame ≡ frames.Message now message
+    → Answers now message (seen old) answered (seen new) → ground new ≡ ground old → PartsAnswer now message old new → DoesHeld sent old (Some (replies.Answered answered)) new
+does_message sent frame now message answered old new is frame_is answers store parted =
+    let P : Result Frame WireFault → Type 0 = λ u. DoesHeld u old (Some (replies.Answered answered)) new in
+    let Q : Frame → Type 0 = λ f. DoesHeld (Ok f) old (Some (replies.Answered answered)) new in
+    subst P (sym is) (subst Q (sym frame_is) ((λ terms. (seen new, answers, refl)), store, parted))
 
-pub held_tick : (sent : Result Frame WireFault) (field : Frame) (now n : ℕ) (old new : GroupState) (settled : Settled) → sent ≡ Ok field → field ≡ frames.Tick n → Settles now (seen old) settled (seen new)
-    → ground new ≡ ground old → PartsSweeps now old new → now ≡ n → DoesHeld sent old (Some (replies.Swept settled)) new
-held_tick sent field now n old new settled is named does kept parted at =
-    let P : Result Frame WireFault → Type 0 = λ s. DoesHeld s old (Some (replies.Swept settled)) new in
-    let so : field ≡ frames.Tick now = named ∙ ap (λ (t : ℕ). frames.Tick t) (sym at) in
-    let whole : sent ≡ Ok (frames.Tick now) = is ∙ ap (λ (f : Frame). Ok f) so in
-    subst P (sym whole) (λ terms. (seen new, does, refl), kept, parted)
+pub does_tick : (sent : Result Frame WireFault) (frame : Frame) (now : ℕ) (settled : Settled) (old new : GroupState) → sent ≡ Ok frame → frame ≡ frames.Tick now
+    → Settles now (seen old) settled (seen new) → ground new ≡ ground old → PartsSweeps now old new → DoesHeld sent old (Some (replies.Swept settled)) new
+does_tick sent frame now settled old new is frame_is settles store parted =
+    let P : Result Frame WireFault → Type 0 = λ u. DoesHeld u old (Some (replies.Swept settled)) new in
+    let Q : Frame → Type 0 = λ f. DoesHeld (Ok f) old (Some (replies.Swept settled)) new in
+    subst P (sym is) (subst Q (sym frame_is) ((λ terms. (seen new, settles, refl)), store, parted))
 
 -- ---- what is told of a frame
 

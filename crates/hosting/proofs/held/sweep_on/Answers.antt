@@ -43,7 +43,7 @@ returns-then-quiet-clause-parted g c =
     parts_more c.args.now c.args.group.now c.loop-done.group c.sweep_with_room.new.self _ (sweep_edits c.loop-done.group.master c.args.now) c.loop-done.invariant.parted c.loop-done.invariant.going.done c.loop-done.invariant.store c.in-Ok.ensures.held
 
 pub returns-in-Err-clause-parted : goal.returns-in-Err-clause-parted
-returns-in-Err-clause-parted g c = parts_same c.args.now c.args.group.now c.loop-done.group c.sweep_with_room.new.self c.loop-done.invariant.parted c.in-Err.ensures.err
+returns-in-Err-clause-parted g c = parts_same c.args.now c.args.group.now c.loop-done.group _ c.loop-done.invariant.parted c.in-Err.ensures.err
 
 pub returns-clause-parted : goal.returns-clause-parted
 returns-clause-parted g c = parts_same c.args.now c.args.group.now c.loop-done.group c.note_more.new.self c.loop-done.invariant.parted c.note_more.ensures
