@@ -100,7 +100,7 @@ impl Cell {
         let (client, peer) = (format!("http://{own}"), format!("http://{peer}"));
         let child = Command::new(program)
             .args(["--data-dir".as_ref(), self.folder.join("etcd").as_os_str()])
-            .args(["--listen-client-urls", &client, "--advertise-client-urls", &client, "--max-txn-ops", "10000"])
+            .args(["--listen-client-urls", &client, "--advertise-client-urls", &client])
             .args(["--listen-peer-urls", &peer, "--initial-advertise-peer-urls", &peer, "--initial-cluster", &format!("default={peer}")])
             .args(["--quota-backend-bytes", "4000000000"])
             .stdin(Stdio::null())

@@ -3,3 +3,4 @@ pub mod FrameForms
 pub mod SameRows
 pub mod Keepings
 pub mod Pieces
+pub mod Hearing

@@ -1,5 +1,5 @@
 //! The rows of a cell, kept by another program.
-ghost use Rattle.std.specs.Prelude.{◌≡◌, ◌≢◌, ◌<◌, ◌+◌, ◌-◌, ◌^◌, [], Ok, Err, Some, None, IfOk, IfErr};
+ghost use Rattle.std.specs.Prelude.{◌≡◌, ◌≢◌, ◌<◌, ◌+◌, ◌-◌, ◌^◌, [], Ok, Err, Some, None, IfOk};
 ghost use Rattle.node_core.specs.Limits.{number_limit};
 ghost use Rattle.node_core.specs.declared.refusals.Fault.TheVariants as faults;
 ghost use Rattle.rows_cell.specs.declared.tables.Rows.{Rows as Held};
@@ -8,7 +8,7 @@ ghost use Rattle.rows_cell.specs.Sound.{sound};
 ghost use Rattle.rows_cell.specs.Rows.{changed_rows};
 ghost use Rattle.rows_remote.specs.declared.frames.Asked.TheVariants as asks;
 ghost use Rattle.rows_remote.specs.Frames.{asked, framed};
-ghost use Rattle.rows_remote.specs.Asking.{begun, IsOpened, CommitsBy, LoadsBy, TakesRows, refused_again};
+ghost use Rattle.rows_remote.specs.Asking.{begun, IsOpened, CommitsBy, LoadsBy, TakesRows, GivesFirst, refused_again, with_tried};
 ghost use Rattle.rows_remote.specs.Keeping.{told_in, noted, stood};
 
 use crate::asked::{write_commit, write_load};
@@ -186,6 +186,17 @@ impl<I: Read, W: Write> FrameRecords<I, W> {
         StoreFault::Refused
     }
 
+    // Notes that a commit was asked for, which isn't known to stand: it was refused, or not answered.
+    fn turn_down(&mut self, change: &Items<Edit>, standing: Standing) -> StoreFault
+        requires { self.old.store.refusals < number_limit }
+        ensures fault { result ≡ StoreFault.Refused }
+        ensures tried { self.new ≡ with_tried standing change.now self.old }
+    {
+        self.past = noted(&self.past, &Note::Tried, change);
+        self.standing = standing;
+        self.refuse()
+    }
+
     // Asks for a commit of these bytes.
     fn ask_commit(&mut self, change: &Items<Edit>, question: &[u8]) -> Result<(), StoreFault>
         requires ready { self.old.standing ≡ Standing.Ready }
@@ -203,16 +214,9 @@ impl<I: Read, W: Write> FrameRecords<I, W> {
                 self.number += 1;
                 Ok(())
             }
-            Some(Answer::Refused) => {
-                self.past = noted(&self.past, &Note::Tried, change);
-                self.standing = Standing::Behind;
-                Err(self.refuse())
-            }
-            _ => {
-                self.past = noted(&self.past, &Note::Tried, change);
-                self.standing = Standing::Shut;
-                Err(self.refuse())
-            }
+            Some(Answer::Refused) => Err(self.turn_down(change, Standing::Behind)),
+            Some(Answer::Rows(_)) => Err(self.turn_down(change, Standing::Shut)),
+            None => Err(self.turn_down(change, Standing::Shut)),
         }
     }
 
@@ -261,18 +265,20 @@ impl<I: Read, W: Write> FrameRecords<I, W> {
         rows_in(note).ok_or(StoreFault::NoMemory)
     }
 
-    // Gives the first rows.
+    // Gives the first rows, which are given up where a cell of this name may not have them.
     fn give(&mut self, rows: Rows) -> Result<Rows, StoreFault>
-        requires first { rows ≡ self.old.store.rows }
+        requires rows { rows ≡ self.old.store.rows }
+        requires first { self.old.first ≡ None }
         ensures loads { Loads self.old.store self.new.store (told result) }
-        ensures same { self.new ≡ self.old }
-        ensures rows { IfOk result (λ given. given ≡ rows) }
-        ensures fault { IfErr result (λ fault. fault ≢ StoreFault.Refused) }
+        ensures given { GivesFirst rows self.old self.new (told result) }
     {
-        if is_sound(self.alloc, &self.cell, &rows)? {
-            Ok(rows)
-        } else {
-            Err(StoreFault::Damaged)
+        match is_sound(self.alloc, &self.cell, &rows) {
+            Ok(true) => Ok(rows),
+            Ok(false) => Err(StoreFault::Damaged),
+            Err(_) => {
+                self.first = Some(rows);
+                Err(StoreFault::NoMemory)
+            }
         }
     }
 }

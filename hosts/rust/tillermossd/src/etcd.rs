@@ -1,5 +1,6 @@
 //! A cell whose rows stand in etcd, and which several servers stand by for.
 
+pub mod channels;
 pub mod copying;
 pub mod decisions;
 pub mod found;
@@ -7,9 +8,12 @@ pub mod gateway;
 pub mod guard;
 pub mod keeper;
 pub mod mastership;
+pub mod messages;
 pub mod pipes;
 #[cfg(test)]
 pub mod pretended;
+#[cfg(test)]
+mod real;
 pub mod rows;
 pub(crate) mod standby;
 pub mod upkeep;
@@ -43,7 +47,7 @@ pub struct Place {
 /// How an etcd is reached by TLS.
 #[derive(Clone, Debug, Default, PartialEq, Eq, Args)]
 pub struct Trust {
-    /// The authorities that sign the certificates of etcd, in PEM; without it etcd is reached over plain HTTP
+    /// The authorities that sign the certificates of etcd, in PEM; without it nothing is encrypted on the way to etcd
     #[arg(long)]
     pub etcd_ca: Option<PathBuf>,
     /// By which etcd knows this program, in PEM
@@ -135,7 +139,7 @@ impl Place {
     pub fn gateway(&self, trust: &Trust) -> Result<Arc<Members>, Error> {
         let own = trust.etcd_cert.as_deref().zip(trust.etcd_key.as_deref());
         let config = trust.etcd_ca.as_ref().map(|authority| client_config(authority, own)).transpose()?;
-        Ok(Arc::new(Members::new(&self.members, config, trust.user()?)))
+        Ok(Arc::new(Members::new(&self.members, config.as_ref(), trust.user()?)?))
     }
 
     /// What stands in front of the cell's keys.

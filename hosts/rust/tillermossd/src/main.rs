@@ -9,6 +9,7 @@ mod net;
 mod options;
 mod serving;
 mod settings;
+mod signals;
 
 use clap::error::ErrorKind;
 use clap::{CommandFactory, Parser};

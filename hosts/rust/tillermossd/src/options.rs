@@ -87,8 +87,8 @@ Beside the store stand FILE-numbers, the next client's number and the last epoch
 
 At unix: a client acts for the user that the system names, at tls: for the common name of its certificate, at tcp: for whom it says.
 
-It prints `listening ADDRESS` for each once it serves. On SIGTERM or SIGINT the master goes down in order, and the status is 0; on
-SIGHUP limits and certificates are read again, save for the limits nodes, bytes and locks. The status is 1 where it can't serve or has to stop, 2 for a wrong command line.
+It prints `listening ADDRESS` for each once it serves. On SIGTERM or SIGINT the master goes down in order, and the status is 0; where
+that takes 15 seconds, or at a second such signal, the server ends at once, and the status is 1. On SIGHUP limits and certificates are read again, save for the limits nodes, bytes and locks. The status is 1 where it can't serve or has to stop, 2 for a wrong command line.
 RUST_LOG says what is logged, as `warn` or `tillermossd=debug`.";
 
 /// What is done instead of serving.

@@ -19,6 +19,7 @@ use crate::net::connections::{Hall, take_all};
 use crate::net::doors::{Comer, Door, context};
 use crate::options::ServerOptions;
 use crate::settings::{Limits, MadeWith, Settings};
+use crate::signals::{Going, Signals};
 use anyhow::{Context, Result, anyhow, bail};
 use host_wire::handshakes::Certificates;
 use host_wire::{Address, Notice};
@@ -35,7 +36,6 @@ use std::sync::{Arc, Mutex, OnceLock, PoisonError};
 use std::thread;
 use std::time::{Duration, Instant};
 use tokio::runtime::Runtime;
-use tokio::signal::unix::{Signal, SignalKind, signal};
 use tokio::sync::mpsc;
 use tokio::time::{interval, timeout};
 use tracing::{error, info, warn};
@@ -149,7 +149,7 @@ fn serve_rows(place: Place, options: ServerOptions) -> Result<()> {
     let served = look_beside(&options, &rows, &warm)
         .and_then(|found| runtime.block_on(run(options, PathBuf::new(), Some(rows), found, &mut signals, Some(counters))));
     runtime.shutdown_background();
-    if served.is_ok() || signals.going.is_told || mastership.holds() {
+    if served.is_ok() || signals.going.is_told() || mastership.holds() {
         // (where etcd isn't reached the mastership ends by itself)
         let _ = mastership.end();
         return served;
@@ -547,40 +547,6 @@ fn tell(listening: &[String], counters: &[(Counter, Address)]) -> io::Result<()>
         writeln!(out, "admin {address}")?;
     }
     out.flush()
-}
-
-// The signals that a server heeds, from its start to its end.
-struct Signals {
-    going: Going,
-    hangup: Signal,
-}
-
-// Those by which it is told to go, and whether it was.
-struct Going {
-    terminate: Signal,
-    interrupt: Signal,
-    is_told: bool,
-}
-
-impl Signals {
-    fn take() -> io::Result<Signals> {
-        let [terminate, interrupt, hangup] = [SignalKind::terminate(), SignalKind::interrupt(), SignalKind::hangup()].map(signal);
-        Ok(Signals { going: Going { terminate: terminate?, interrupt: interrupt?, is_told: false }, hangup: hangup? })
-    }
-}
-
-impl Going {
-    // Waits until it is told to go.
-    async fn wait(&mut self) {
-        tokio::select! {
-            _ = self.terminate.recv() => {}
-            _ = self.interrupt.recv() => {}
-        }
-        self.is_told = true;
-        info!("going");
-        // (where no service manager waits for it nothing is told)
-        let _ = sd_notify::notify(false, &[NotifyState::Stopping]);
-    }
 }
 
 // Waits for signals and for the end.

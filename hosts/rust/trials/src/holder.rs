@@ -1,12 +1,29 @@
-//! A network between a server and an etcd that holds back the transactions which write one key, and lets the first of them through
-//! late; all else passes meanwhile.
+//! A network between a server and an etcd, which speak gRPC, that holds back the transactions which write one key, and lets the first of
+//! them through late; all else passes meanwhile.
 
-use serde_json::Value;
-use std::io::{self, BufRead, BufReader, Write};
-use std::net::{Shutdown, SocketAddr, TcpListener, TcpStream};
+use bytes::{Bytes, BytesMut};
+use h2::client::{ResponseFuture, SendRequest};
+use h2::server::SendResponse;
+use h2::{Reason, RecvStream, SendStream};
+use http::{Request, Response};
+use prost::Message;
+use std::error::Error;
+use std::io;
+use std::net::{SocketAddr, TcpListener as StdTcpListener};
 use std::sync::{Arc, Mutex, MutexGuard, PoisonError};
 use std::thread;
 use std::time::{Duration, Instant};
+use tokio::net::{TcpListener, TcpStream};
+use tokio::runtime::{Builder, Runtime};
+
+/// The method by which a transaction is asked for.
+const TRANSACTION: &str = "/etcdserverpb.KV/Txn";
+
+/// What stands in front of a message: whether it is compressed, and its length.
+const FRONT: usize = 5;
+
+/// What becomes of what is carried.
+type Carried<T> = Result<T, Box<dyn Error + Send + Sync>>;
 
 /// A holder, whose threads go on until the process ends.
 #[derive(Clone, Debug)]
@@ -27,22 +44,77 @@ struct State {
     /// How many more are held.
     most: usize,
     /// The first one since it began to hold, and how many came in all.
-    first: Option<Vec<u8>>,
+    first: Option<(Request<()>, Bytes)>,
     count: usize,
-    /// The connections over which they came, which end when it lets the first one through.
-    waiting: Vec<TcpStream>,
+    /// The answers to those that came, which end when it lets the first one through.
+    waiting: Vec<SendResponse<Bytes>>,
 }
 
-/// A request of HTTP, head and body.
-struct Request {
-    bytes: Vec<u8>,
-    body: usize,
+/// A transaction, as far as it is read here.
+#[derive(Clone, PartialEq, Message)]
+struct Transaction {
+    #[prost(message, repeated, tag = "2")]
+    deeds: Vec<Deed>,
+}
+
+#[derive(Clone, PartialEq, Message)]
+struct Deed {
+    #[prost(message, optional, tag = "2")]
+    put: Option<Put>,
+    #[prost(message, optional, tag = "4")]
+    transaction: Option<Transaction>,
+}
+
+#[derive(Clone, PartialEq, Message)]
+struct Put {
+    #[prost(bytes = "vec", tag = "1")]
+    key: Vec<u8>,
+}
+
+/// What became of one.
+#[derive(Clone, PartialEq, Message)]
+struct Done {
+    #[prost(bool, tag = "2")]
+    has_succeeded: bool,
+}
+
+impl Transaction {
+    fn writes(&self, key: &str) -> bool {
+        self.deeds.iter().any(|Deed { put, transaction }| {
+            put.as_ref().is_some_and(|put| put.key == key.as_bytes()) || transaction.as_ref().is_some_and(|within| within.writes(key))
+        })
+    }
 }
 
 impl Shared {
     fn state(&self) -> MutexGuard<'_, State> {
         self.state.lock().unwrap_or_else(PoisonError::into_inner)
     }
+
+    // Holds a transaction, where it is one that is held; else its answer is given back.
+    fn take(&self, request: &Request<()>, message: &Bytes, answer: SendResponse<Bytes>) -> Carried<Option<SendResponse<Bytes>>> {
+        let mut state = self.state();
+        if state.most == 0 || !Transaction::decode(message.get(FRONT..).unwrap_or_default())?.writes(&self.key) {
+            return Ok(Some(answer));
+        }
+        (state.most, state.count) = (state.most - 1, state.count + 1);
+        if state.first.is_none() {
+            state.first = Some((again(request)?, message.clone()));
+        }
+        state.waiting.push(answer);
+        Ok(None)
+    }
+}
+
+// The same request.
+fn again(request: &Request<()>) -> Carried<Request<()>> {
+    let mut same = Request::post(request.uri().clone()).body(())?;
+    same.headers_mut().clone_from(request.headers());
+    Ok(same)
+}
+
+fn runtime() -> io::Result<Runtime> {
+    Builder::new_current_thread().enable_all().build()
 }
 
 impl Holder {
@@ -52,16 +124,12 @@ impl Holder {
     ///
     /// Where it can't listen.
     pub fn start(service: SocketAddr, key: &str) -> io::Result<Holder> {
-        let listener = TcpListener::bind("127.0.0.1:0")?;
-        let shared = Arc::new(Shared { service, key: base64::encode(key), state: Mutex::default() });
+        let listener = StdTcpListener::bind("127.0.0.1:0")?;
+        listener.set_nonblocking(true)?;
+        let shared = Arc::new(Shared { service, key: key.to_owned(), state: Mutex::default() });
         let holder = Holder { address: listener.local_addr()?, shared: shared.clone() };
-        thread::spawn(move || {
-            for client in listener.incoming().flatten() {
-                let shared = shared.clone();
-                // (whatever ends one way ends the other)
-                thread::spawn(move || carry(&client, &shared));
-            }
-        });
+        let runtime = runtime()?;
+        thread::spawn(move || runtime.block_on(take_all(listener, shared)));
         Ok(holder)
     }
 
@@ -101,80 +169,114 @@ impl Holder {
     /// Where it holds none, or etcd isn't reached.
     pub fn let_through(&self) -> io::Result<bool> {
         let State { first, waiting, .. } = std::mem::take(&mut *self.shared.state());
-        let mut etcd = TcpStream::connect(self.shared.service)?;
-        etcd.write_all(&first.ok_or_else(|| io::Error::other("nothing is held"))?)?;
-        let answer = read(&mut BufReader::new(&etcd))?.ok_or_else(|| io::Error::other("no answer"))?;
-        for client in waiting {
+        let (request, message) = first.ok_or_else(|| io::Error::other("nothing is held"))?;
+        let asked = async {
+            let mut etcd = connect(self.shared.service).await?;
+            read(ask(&mut etcd, request, message)?.await?.body_mut()).await
+        };
+        let done = runtime()?.block_on(asked).map_err(io::Error::other)?;
+        for mut answer in waiting {
             // (who waited has given up)
-            let _ = client.shutdown(Shutdown::Both);
+            answer.send_reset(Reason::INTERNAL_ERROR);
         }
-        let answer: Value = serde_json::from_slice(&answer.bytes[answer.body..])?;
-        Ok(answer["succeeded"] == true)
+        Ok(Done::decode(done.get(FRONT..).unwrap_or_default())?.has_succeeded)
     }
 }
 
-// One request or answer; None where the other side has ended.
-fn read(from: &mut impl BufRead) -> io::Result<Option<Request>> {
-    let (mut bytes, mut length, mut is_chunked) = (Vec::new(), 0, false);
+async fn take_all(listener: StdTcpListener, shared: Arc<Shared>) {
+    let Ok(listener) = TcpListener::from_std(listener) else {
+        return;
+    };
+    // (whatever ends one way ends the other)
+    while let Ok((client, _)) = listener.accept().await {
+        let shared = shared.clone();
+        tokio::spawn(async move { drop(carry(client, &shared).await) });
+    }
+}
+
+async fn connect(service: SocketAddr) -> Carried<SendRequest<Bytes>> {
+    let stream = TcpStream::connect(service).await?;
+    stream.set_nodelay(true)?;
+    let (asking, connection) = h2::client::handshake(stream).await?;
+    tokio::spawn(async move { drop(connection.await) });
+    Ok(asking)
+}
+
+async fn carry(client: TcpStream, shared: &Arc<Shared>) -> Carried<()> {
+    client.set_nodelay(true)?;
+    let etcd = connect(shared.service).await?;
+    let mut asked = h2::server::handshake(client).await?;
+    while let Some(next) = asked.accept().await {
+        let ((request, answer), etcd, shared) = (next?, etcd.clone(), shared.clone());
+        // (an answer that is dropped tells the client that none comes)
+        tokio::spawn(async move { drop(pass(request, answer, etcd, &shared).await) });
+    }
+    Ok(())
+}
+
+async fn pass(request: Request<RecvStream>, answer: SendResponse<Bytes>, mut etcd: SendRequest<Bytes>, shared: &Shared) -> Carried<()> {
+    let (head, mut body) = request.into_parts();
+    let request = Request::from_parts(head, ());
+    if request.uri().path() == TRANSACTION {
+        let message = read(&mut body).await?;
+        return match shared.take(&request, &message, answer)? {
+            Some(answer) => give(ask(&mut etcd, request, message)?, answer).await,
+            None => Ok(()),
+        };
+    }
+    let (coming, mut asking) = etcd.send_request(request, false)?;
+    let mut answered = std::pin::pin!(give(coming, answer));
+    tokio::select! {
+        over = &mut answered => return over,
+        asked = pump(&mut body, &mut asking) => asked?,
+    }
+    answered.await
+}
+
+// Asks for a transaction that is whole.
+fn ask(etcd: &mut SendRequest<Bytes>, request: Request<()>, message: Bytes) -> Carried<ResponseFuture> {
+    let (coming, mut asking) = etcd.send_request(request, false)?;
+    asking.send_data(message, true)?;
+    Ok(coming)
+}
+
+async fn give(coming: ResponseFuture, mut answer: SendResponse<Bytes>) -> Carried<()> {
+    let (head, mut body) = coming.await?.into_parts();
+    let is_over = body.is_end_stream();
+    let mut sending = answer.send_response(Response::from_parts(head, ()), is_over)?;
+    if is_over { Ok(()) } else { pump(&mut body, &mut sending).await }
+}
+
+// All that comes, with the fronts of its messages.
+async fn read(body: &mut RecvStream) -> Carried<Bytes> {
+    let mut came = BytesMut::new();
+    while let Some(some) = next(body).await? {
+        came.extend_from_slice(&some);
+    }
+    Ok(came.freeze())
+}
+
+async fn next(body: &mut RecvStream) -> Carried<Option<Bytes>> {
+    let some = body.data().await.transpose()?;
+    body.flow_control().release_capacity(some.as_ref().map_or(0, Bytes::len))?;
+    Ok(some)
+}
+
+async fn pump(from: &mut RecvStream, to: &mut SendStream<Bytes>) -> Carried<()> {
     loop {
-        let begun = bytes.len();
-        if from.read_until(b'\n', &mut bytes)? == 0 {
-            return Ok(None);
-        }
-        let line = String::from_utf8_lossy(&bytes[begun..]).to_lowercase();
-        if let Some(count) = line.strip_prefix("content-length:") {
-            length = count.trim().parse().map_err(io::Error::other)?;
-        }
-        is_chunked |= line.starts_with("transfer-encoding:") && line.contains("chunked");
-        if line.trim().is_empty() {
-            break;
+        let some = tokio::select! {
+            some = next(from) => some?,
+            // (whoever doesn't want it any more wants nothing of it)
+            _ = std::future::poll_fn(|context| to.poll_reset(context)) => return Ok(()),
+        };
+        match some {
+            Some(some) => to.send_data(some, false)?,
+            None => break,
         }
     }
-    let body = bytes.len();
-    if is_chunked {
-        return Err(io::Error::other("an answer in pieces"));
+    match from.trailers().await? {
+        Some(trailers) => to.send_trailers(trailers)?,
+        None => to.send_data(Bytes::new(), true)?,
     }
-    bytes.resize(body + length, 0);
-    from.read_exact(&mut bytes[body..])?;
-    Ok(Some(Request { bytes, body }))
-}
-
-// A stream that is read on both sides while one waits for the other.
-fn carry(client: &TcpStream, shared: &Shared) -> io::Result<()> {
-    let etcd = TcpStream::connect(shared.service)?;
-    for stream in [client, &etcd] {
-        stream.set_nodelay(true)?;
-    }
-    let (mut asked, mut answered) = (BufReader::new(client), etcd.try_clone()?);
-    let back = client.try_clone()?;
-    thread::spawn(move || {
-        let mut back = &back;
-        // (where one side has ended the other one ends too)
-        let _ = io::copy(&mut answered, &mut back);
-        let _ = back.shutdown(Shutdown::Both);
-    });
-    while let Some(request) = read(&mut asked)? {
-        if !is_held(&request, client, shared)? {
-            (&etcd).write_all(&request.bytes)?;
-        }
-    }
-    etcd.shutdown(Shutdown::Both)
-}
-
-fn is_held(request: &Request, client: &TcpStream, shared: &Shared) -> io::Result<bool> {
-    let mut state = shared.state();
-    if state.most == 0 || !writes(&request.bytes[request.body..], &shared.key) {
-        return Ok(false);
-    }
-    (state.most, state.count) = (state.most - 1, state.count + 1);
-    state.first.get_or_insert_with(|| request.bytes.clone());
-    state.waiting.push(client.try_clone()?);
-    Ok(true)
-}
-
-// Whether this is a transaction that writes the key.
-fn writes(body: &[u8], key: &str) -> bool {
-    let asked: Value = serde_json::from_slice(body).unwrap_or_default();
-    let deeds = asked["success"].as_array().map(Vec::as_slice).unwrap_or_default();
-    deeds.iter().any(|deed| deed["request_put"]["key"] == key)
+    Ok(())
 }

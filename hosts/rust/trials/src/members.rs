@@ -41,7 +41,7 @@ impl Member {
         let (place, peer) = (free(), free());
         let (client, peer) = (format!("http://{place}"), format!("http://{peer}"));
         let data = folder.join("etcd").display().to_string();
-        let words = ["--name", "m", "--data-dir", &data, "--log-level", "error", "--max-txn-ops", "10000"];
+        let words = ["--name", "m", "--data-dir", &data, "--log-level", "error"];
         let urls = ["--listen-client-urls", &client, "--advertise-client-urls", &client, "--listen-peer-urls", &peer];
         let own = ["--initial-advertise-peer-urls", &peer, "--initial-cluster", &format!("m={peer}")];
         let mut command = Command::new("etcd");

@@ -104,7 +104,7 @@ fn run(server: &Server, crowd: &Crowd) -> Duration {
         refused.len(),
         epochs(server)
     );
-    assert!(refused.is_empty(), "{}: {refused:?}", crowd.what);
+    assert!(refused.is_empty(), "{}: {:?}: {}", crowd.what, refused.first(), server.logged());
     assert_eq!(epochs(server), 1, "{}: {}", crowd.what, server.logged());
     spent
 }
@@ -127,7 +127,8 @@ fn a_large_cell_comes_up_over_a_slow_network() {
     let mut server = etcd.server_of_all("server").start().unwrap();
     let writer = connect(&server);
     for place in 0..FILES {
-        let file = writer.create(&format!("/ls/c/large{place}"), &[0xff; LARGE]).unwrap();
+        let made = writer.create(&format!("/ls/c/large{place}"), &[0xff; LARGE]);
+        let file = made.unwrap_or_else(|fault| panic!("{fault:?}: {}", server.logged()));
         writer.close(file).unwrap();
     }
     assert_eq!(epochs(&server), 1, "{}", server.logged());

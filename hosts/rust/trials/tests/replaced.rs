@@ -88,7 +88,7 @@ fn a_server_that_is_cut_off_tells_of_another() {
     relay.set(Passing::Nothing);
     assert!(first.has_logged("standing by again"), "{}", first.logged());
     let begun = Instant::now();
-    set(&client, file, b"found").unwrap();
+    set(&client, file, b"found").unwrap_or_else(|fault| panic!("{fault:?}: {}; the other: {}", first.logged(), second.logged()));
     println!("replaced: a client of a server that is cut off from etcd had written {} ms after that", begun.elapsed().as_millis());
     assert!(!client.is_lost() && begun.elapsed() < Duration::from_secs(40), "{}", second.logged());
     relay.set(Passing::All);

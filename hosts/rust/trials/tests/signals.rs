@@ -8,8 +8,8 @@ use std::path::Path;
 use std::process::{Command, ExitStatus, Stdio};
 use std::thread;
 use std::time::{Duration, Instant};
-use tillermoss::{Client, Options};
-use trials::{Kill, Member, Server, Start, certificates, folder, free, program};
+use tillermoss::{Client, Mode, Options};
+use trials::{Etcd, Kill, Member, Network, Server, Start, certificates, folder, free, program};
 
 // Waits until it ends, and kills it where it doesn't.
 fn end(server: &mut Server, most: Duration) -> Option<ExitStatus> {
@@ -21,6 +21,15 @@ fn end(server: &mut Server, most: Duration) -> Option<ExitStatus> {
         thread::sleep(Duration::from_millis(20));
     }
     None
+}
+
+// Whether this process is gone, or goes now. (One that was killed is there until the system has heard of it.)
+fn is_gone(process: u32) -> bool {
+    let begun = Instant::now();
+    while kill(Pid::from_raw(process.cast_signed()), None).is_ok() && begun.elapsed() < Duration::from_secs(5) {
+        thread::sleep(Duration::from_millis(20));
+    }
+    kill(Pid::from_raw(process.cast_signed()), None).is_err()
 }
 
 fn over_etcd(folder: &Path, name: &str, member: &Member) -> Start {
@@ -47,7 +56,7 @@ fn stop_beside_a_stuck_master(server: &mut Server) {
     println!("signals: SIGTERM beside a stuck master: {status:?} in {:.1} s", begun.elapsed().as_secs_f64());
     assert_eq!(status.and_then(|status| status.code()), Some(1), "{}", server.logged());
     assert!(server.logged().contains("the master doesn't go"));
-    assert!(kill(Pid::from_raw(master.cast_signed()), None).is_err(), "its master is there");
+    assert!(is_gone(master), "its master is there");
     drop((client, file));
 }
 
@@ -76,17 +85,70 @@ fn a_server_over_etcd_goes_beside_a_stuck_master() {
     fs::remove_dir_all(folder).unwrap();
 }
 
+/// How long the end of a server may take, with what a busy machine adds.
+const END: Duration = Duration::from_secs(17);
+
+// Its master is stuck, and all members of etcd hang, so that it can't give its mastership back: that its guard does once they go on.
+#[test]
+fn a_server_goes_in_time_whatever_it_waits_for() {
+    let etcd = Etcd::of_three(Network { one_way: Duration::ZERO, rate: None }).unwrap();
+    let mut server = etcd.server_of_all("first").with(&["--mastership", "20"]).start().unwrap();
+    let client = Client::connect(&Options::new(&server.address, "ann")).unwrap();
+    client.create("/ls/c/f", b"kept").unwrap();
+    let master = server.master().unwrap();
+    server.signal_master(Signal::SIGSTOP).unwrap();
+    etcd.signal(Signal::SIGSTOP).unwrap();
+    server.signal(Signal::SIGTERM).unwrap();
+    let begun = Instant::now();
+    let status = end(&mut server, Duration::from_secs(90));
+    println!("signals: SIGTERM beside a stuck master and an etcd that hangs: {status:?} in {:.1} s", begun.elapsed().as_secs_f64());
+    assert_eq!(status.and_then(|status| status.code()), Some(1), "{}", server.logged());
+    assert!(begun.elapsed() < END && server.logged().contains("the server ends at once"), "{}", server.logged());
+    assert!(is_gone(master), "its master is there");
+    etcd.signal(Signal::SIGCONT).unwrap();
+    let begun = Instant::now();
+    let next = etcd.server_of_all("next").start().unwrap();
+    assert!(begun.elapsed() < Duration::from_secs(30), "{:?}: {}", begun.elapsed(), next.logged());
+    drop(client);
+}
+
+#[test]
+fn a_second_signal_ends_a_server_at_once() {
+    let folder = folder("told-twice");
+    let start = Start::new(&folder.join("store.db"));
+    let mut server = start.start().unwrap();
+    let client = Client::connect(&Options::new(&server.address, "ann")).unwrap();
+    client.create("/ls/c/f", b"kept").unwrap();
+    let master = server.master().unwrap();
+    server.signal_master(Signal::SIGSTOP).unwrap();
+    server.signal(Signal::SIGTERM).unwrap();
+    assert!(server.has_logged("going"), "{}", server.logged());
+    server.signal(Signal::SIGINT).unwrap();
+    let begun = Instant::now();
+    let status = end(&mut server, Duration::from_secs(25));
+    println!("signals: told to go twice beside a stuck master: {status:?} in {:.1} s", begun.elapsed().as_secs_f64());
+    assert_eq!(status.and_then(|status| status.code()), Some(1), "{}", server.logged());
+    assert!(begun.elapsed() < Duration::from_secs(5) && server.logged().contains("it was told to go once more"), "{}", server.logged());
+    assert!(is_gone(master), "its master is there");
+    let next = start.with(&[&server.address]).start().unwrap();
+    assert_eq!(client.read(client.open("/ls/c/f", Mode::READ).unwrap()).unwrap().content, b"kept");
+    drop((client, next));
+    fs::remove_dir_all(folder).unwrap();
+}
+
 // A program in the master's place that never comes up.
 #[test]
 fn a_server_goes_while_its_master_comes_up() {
     let folder = folder("coming-up");
     let (master, started) = (folder.join("master"), folder.join("started"));
-    fs::write(&master, format!("#!/bin/sh\n[ \"$1\" = serve ] || exit\ntouch {}\nexec sleep 600\n", started.display())).unwrap();
+    let version = format!("[ \"$1\" = serve ] || exec echo cellctl {}", env!("CARGO_PKG_VERSION"));
+    fs::write(&master, format!("#!/bin/sh\n{version}\ntouch {}\nexec sleep 600\n", started.display())).unwrap();
     fs::set_permissions(&master, fs::Permissions::from_mode(0o700)).unwrap();
     let mut command = Command::new(program("tillermossd"));
     command.arg("0").arg("--store").arg(folder.join("store.db")).arg("--master").arg(&master);
     let mut child = command.stdout(Stdio::null()).stderr(Stdio::null()).spawn().unwrap();
     while !started.exists() {
+        assert_eq!(child.try_wait().unwrap(), None, "it has ended");
         thread::sleep(Duration::from_millis(20));
     }
     kill(Pid::from_raw(child.id().cast_signed()), Signal::SIGTERM).unwrap();

@@ -37,14 +37,22 @@ impl Used {
         }
     }
 
-    /// That of the server's master, its only child of another program.
+    /// That of the server's master.
     #[must_use]
     pub fn of_master() -> Used {
-        let tasks = fs::read_dir("/proc/self/task").into_iter().flatten().flatten();
-        let children = tasks.filter_map(|task| fs::read_to_string(task.path().join("children")).ok()).collect::<String>();
-        let program = |process: &str| fs::read_link(Path::new("/proc").join(process).join("exe")).ok();
-        children.split_whitespace().find(|child| program(child) != program("self")).map(Used::of).unwrap_or_default()
+        master().map(|master| Used::of(&master)).unwrap_or_default()
     }
+}
+
+/// The process of the server's master, its only child of another program.
+#[must_use]
+pub fn master() -> Option<String> {
+    let tasks = fs::read_dir("/proc/self/task").into_iter().flatten().flatten();
+    let children = tasks.filter_map(|task| fs::read_to_string(task.path().join("children")).ok()).collect::<String>();
+    let program = |process: &str| fs::read_link(Path::new("/proc").join(process).join("exe")).ok();
+    let own = program("self");
+    // (one that has ended has no program)
+    children.split_whitespace().find(|child| program(child).is_some_and(|other| Some(other) != own)).map(str::to_owned)
 }
 
 fn start_of_the_machine() -> f64 {

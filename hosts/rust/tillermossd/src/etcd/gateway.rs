@@ -1,20 +1,21 @@
-//! etcd by its gateway for JSON: ranges, transactions and leases.
+//! What is asked of etcd, by gRPC: ranges, transactions, leases, and what changes.
 
+use crate::etcd::channels::{Asked, Channels, Fault, Limit};
+use crate::etcd::messages::{
+    self, AlarmsWanted, Authenticate, CHANGED, CREATED, Compaction, Condition, Deed, DeedKind, DeleteRange, Event, GONE, Grant, Header,
+    KeepAlive, KeyValue, Put, Question, Range, Revoke, Transaction, Wanted, Watch, WatchWanted, Watched,
+};
 use crate::net::tls::Connector;
 use anyhow::{Context, Error, Result, anyhow};
-use base64::{decode, encode};
 use prometheus::{Histogram, IntCounter, IntGauge, histogram_opts};
-use serde_json::{Value, json};
+use prost::Message;
 use std::fmt::{self, Display, Formatter};
-use std::io::{BufRead, BufReader, ErrorKind, Read};
 use std::sync::atomic::{AtomicBool, AtomicUsize, Ordering};
 use std::sync::{Arc, Mutex, PoisonError};
 use std::time::{Duration, Instant};
 use tracing::{error, info, warn};
-use ureq::{Agent, AgentBuilder};
 
-/// How long a connection may take, and an answer. Of an answer that is a page of rows: so long nothing may come of it.
-const CONNECTING: Duration = Duration::from_secs(1);
+/// How long an answer may take. Of one that is a page of rows: so long nothing may come of it.
 const ANSWERING: Duration = Duration::from_secs(3);
 
 /// How long nothing may change before it is asked again what does.
@@ -23,15 +24,13 @@ const SILENCE: Duration = Duration::from_secs(10);
 /// The bounds of the times of answers, in seconds.
 const BOUNDS: [f64; 9] = [0.001, 0.003, 0.01, 0.03, 0.1, 0.3, 1.0, 3.0, 10.0];
 
-/// What etcd says where it has no room left: its own words, which hold for each way of asking.
+/// What etcd says where it has no room left, and where a message is longer than it reads, in its own words.
 const NO_ROOM: &str = "database space exceeded";
+const TOO_LONG: &str = "message larger than max";
 
 /// How many operations stand side by side in a transaction. Of a longer one each of them is a transaction within it: etcd takes 128 in all
 /// on the way down, unless its --max-txn-ops says otherwise, so three times 42 of them, and that is 74,088 at the bottom.
 const WIDTH: usize = 42;
-
-/// The longest answer that is read.
-const ANSWER_LIMIT: u64 = 1 << 30;
 
 /// A pair as etcd keeps it.
 #[derive(Clone, Debug, PartialEq, Eq)]
@@ -46,6 +45,15 @@ pub struct Pair {
     pub changed: i64,
     /// The lease that it goes with; 0 where it stays.
     pub lease: i64,
+}
+
+impl Pair {
+    // None of one whose key is no text, or that no revision made.
+    fn of(told: KeyValue) -> Option<Pair> {
+        let KeyValue { key, created, changed, value, lease } = told;
+        (created > 0 && changed > 0).then_some(())?;
+        Some(Pair { key: String::from_utf8(key).ok()?, value, created, changed, lease })
+    }
 }
 
 /// One condition of a transaction.
@@ -80,35 +88,29 @@ pub enum Followed {
 }
 
 impl Followed {
-    // Of one line of what a member tells; None where nothing changed.
-    fn read(line: &str) -> Result<Option<Followed>> {
-        let told: Value = serde_json::from_str(line)?;
-        let result = told.get("result").with_context(|| format!("etcd doesn't tell changes: {line}"))?;
-        if result.get("canceled").and_then(Value::as_bool).unwrap_or(false) {
+    // Of one message of a member; None where nothing changed.
+    fn of(told: Watched) -> Result<Option<Followed>> {
+        if told.is_cancelled {
             return Ok(Some(Followed::Forgotten));
         }
-        let events = result.get("events").and_then(Value::as_array).map(Vec::as_slice).unwrap_or_default();
-        let changes: Option<Vec<_>> = events.iter().map(change).collect();
+        let changes: Option<Vec<_>> = told.events.into_iter().map(change).collect();
         let changes = changes.context("etcd tells a change that isn't understood")?;
-        let revision = result.pointer("/header/revision").and_then(number).context("etcd's answer has no revision")?;
+        let revision = revision(told.header)?;
         Ok((!changes.is_empty()).then_some(Followed::Changes(revision, changes)))
     }
 }
 
-fn change(event: &Value) -> Option<Result<Pair, String>> {
-    let about = event.get("kv")?;
-    if event.get("type").is_some_and(|kind| kind == "DELETE") {
-        let key = decode(about.get("key")?.as_str()?).ok()?;
-        return Some(Err(String::from_utf8(key).ok()?));
+fn change(event: Event) -> Option<Result<Pair, String>> {
+    let about = event.pair?;
+    if event.kind == GONE {
+        return Some(Err(String::from_utf8(about.key).ok()?));
     }
-    pair(about).map(Ok)
+    Pair::of(about).map(Ok)
 }
 
-/// By these states a member tells that it refuses what is asked: its form, who asks, and what he may do.
-const REFUSING: [u16; 4] = [400, 401, 403, 412];
-
-/// The longest reason that is read.
-const REASON_LIMIT: u64 = 1 << 12;
+/// By these numbers of gRPC a member tells that it refuses what is asked: its form (3), who asks (16) and what he may do (7), and what
+/// stands there (9, 11).
+const REFUSING: [u32; 5] = [3, 7, 9, 11, 16];
 
 /// Why there is no answer.
 #[derive(Debug)]
@@ -122,16 +124,15 @@ pub enum Lost {
 /// The members of one etcd.
 #[derive(Clone, Debug)]
 pub struct Members {
-    scheme: &'static str,
-    places: Vec<String>,
-    agent: Agent,
-    /// For what may be silent for longer.
-    patient: Agent,
+    channels: Arc<Channels>,
+    /// The member that answered last.
     last: Arc<AtomicUsize>,
     user: Option<Arc<User>>,
     health: Arc<Health>,
     /// Where this is set no further member is asked.
     is_ended: Arc<AtomicBool>,
+    /// Nothing is waited for after this moment.
+    by: Option<Instant>,
 }
 
 /// Whom etcd is asked as.
@@ -141,6 +142,12 @@ struct User {
     password: String,
     /// What the members know this user by; etcd forgets it when it likes.
     token: Mutex<Option<String>>,
+}
+
+impl User {
+    fn token(&self) -> Option<String> {
+        self.token.lock().unwrap_or_else(PoisonError::into_inner).clone()
+    }
 }
 
 /// How etcd answered so far.
@@ -219,6 +226,17 @@ impl Display for Unanswered {
     }
 }
 
+impl From<Fault> for Lost {
+    fn from(fault: Fault) -> Lost {
+        match fault {
+            Fault::Told(status, words) if REFUSING.contains(&status) || words.contains(NO_ROOM) || words.contains(TOO_LONG) => {
+                Lost::Refused(anyhow!(words))
+            }
+            fault => Lost::Unknown(fault.into()),
+        }
+    }
+}
+
 impl From<Lost> for Error {
     fn from(lost: Lost) -> Error {
         match lost {
@@ -237,80 +255,57 @@ fn behind(prefix: &str) -> Vec<u8> {
     end
 }
 
-// The gateway writes whole numbers of 64 bits as texts.
-fn number(value: &Value) -> Option<i64> {
-    value.as_i64().or_else(|| value.as_str()?.parse().ok())
+fn revision(header: Option<Header>) -> Result<i64> {
+    Ok(header.context("etcd's answer has no revision")?.revision)
 }
 
-fn pair(value: &Value) -> Option<Pair> {
-    let bytes = |name: &str| decode(value.get(name).and_then(Value::as_str).unwrap_or_default()).ok();
-    Some(Pair {
-        key: String::from_utf8(bytes("key")?).ok()?,
-        value: bytes("value")?,
-        created: number(value.get("create_revision")?)?,
-        changed: number(value.get("mod_revision")?)?,
-        lease: value.get("lease").and_then(number).unwrap_or(0),
-    })
-}
-
-fn revision(answer: &Value) -> Result<i64> {
-    answer.pointer("/header/revision").and_then(number).context("etcd's answer has no revision")
+fn term(header: Option<Header>) -> Result<i64> {
+    Ok(header.context("etcd's answer has no term")?.term.cast_signed())
 }
 
 impl Compare<'_> {
-    fn write(&self) -> Value {
-        match self {
-            Compare::Created(key, at) => {
-                json!({"key": encode(key), "target": "CREATE", "result": "EQUAL", "create_revision": at.to_string()})
-            }
-            Compare::Changed(key, at) => json!({"key": encode(key), "target": "MOD", "result": "EQUAL", "mod_revision": at.to_string()}),
-        }
+    fn write(&self) -> Condition {
+        let (key, target, wanted) = match self {
+            Compare::Created(key, at) => (key, CREATED, Wanted::Created(*at)),
+            Compare::Changed(key, at) => (key, CHANGED, Wanted::Changed(*at)),
+        };
+        Condition { target, key: key.as_bytes().to_vec(), wanted: Some(wanted) }
     }
 }
 
 impl Operation {
-    fn write(&self) -> Value {
-        match self {
-            Operation::Put(key, value) => json!({"request_put": {"key": encode(key), "value": encode(value)}}),
-            Operation::Lend(key, value, lease) => {
-                json!({"request_put": {"key": encode(key), "value": encode(value), "lease": lease.to_string()}})
-            }
-            Operation::Delete(key) => json!({"request_delete_range": {"key": encode(key)}}),
-            Operation::DeleteAll(prefix) => json!({"request_delete_range": {"key": encode(prefix), "range_end": encode(behind(prefix))}}),
+    fn write(&self) -> Deed {
+        let put = |key: &str, value: &[u8], lease| DeedKind::Put(Put { key: key.as_bytes().to_vec(), value: value.to_vec(), lease });
+        let kind = match self {
+            Operation::Put(key, value) => put(key, value, 0),
+            Operation::Lend(key, value, lease) => put(key, value, *lease),
+            Operation::Delete(key) => DeedKind::Delete(DeleteRange { key: key.as_bytes().to_vec(), end: Vec::new() }),
+            Operation::DeleteAll(prefix) => DeedKind::Delete(DeleteRange { key: prefix.as_bytes().to_vec(), end: behind(prefix) }),
+        };
+        Deed { kind: Some(kind) }
+    }
+}
+
+// The same deeds, of which etcd does all or none, in transactions within transactions where they are many.
+fn nested(mut deeds: Vec<Deed>) -> Vec<Deed> {
+    while deeds.len() > WIDTH {
+        let mut parts = Vec::with_capacity(deeds.len() / WIDTH + 1);
+        let mut rest = deeds.into_iter();
+        while rest.len() > 0 {
+            let part = Transaction { conditions: Vec::new(), deeds: rest.by_ref().take(WIDTH).collect() };
+            parts.push(Deed { kind: Some(DeedKind::Transaction(part)) });
         }
+        deeds = parts;
     }
-}
-
-// The same operations, of which etcd does all or none, in transactions within transactions where they are many.
-fn nested(operations: Vec<Value>) -> Vec<Value> {
-    if operations.len() <= WIDTH {
-        return operations;
-    }
-    nested(operations.chunks(WIDTH).map(|part| json!({"request_txn": {"success": part}})).collect())
-}
-
-// Why a member refuses. (After its text stands what isn't read here, which ends the reading by a fault.)
-fn reason(answer: ureq::Response) -> String {
-    let mut text = Vec::new();
-    let _ = answer.into_reader().take(REASON_LIMIT).read_to_end(&mut text);
-    let told: Value = serde_json::from_slice(&text).unwrap_or_default();
-    let reason = told.get("error").and_then(Value::as_str).map(str::to_owned);
-    reason.unwrap_or_else(|| String::from_utf8_lossy(&text).trim().to_owned())
+    deeds
 }
 
 impl Members {
     /// That of these members, each a host and a port; by TLS where it is said how, as a user with a password where one is named.
-    #[must_use]
-    pub fn new(places: &[String], config: Option<Arc<Connector>>, user: Option<(String, String)>) -> Members {
-        let scheme = if config.is_some() { "https" } else { "http" };
-        let agent = |silence: Duration| {
-            let builder = AgentBuilder::new().timeout_connect(CONNECTING).timeout_read(silence).timeout_write(ANSWERING);
-            config.iter().cloned().fold(builder, AgentBuilder::tls_connector).build()
-        };
-        let (agent, patient) = (agent(ANSWERING), agent(SILENCE));
+    pub fn new(places: &[String], connector: Option<&Arc<Connector>>, user: Option<(String, String)>) -> Result<Members> {
+        let channels = Arc::new(Channels::new(places, connector)?);
         let user = user.map(|(name, password)| Arc::new(User { name, password, token: Mutex::default() }));
-        let (last, health, is_ended) = (Arc::default(), Arc::new(Health::new()), Arc::default());
-        Members { scheme, places: places.to_vec(), agent, patient, last, user, health, is_ended }
+        Ok(Members { channels, last: Arc::default(), user, health: Arc::new(Health::new()), is_ended: Arc::default(), by: None })
     }
 
     /// The same members, of which none is asked any more once this is set; but a question that is out has its time.
@@ -319,20 +314,26 @@ impl Members {
         Members { is_ended: is_ended.clone(), ..self.clone() }
     }
 
+    /// The same members, of which none is asked any more after this moment, and no answer is waited for.
+    #[must_use]
+    pub fn by(&self, moment: Instant) -> Members {
+        Members { by: Some(self.by.map_or(moment, |by| by.min(moment))), ..self.clone() }
+    }
+
     /// How etcd answered so far.
     #[must_use]
     pub fn health(&self) -> &Health {
         &self.health
     }
 
-    fn ask(&self, path: &str, body: &Value) -> Result<Value, Lost> {
-        self.ask_within(path, body, Some(ANSWERING))
+    fn ask<Q: Question>(&self, asked: &Q) -> Result<Q::Answer, Lost> {
+        self.ask_within(asked, Some(ANSWERING))
     }
 
     // Asks the member that answered last, and the others after it. An answer may take so long in all, or as long as something comes.
-    fn ask_within(&self, path: &str, body: &Value, limit: Option<Duration>) -> Result<Value, Lost> {
+    fn ask_within<Q: Question>(&self, asked: &Q, limit: Option<Duration>) -> Result<Q::Answer, Lost> {
         let began = Instant::now();
-        let answered = self.ask_each(path, body, limit);
+        let answered = self.ask_each(asked, limit);
         self.health.note(began, answered.as_ref().err());
         if matches!(&answered, Err(Lost::Refused(error)) if error.to_string().contains(NO_ROOM)) {
             self.health.note_room(true);
@@ -340,15 +341,15 @@ impl Members {
         answered
     }
 
-    fn ask_each(&self, path: &str, body: &Value, limit: Option<Duration>) -> Result<Value, Lost> {
-        let first = self.last.load(Ordering::Relaxed);
+    fn ask_each<Q: Question>(&self, asked: &Q, limit: Option<Duration>) -> Result<Q::Answer, Lost> {
+        let (first, count) = (self.last.load(Ordering::Relaxed), self.channels.count());
         let mut fault = None;
-        for turn in 0..self.places.len() {
-            if self.is_ended.load(Ordering::SeqCst) {
+        for turn in 0..count {
+            if self.is_ended.load(Ordering::SeqCst) || self.by.is_some_and(|by| by <= Instant::now()) {
                 break;
             }
-            let at = (first + turn) % self.places.len();
-            let answered = self.ask_as_user(&self.places[at], path, body, limit);
+            let at = (first + turn) % count;
+            let answered = self.ask_as_user(at, asked, limit);
             if !matches!(answered, Err(Lost::Unknown(_))) {
                 self.last.store(at, Ordering::Relaxed);
             }
@@ -363,97 +364,64 @@ impl Members {
     }
 
     // (a token that etcd has forgotten is asked for anew, once)
-    fn ask_as_user(&self, place: &str, path: &str, body: &Value, limit: Option<Duration>) -> Result<Value, Lost> {
+    fn ask_as_user<Q: Question>(&self, at: usize, asked: &Q, limit: Option<Duration>) -> Result<Q::Answer, Lost> {
         let Some(user) = &self.user else {
-            return self.ask_one(place, path, body, limit, None);
+            return self.ask_one(at, asked, limit, None);
         };
-        let known = user.token.lock().unwrap_or_else(PoisonError::into_inner).clone();
-        if let Some(token) = known {
-            match self.ask_one(place, path, body, limit, Some(&token)) {
+        if let Some(token) = user.token() {
+            match self.ask_one(at, asked, limit, Some(token)) {
                 Err(Lost::Refused(error)) if error.to_string().contains("auth") => {}
                 answered => return answered,
             }
         }
-        let asked = json!({ "name": user.name, "password": user.password });
-        let told = self.ask_one(place, "auth/authenticate", &asked, Some(ANSWERING), None)?;
-        let token = told.get("token").and_then(Value::as_str).map(str::to_owned);
-        let token = token.ok_or_else(|| Lost::Unknown(anyhow!("etcd gave no token")))?;
+        let own = Authenticate { name: user.name.clone(), password: user.password.clone() };
+        let token = self.ask_one(at, &own, Some(ANSWERING), None)?.token;
         *user.token.lock().unwrap_or_else(PoisonError::into_inner) = Some(token.clone());
-        self.ask_one(place, path, body, limit, Some(&token))
+        self.ask_one(at, asked, limit, Some(token))
     }
 
-    fn ask_one(&self, place: &str, path: &str, body: &Value, limit: Option<Duration>, token: Option<&str>) -> Result<Value, Lost> {
-        let asked = self.agent.post(&format!("{}://{place}/v3/{path}", self.scheme)).set("Content-Type", "application/json");
-        let asked = limit.into_iter().fold(asked, ureq::Request::timeout);
-        let asked = token.into_iter().fold(asked, |asked, token| asked.set("Authorization", token));
-        match asked.send_string(&body.to_string()) {
-            Ok(answer) => {
-                let mut text = String::new();
-                let read = answer.into_reader().take(ANSWER_LIMIT).read_to_string(&mut text);
-                read.map_err(|error| Lost::Unknown(error.into()))?;
-                // (a stream's answers stand one after the other; the first is asked for)
-                let mut answers = serde_json::Deserializer::from_str(&text).into_iter::<Value>();
-                answers.next().ok_or_else(|| Lost::Unknown(anyhow!("an empty answer")))?.map_err(|error| Lost::Unknown(error.into()))
-            }
-            Err(ureq::Error::Status(status, answer)) => {
-                let said = reason(answer);
-                let is_refused = REFUSING.contains(&status) || said.contains(NO_ROOM);
-                Err(if is_refused { Lost::Refused(anyhow!(said)) } else { Lost::Unknown(anyhow!("status {status}: {said}")) })
-            }
-            Err(error) => Err(Lost::Unknown(error.into())),
-        }
+    fn ask_one<Q: Question>(&self, at: usize, asked: &Q, limit: Option<Duration>, token: Option<String>) -> Result<Q::Answer, Lost> {
+        let by = limit.map(|limit| Instant::now() + limit).into_iter().chain(self.by).min();
+        let told = self.channels.ask(at, Asked::new(Q::METHOD, asked, token), Limit { by, silence: ANSWERING })?;
+        Q::Answer::decode(told).map_err(|error| Lost::Unknown(error.into()))
     }
 
     /// The pair of a key, if there is one. It is linearizable.
     pub fn get(&self, key: &str) -> Result<Option<Pair>, Lost> {
-        let answer = self.ask("kv/range", &json!({"key": encode(key)}))?;
-        Ok(answer.pointer("/kvs/0").and_then(pair))
+        let answer = self.ask(&Range { key: key.as_bytes().to_vec(), ..Range::default() })?;
+        Ok(answer.pairs.into_iter().next().and_then(Pair::of))
     }
 
     /// How many pairs at most whose keys begin so, from a key on, as they stood at a revision; at 0: now. With the revision. It takes as
     /// long as something of it comes.
     pub fn page(&self, prefix: &str, from: &str, at: i64, count: usize) -> Result<(Vec<Pair>, i64), Lost> {
-        let asked = json!({
-            "key": encode(from), "range_end": encode(behind(prefix)), "limit": count.to_string(), "revision": at.to_string(),
-        });
-        let answer = self.ask_within("kv/range", &asked, None)?;
-        let found = answer.get("kvs").and_then(Value::as_array).map(Vec::as_slice).unwrap_or_default();
-        let pairs: Option<Vec<Pair>> = found.iter().map(pair).collect();
-        let revision = if at == 0 { revision(&answer).map_err(Lost::Unknown)? } else { at };
+        let limit = i64::try_from(count).unwrap_or(i64::MAX);
+        let asked = Range { key: from.as_bytes().to_vec(), end: behind(prefix), limit, revision: at, counts: false };
+        let answer = self.ask_within(&asked, None)?;
+        let pairs: Option<Vec<Pair>> = answer.pairs.into_iter().map(Pair::of).collect();
+        let revision = if at == 0 { revision(answer.header).map_err(Lost::Unknown)? } else { at };
         Ok((pairs.ok_or_else(|| Lost::Unknown(anyhow!("etcd's answer is no pair")))?, revision))
     }
 
     /// The revision at which all of it stands now.
     pub fn revision(&self, key: &str) -> Result<i64, Lost> {
-        revision(&self.ask("kv/range", &json!({"key": encode(key), "count_only": true}))?).map_err(Lost::Unknown)
+        let asked = Range { key: key.as_bytes().to_vec(), counts: true, ..Range::default() };
+        revision(self.ask(&asked)?.header).map_err(Lost::Unknown)
     }
 
     /// Follows what changes of the keys that begin so, from a revision on, until that tells to stop, or nothing came for a while. What is
-    /// done at one revision is told together.
+    /// done at one revision is told together. It isn't called by what a runtime drives.
     pub fn follow(&self, prefix: &str, from: i64, mut tell: impl FnMut(Followed) -> bool) -> Result<()> {
-        let place = &self.places[self.last.load(Ordering::Relaxed) % self.places.len()];
-        let asked = json!({"create_request": {
-            "key": encode(prefix), "range_end": encode(behind(prefix)), "start_revision": from.to_string(),
-        }});
-        let request = self.patient.post(&format!("{}://{place}/v3/watch", self.scheme)).set("Content-Type", "application/json");
-        let token = self.user.as_ref().and_then(|user| user.token.lock().unwrap_or_else(PoisonError::into_inner).clone());
-        let request = token.into_iter().fold(request, |request, token| request.set("Authorization", &token));
-        let told = request.send_string(&asked.to_string())?;
-        for line in BufReader::new(told.into_reader()).lines() {
-            let line = match line {
-                Err(error) if matches!(error.kind(), ErrorKind::TimedOut | ErrorKind::WouldBlock) => return Ok(()),
-                line => line?,
-            };
-            if Followed::read(&line)?.is_some_and(|followed| !tell(followed)) {
-                return Ok(());
-            }
-        }
-        Ok(())
+        let at = self.last.load(Ordering::Relaxed) % self.channels.count();
+        let wanted = WatchWanted { key: prefix.as_bytes().to_vec(), end: behind(prefix), from };
+        let token = self.user.as_ref().and_then(|user| user.token());
+        let asked = Asked::new(Watch::METHOD, &Watch { wanted: Some(wanted) }, token);
+        self.channels.follow(at, asked, SILENCE, |told| Ok(Followed::of(Watched::decode(told)?)?.is_none_or(&mut tell)))
     }
 
     /// Forgets what stood before a revision. (One that was forgotten before is left so.)
     pub fn compact(&self, revision: i64) -> Result<(), Lost> {
-        match self.ask("kv/compaction", &json!({"revision": revision.to_string()})) {
+        match self.ask(&Compaction { revision }) {
             Err(Lost::Refused(error)) if error.to_string().contains("compacted") => Ok(()),
             answered => answered.map(drop),
         }
@@ -461,50 +429,44 @@ impl Members {
 
     /// Looks whether etcd has room, as its alarms say.
     pub fn look_for_room(&self) -> Result<(), Lost> {
-        let answer = self.ask("maintenance/alarm", &json!({"action": "GET"}))?;
-        let alarms = answer.get("alarms").and_then(Value::as_array).map(Vec::as_slice).unwrap_or_default();
-        self.health.note_room(alarms.iter().any(|alarm| alarm.get("alarm").is_some_and(|kind| kind == "NOSPACE")));
+        let answer = self.ask(&AlarmsWanted {})?;
+        self.health.note_room(answer.alarms.iter().any(|alarm| alarm.kind == messages::NO_ROOM));
         Ok(())
     }
 
     /// Does a transaction, of however many deeds. Where its conditions held the revision that it made; none where they didn't.
     pub fn change(&self, conditions: &[Compare], deeds: &[Operation]) -> Result<Option<i64>, Lost> {
-        let asked = json!({
-            "compare": conditions.iter().map(Compare::write).collect::<Vec<_>>(),
-            "success": nested(deeds.iter().map(Operation::write).collect()),
-        });
-        let answer = self.ask("kv/txn", &asked)?;
-        let has_succeeded = answer.get("succeeded").and_then(Value::as_bool).unwrap_or(false);
-        has_succeeded.then(|| revision(&answer).map_err(Lost::Unknown)).transpose()
+        let conditions = conditions.iter().map(Compare::write).collect();
+        let answer = self.ask(&Transaction { conditions, deeds: nested(deeds.iter().map(Operation::write).collect()) })?;
+        answer.has_succeeded.then(|| revision(answer.header).map_err(Lost::Unknown)).transpose()
     }
 
     /// A new lease of so many seconds; etcd may give more.
     pub fn lend(&self, seconds: u64) -> Result<(i64, u64)> {
-        let answer = self.ask("lease/grant", &json!({"TTL": seconds.to_string()}))?;
-        let lease = answer.get("ID").and_then(number).context("etcd gave no lease")?;
-        let span = answer.get("TTL").and_then(number).context("etcd's lease has no span")?;
-        Ok((lease, u64::try_from(span)?))
+        let answer = self.ask(&Grant { seconds: i64::try_from(seconds)? })?;
+        if answer.lease == 0 {
+            return Err(anyhow!("etcd gave no lease"));
+        }
+        Ok((answer.lease, u64::try_from(answer.seconds)?))
     }
 
     /// Keeps a lease as it stands, and tells for how many seconds it lasts from now on; with the term of etcd's leader, as the member that
     /// was asked knew it before.
     pub fn keep_alive(&self, lease: i64) -> Result<(u64, i64)> {
-        let answer = self.ask("lease/keepalive", &json!({"ID": lease.to_string()}))?;
-        let span = answer.pointer("/result/TTL").and_then(number).filter(|span| *span > 0).context("etcd has no such lease")?;
-        let term = answer.pointer("/result/header/raft_term").and_then(number).context("etcd's answer has no term")?;
-        Ok((u64::try_from(span)?, term))
+        let answer = self.ask(&KeepAlive { lease })?;
+        let span = Some(answer.seconds).filter(|span| *span > 0).context("etcd has no such lease")?;
+        Ok((u64::try_from(span)?, term(answer.header)?))
     }
 
     /// The pair of a key, and the term of etcd's leader after this answer. It is linearizable.
     pub fn get_of_term(&self, key: &str) -> Result<(Option<Pair>, i64)> {
-        let answer = self.ask("kv/range", &json!({"key": encode(key)}))?;
-        let term = answer.pointer("/header/raft_term").and_then(number).context("etcd's answer has no term")?;
-        Ok((answer.pointer("/kvs/0").and_then(pair), term))
+        let answer = self.ask(&Range { key: key.as_bytes().to_vec(), ..Range::default() })?;
+        Ok((answer.pairs.into_iter().next().and_then(Pair::of), term(answer.header)?))
     }
 
     /// Lets a lease go, and what was lent by it.
     pub fn give_back(&self, lease: i64) -> Result<()> {
-        self.ask("lease/revoke", &json!({"ID": lease.to_string()}))?;
+        self.ask(&Revoke { lease })?;
         Ok(())
     }
 }
@@ -512,7 +474,9 @@ impl Members {
 #[cfg(test)]
 mod tests {
     use super::*;
-    use crate::etcd::pretended::{is_taken, within};
+    use crate::etcd::pretended::{Pretended, Way, is_taken, within};
+    use std::net::TcpListener;
+    use std::slice::from_ref;
 
     #[test]
     fn a_prefix_ends_before_its_next() {
@@ -521,33 +485,138 @@ mod tests {
 
     #[test]
     fn pairs_are_read() {
-        let told = json!({"key": encode("k"), "value": encode("v"), "create_revision": "2", "mod_revision": "3", "lease": "9"});
-        assert_eq!(pair(&told), Some(Pair { key: "k".to_owned(), value: b"v".to_vec(), created: 2, changed: 3, lease: 9 }));
-        let empty = json!({"key": encode("k"), "create_revision": "2", "mod_revision": "3"});
-        assert_eq!(pair(&empty).unwrap().value, b"");
-        assert_eq!(pair(&json!({"key": encode("k")})), None);
+        let told = KeyValue { key: b"k".to_vec(), created: 2, changed: 3, value: b"v".to_vec(), lease: 9 };
+        assert_eq!(Pair::of(told.clone()), Some(Pair { key: "k".to_owned(), value: b"v".to_vec(), created: 2, changed: 3, lease: 9 }));
+        assert_eq!(Pair::of(KeyValue { value: Vec::new(), ..told.clone() }).unwrap().value, b"");
+        assert_eq!(Pair::of(KeyValue { key: b"k".to_vec(), ..KeyValue::default() }), None);
+        assert_eq!(Pair::of(KeyValue { key: vec![0xff], ..told }), None);
     }
 
-    // The operations that are no transactions themselves, in their order.
-    fn bottom(operation: &Value) -> Vec<&Value> {
-        match within(operation) {
-            [] => vec![operation],
-            operations => operations.iter().flat_map(bottom).collect(),
+    // The deeds that are no transactions themselves, in their order.
+    fn bottom(deed: &Deed) -> Vec<&Deed> {
+        match within(deed) {
+            [] => vec![deed],
+            deeds => deeds.iter().flat_map(bottom).collect(),
         }
     }
 
     #[test]
     fn etcd_takes_however_many_deeds() {
         for count in [0, 1, WIDTH, WIDTH + 1, WIDTH * WIDTH, WIDTH * WIDTH + 1, 10_000, WIDTH * WIDTH * WIDTH] {
-            let operations: Vec<Value> = (0..count).map(|number| json!({ "request_put": { "key": number } })).collect();
-            let written = nested(operations.clone());
-            assert!(written.iter().flat_map(bottom).eq(&operations) && is_taken(&written), "{count}");
+            let deeds: Vec<Deed> = (0..count).map(|number| Operation::Delete(number.to_string()).write()).collect();
+            let written = nested(deeds.clone());
+            assert!(written.iter().flat_map(bottom).eq(&deeds) && is_taken(&written), "{count}");
+        }
+    }
+
+    // By the numbers of etcd's rpc.proto: a field's number by eight, and 2 where its length comes next.
+    #[test]
+    fn conditions_and_deeds_are_written() {
+        let rows = [
+            (Compare::Created("k", 0).write().encode_to_vec(), vec![0x10, 1, 0x1a, 1, b'k', 0x28, 0]),
+            (Compare::Changed("k", 7).write().encode_to_vec(), vec![0x10, 2, 0x1a, 1, b'k', 0x30, 7]),
+            (Operation::Put("k".to_owned(), b"v".to_vec()).write().encode_to_vec(), vec![0x12, 6, 0x0a, 1, b'k', 0x12, 1, b'v']),
+            (Operation::Lend("k".to_owned(), Vec::new(), 9).write().encode_to_vec(), vec![0x12, 5, 0x0a, 1, b'k', 0x18, 9]),
+            (Operation::Delete("k".to_owned()).write().encode_to_vec(), vec![0x1a, 3, 0x0a, 1, b'k']),
+            (Operation::DeleteAll("k".to_owned()).write().encode_to_vec(), vec![0x1a, 6, 0x0a, 1, b'k', 0x12, 1, b'l']),
+        ];
+        for (written, wanted) in rows {
+            assert_eq!(written, wanted);
+        }
+    }
+
+    // By gRPC's numbers of reasons and etcd's words.
+    #[test]
+    fn what_a_member_refuses_is_known_from_what_may_be_done() {
+        let rows = [
+            (3, "etcdserver: request is too large", true),
+            (5, "etcdserver: requested lease not found", false),
+            (7, "etcdserver: permission denied", true),
+            (8, "etcdserver: mvcc: database space exceeded", true),
+            (8, "grpc: received message larger than max (3000000 vs. 2097152)", true),
+            (8, "etcdserver: too many requests", false),
+            (9, "etcdserver: authentication is not enabled", true),
+            (11, "etcdserver: mvcc: required revision has been compacted", true),
+            (14, "etcdserver: no leader", false),
+            (14, "etcdserver: request timed out", false),
+            (16, "etcdserver: invalid auth token", true),
+        ];
+        for (status, words, is_refused) in rows {
+            let lost = Lost::from(Fault::Told(status, words.to_owned()));
+            assert_eq!(matches!(lost, Lost::Refused(_)), is_refused, "{status} {words}");
+            assert!(lost.to_string().contains(words), "{lost}");
         }
     }
 
     #[test]
-    fn conditions_are_written() {
-        let told = Compare::Created("k", 0).write();
-        assert_eq!(told, json!({"key": "aw==", "target": "CREATE", "result": "EQUAL", "create_revision": "0"}));
+    fn one_connection_is_kept() {
+        let etcd = Pretended::start();
+        let members = etcd.gateway();
+        (0..5).for_each(|_| assert!(members.get("k").is_ok()));
+        assert_eq!(etcd.connections(), 1);
+        etcd.cut();
+        // (what is asked while it ends isn't answered)
+        let _ = members.get("k");
+        assert!(members.get("k").is_ok());
+        assert_eq!(etcd.connections(), 2);
+        etcd.go_ranges(&[Way::Lost]);
+        assert!(matches!(members.get("k"), Err(Lost::Unknown(_))) && members.get("k").is_ok());
+        assert_eq!(etcd.connections(), 3);
+    }
+
+    #[test]
+    fn what_is_asked_at_the_same_time_waits_for_nothing_else() {
+        let etcd = Pretended::start();
+        let members = etcd.gateway();
+        etcd.go(&[Way::Held]);
+        std::thread::scope(|scope| {
+            let held = scope.spawn(|| members.change(&[], &[]));
+            etcd.wait_for_held(1);
+            assert!(members.get("k").is_ok());
+            etcd.let_through();
+            assert!(matches!(held.join().unwrap(), Err(Lost::Unknown(_))));
+        });
+    }
+
+    #[test]
+    fn the_next_member_is_asked_where_one_is_gone_or_silent() {
+        let etcd = Pretended::start();
+        let gone = TcpListener::bind("127.0.0.1:0").unwrap().local_addr().unwrap().to_string();
+        let silent = TcpListener::bind("127.0.0.1:0").unwrap();
+        let places = [gone, silent.local_addr().unwrap().to_string(), etcd.place.clone()];
+        let members = Members::new(&places, None, None).unwrap();
+        let begun = Instant::now();
+        assert!(members.get("k").is_ok());
+        assert!((ANSWERING..2 * ANSWERING).contains(&begun.elapsed()));
+        // (who answered is asked first)
+        let begun = Instant::now();
+        assert!(members.get("k").is_ok() && begun.elapsed() < ANSWERING);
+        etcd.go(&[Way::Refused]);
+        assert!(matches!(members.change(&[], &[]), Err(Lost::Refused(_))));
+    }
+
+    // What one member may still do isn't refused by another.
+    #[test]
+    fn a_refusal_after_a_question_that_got_lost_says_nothing() {
+        let [first, second] = [(); 2].map(|()| Pretended::start());
+        let members = Members::new(&[first.place.clone(), second.place.clone()], None, None).unwrap();
+        first.go(&[Way::Lost]);
+        second.go(&[Way::Refused]);
+        assert!(matches!(members.change(&[], &[]), Err(Lost::Unknown(_))));
+        assert!(matches!(members.change(&[], &[]), Ok(Some(_))));
+    }
+
+    #[test]
+    fn nothing_is_waited_for_after_a_moment() {
+        const SOON: Duration = Duration::from_millis(300);
+        let etcd = Pretended::start();
+        let silent = TcpListener::bind("127.0.0.1:0").unwrap();
+        let silent = Members::new(from_ref(&silent.local_addr().unwrap().to_string()), None, None).unwrap();
+        let begun = Instant::now();
+        let soon = silent.by(begun + SOON);
+        assert!(soon.get("k").is_err() && soon.page("k", "k", 0, 1).is_err());
+        assert!((SOON..ANSWERING).contains(&begun.elapsed()), "{:?}", begun.elapsed());
+        assert!(etcd.gateway().by(begun + SOON).get("k").is_err() && etcd.connections() == 0);
+        assert!(etcd.gateway().by(Instant::now() + ANSWERING).get("k").is_ok());
     }
 }

@@ -10,7 +10,7 @@ use std::mem;
 use std::sync::atomic::{AtomicU64, Ordering};
 use std::sync::{Arc, Condvar, Mutex, PoisonError};
 use std::thread;
-use std::time::Duration;
+use std::time::{Duration, Instant};
 use tracing::{info, warn};
 
 /// How many seconds a mastership lasts that isn't renewed, unless an operator says otherwise; etcd may make it longer.
@@ -18,6 +18,9 @@ pub const SPAN: u64 = 5;
 
 /// How long at most between two looks at who is master.
 const PAUSE: Duration = Duration::from_millis(250);
+
+/// How long it is tried to give a mastership back that is let go, whatever members are silent. (Its guard gives it back where that fails.)
+const GIVING_BACK: Duration = Duration::from_secs(4);
 
 /// How many renewals in a span.
 const RENEWALS: u64 = 4;
@@ -277,7 +280,7 @@ impl Mastership {
     pub fn end(&self) -> Result<()> {
         self.end.store(0, Ordering::SeqCst);
         let lease = self.grant.lock().unwrap_or_else(PoisonError::into_inner).lease;
-        self.gateway.give_back(lease)
+        self.gateway.by(Instant::now() + GIVING_BACK).give_back(lease)
     }
 
     /// What is asked of etcd; where no member answers it is asked again while the mastership lasts.

@@ -1,15 +1,26 @@
-//! An etcd of one member for tests, in memory, whose transactions may be refused or lose their way.
+//! An etcd of one member for tests, in memory, that speaks gRPC, and whose transactions may be refused or lose their way.
 
+use crate::etcd::channels::{framed, unframed};
 use crate::etcd::gateway::Members;
-use base64::{decode, encode};
-use serde_json::{Value, json};
+use crate::etcd::messages::{
+    CHANGED, CREATED, Condition, Deed, DeedKind, Grant, Granted, Header, HeaderAlone, KeyValue, Question, Range, RangeAnswer, Revoke,
+    Transaction, TransactionAnswer, Wanted,
+};
+use bytes::{Bytes, BytesMut};
+use h2::server::SendResponse;
+use h2::{Reason, RecvStream, SendStream};
+use http::header::{HeaderMap, HeaderName, HeaderValue};
+use http::{Request, Response};
+use prost::Message;
 use std::collections::{BTreeMap, VecDeque};
-use std::io::{BufRead, BufReader, Read, Write};
 use std::mem;
-use std::net::{TcpListener, TcpStream};
 use std::sync::{Arc, Mutex, MutexGuard};
 use std::thread;
 use std::time::Duration;
+use tokio::net::{TcpListener, TcpStream};
+use tokio::runtime::Builder;
+use tokio::sync::watch;
+use tokio::time::sleep;
 
 /// What becomes of a transaction.
 #[derive(Clone, Copy, Debug, PartialEq, Eq)]
@@ -51,114 +62,141 @@ struct PretendedState {
     leases: i64,
     ways: VecDeque<Way>,
     ways_of_ranges: VecDeque<Way>,
-    held: Vec<(Value, TcpStream)>,
+    held: Vec<(Transaction, SendResponse<Bytes>)>,
+    connections: usize,
 }
+
+/// What came of a question: the message, or why it is refused.
+type Answered = Result<Bytes, (u32, &'static str)>;
 
 /// The etcd, whose thread goes on until the process ends.
 #[derive(Clone, Debug)]
 pub struct Pretended {
-    place: String,
+    /// Where it listens.
+    pub place: String,
     state: Arc<Mutex<PretendedState>>,
+    /// Each change ends the connections that there are.
+    cut: Arc<watch::Sender<()>>,
 }
 
-/// What stands within an operation that is a transaction itself; nothing in another one.
-pub fn within(operation: &Value) -> &[Value] {
-    operation.pointer("/request_txn/success").and_then(Value::as_array).map(Vec::as_slice).unwrap_or_default()
+/// What stands within a deed that is a transaction itself; nothing in another one.
+pub fn within(deed: &Deed) -> &[Deed] {
+    match &deed.kind {
+        Some(DeedKind::Transaction(transaction)) => &transaction.deeds,
+        _ => &[],
+    }
 }
 
-fn side_by_side(operations: &[Value]) -> usize {
-    operations.len() + operations.iter().map(|operation| side_by_side(within(operation))).max().unwrap_or(0)
+fn side_by_side(deeds: &[Deed]) -> usize {
+    deeds.len() + deeds.iter().map(|deed| side_by_side(within(deed))).max().unwrap_or(0)
 }
 
-/// Whether etcd takes a transaction of these operations.
-pub fn is_taken(operations: &[Value]) -> bool {
-    side_by_side(operations) <= OPERATIONS
-}
-
-fn bytes(value: &Value, name: &str) -> Vec<u8> {
-    decode(value[name].as_str().unwrap_or_default()).unwrap()
-}
-
-fn number(value: &Value, name: &str) -> i64 {
-    value[name].as_str().map_or(0, |text| text.parse().unwrap())
-}
-
-// The keys that a range or a deletion is of.
-fn keys(state: &PretendedState, asked: &Value) -> Vec<Vec<u8>> {
-    let (from, end) = (bytes(asked, "key"), bytes(asked, "range_end"));
-    let is_in = |key: &&Vec<u8>| if end.is_empty() { **key == from } else { (&from..&end).contains(key) };
-    state.pairs.keys().filter(is_in).cloned().collect()
+/// Whether etcd takes a transaction of these deeds.
+pub fn is_taken(deeds: &[Deed]) -> bool {
+    side_by_side(deeds) <= OPERATIONS
 }
 
 impl PretendedState {
-    fn answer(&mut self, path: &str, asked: &Value) -> Value {
-        let header = |revision: i64| json!({ "revision": revision.to_string() });
+    // The keys that a range or a deletion is of.
+    fn keys(&self, from: &Vec<u8>, end: &Vec<u8>) -> Vec<Vec<u8>> {
+        let is_in = |key: &&Vec<u8>| if end.is_empty() { *key == from } else { (from..end).contains(key) };
+        self.pairs.keys().filter(is_in).cloned().collect()
+    }
+
+    fn header(&self) -> Option<Header> {
+        Some(Header { revision: self.revision, term: 1 })
+    }
+
+    fn answer(&mut self, path: &str, asked: &[u8]) -> Bytes {
         match path {
-            "kv/range" => {
-                let found = keys(self, asked).into_iter().map(|key| (key.clone(), self.pairs[&key].clone()));
-                let found: Vec<Value> = found.map(|(key, stands)| self.shown(&key, &stands)).collect();
-                json!({ "header": header(self.revision), "kvs": found })
-            }
-            "kv/txn" => {
-                let holds = asked["compare"].as_array().unwrap().iter().all(|compare| self.holds(compare));
-                if holds {
-                    self.revision += 1;
-                    asked["success"].as_array().unwrap().iter().for_each(|deed| self.act(deed));
-                }
-                json!({ "header": header(self.revision), "succeeded": holds })
-            }
-            "lease/grant" => {
+            Range::METHOD => framed(&self.range(&Range::decode(asked).unwrap())),
+            Transaction::METHOD => framed(&self.transact(&Transaction::decode(asked).unwrap())),
+            Grant::METHOD => {
                 self.leases += 1;
-                json!({ "ID": self.leases.to_string(), "TTL": asked["TTL"] })
+                framed(&Granted { lease: self.leases, seconds: Grant::decode(asked).unwrap().seconds })
             }
-            "lease/revoke" => {
-                let lease = number(asked, "ID");
+            Revoke::METHOD => {
+                let lease = Revoke::decode(asked).unwrap().lease;
                 self.pairs.retain(|_, stands| stands.lease != lease);
-                json!({ "header": header(self.revision) })
+                framed(&HeaderAlone { header: self.header() })
             }
             _ => panic!("{path}"),
         }
     }
 
-    fn shown(&self, key: &[u8], stands: &Stands) -> Value {
-        let Stands { value, created, changed, lease } = stands;
-        let words = [created, changed, lease].map(i64::to_string);
-        json!({ "key": encode(key), "value": encode(value), "create_revision": words[0], "mod_revision": words[1], "lease": words[2] })
+    fn range(&self, asked: &Range) -> RangeAnswer {
+        let found = self.keys(&asked.key, &asked.end).into_iter().map(|key| {
+            let Stands { value, created, changed, lease } = self.pairs[&key].clone();
+            KeyValue { key, created, changed, value, lease }
+        });
+        RangeAnswer { header: self.header(), pairs: found.collect() }
     }
 
-    fn holds(&self, compare: &Value) -> bool {
-        let stands = self.pairs.get(&bytes(compare, "key"));
-        match compare["target"].as_str() {
-            Some("CREATE") => stands.map_or(0, |stands| stands.created) == number(compare, "create_revision"),
-            Some("MOD") => stands.map_or(0, |stands| stands.changed) == number(compare, "mod_revision"),
-            target => panic!("{target:?}"),
+    fn transact(&mut self, asked: &Transaction) -> TransactionAnswer {
+        let holds = asked.conditions.iter().all(|condition| self.holds(condition));
+        if holds {
+            self.revision += 1;
+            asked.deeds.iter().for_each(|deed| self.act(deed));
+        }
+        TransactionAnswer { header: self.header(), has_succeeded: holds }
+    }
+
+    fn holds(&self, condition: &Condition) -> bool {
+        let stands = self.pairs.get(&condition.key);
+        match (condition.target, &condition.wanted) {
+            (CREATED, Some(Wanted::Created(at))) => stands.map_or(0, |stands| stands.created) == *at,
+            (CHANGED, Some(Wanted::Changed(at))) => stands.map_or(0, |stands| stands.changed) == *at,
+            _ => panic!("{condition:?}"),
         }
     }
 
-    fn act(&mut self, deed: &Value) {
-        if deed.get("request_txn").is_some() {
-            within(deed).iter().for_each(|deed| self.act(deed));
-        } else if let Some(put) = deed.get("request_put") {
-            let key = bytes(put, "key");
-            let created = self.pairs.get(&key).map_or(self.revision, |stands| stands.created);
-            let stands = Stands { value: bytes(put, "value"), created, changed: self.revision, lease: number(put, "lease") };
-            self.pairs.insert(key, stands);
-        } else {
-            for key in keys(self, &deed["request_delete_range"]) {
-                self.pairs.remove(&key);
+    fn act(&mut self, deed: &Deed) {
+        match deed.kind.as_ref().unwrap() {
+            DeedKind::Transaction(transaction) => transaction.deeds.iter().for_each(|deed| self.act(deed)),
+            DeedKind::Put(put) => {
+                let created = self.pairs.get(&put.key).map_or(self.revision, |stands| stands.created);
+                let stands = Stands { value: put.value.clone(), created, changed: self.revision, lease: put.lease };
+                self.pairs.insert(put.key.clone(), stands);
+            }
+            DeedKind::Delete(gone) => {
+                for key in self.keys(&gone.key, &gone.end) {
+                    self.pairs.remove(&key);
+                }
             }
         }
     }
 }
 
+// The one message that is asked.
+async fn read(mut body: RecvStream) -> Option<Bytes> {
+    let mut came = BytesMut::new();
+    while let Some(some) = body.data().await {
+        let some = some.ok()?;
+        came.extend_from_slice(&some);
+        body.flow_control().release_capacity(some.len()).ok()?;
+    }
+    unframed(&mut came).unwrap()
+}
+
+// Answers by a message, piece by piece. (Who has asked may have lost patience.)
+async fn tell(answer: &mut SendStream<Bytes>, message: Bytes, pause: Duration) -> Result<(), h2::Error> {
+    for piece in message.chunks(message.len() / PIECES + 1) {
+        sleep(pause).await;
+        answer.send_data(Bytes::copy_from_slice(piece), false)?;
+    }
+    answer.send_trailers(HeaderMap::from_iter([(HeaderName::from_static("grpc-status"), HeaderValue::from_static("0"))]))
+}
+
 impl Pretended {
     /// One that has nothing.
     pub fn start() -> Pretended {
-        let listener = TcpListener::bind("127.0.0.1:0").unwrap();
+        let listener = std::net::TcpListener::bind("127.0.0.1:0").unwrap();
+        listener.set_nonblocking(true).unwrap();
         let place = listener.local_addr().unwrap().to_string();
-        let etcd = Pretended { place, state: Arc::default() };
+        let etcd = Pretended { place, state: Arc::default(), cut: Arc::new(watch::channel(()).0) };
         let serving = etcd.clone();
-        thread::spawn(move || listener.incoming().for_each(|stream| serving.serve(stream.unwrap())));
+        let runtime = Builder::new_current_thread().enable_all().build().unwrap();
+        thread::spawn(move || runtime.block_on(serving.take_all(listener)));
         etcd
     }
 
@@ -166,46 +204,81 @@ impl Pretended {
         self.state.lock().unwrap()
     }
 
-    fn serve(&self, mut stream: TcpStream) {
-        let mut reader = BufReader::new(stream.try_clone().unwrap());
-        let (mut line, mut length) = (String::new(), 0);
-        reader.read_line(&mut line).unwrap();
-        let path = line.split(' ').nth(1).unwrap_or_default().trim_start_matches("/v3/").to_owned();
-        while line.trim() != "" {
-            line.clear();
-            reader.read_line(&mut line).unwrap();
-            if let Some(count) = line.to_lowercase().strip_prefix("content-length: ") {
-                length = count.trim().parse().unwrap();
+    async fn take_all(self, listener: std::net::TcpListener) {
+        let listener = TcpListener::from_std(listener).unwrap();
+        loop {
+            let (stream, _) = listener.accept().await.unwrap();
+            self.state().connections += 1;
+            tokio::spawn(self.clone().serve(stream));
+        }
+    }
+
+    async fn serve(self, stream: TcpStream) {
+        let mut cut = self.cut.subscribe();
+        let mut asked = h2::server::handshake(stream).await.unwrap();
+        loop {
+            tokio::select! {
+                _ = cut.changed() => return,
+                next = asked.accept() => match next {
+                    Some(Ok((request, answer))) => drop(tokio::spawn(self.clone().answer(request, answer))),
+                    _ => return,
+                }
             }
         }
-        let mut body = vec![0; length];
-        reader.read_exact(&mut body).unwrap();
-        let asked: Value = serde_json::from_slice(&body).unwrap();
+    }
+
+    async fn answer(self, request: Request<RecvStream>, mut answer: SendResponse<Bytes>) {
+        let path = request.uri().path().trim_start_matches('/').to_owned();
+        let Some(asked) = read(request.into_body()).await else {
+            return;
+        };
+        let way = self.way(&path);
+        let answered = match way {
+            Way::Lost => return answer.send_reset(Reason::INTERNAL_ERROR),
+            Way::Held => return self.state().held.push((Transaction::decode(asked).unwrap(), answer)),
+            _ => self.act(way, &path, &asked),
+        };
+        if way == Way::Unanswered {
+            return answer.send_reset(Reason::INTERNAL_ERROR);
+        }
+        let head = Response::builder().header("content-type", "application/grpc");
+        match answered {
+            Err((status, words)) => {
+                let head = head.header("grpc-status", status).header("grpc-message", words);
+                drop(answer.send_response(head.body(()).unwrap(), true));
+            }
+            Ok(message) => {
+                let pause = if way == Way::Slow { SLOW } else { Duration::ZERO };
+                if let Ok(mut answer) = answer.send_response(head.body(()).unwrap(), false) {
+                    let _ = tell(&mut answer, message, pause).await;
+                }
+            }
+        }
+    }
+
+    fn way(&self, path: &str) -> Way {
         let mut state = self.state();
-        let ways = match path.as_str() {
-            "kv/txn" => Some(&mut state.ways),
-            "kv/range" => Some(&mut state.ways_of_ranges),
+        let ways = match path {
+            Transaction::METHOD => Some(&mut state.ways),
+            Range::METHOD => Some(&mut state.ways_of_ranges),
             _ => None,
         };
-        let way = ways.and_then(VecDeque::pop_front).unwrap_or(Way::Done);
-        let refused = ("400 Bad Request", json!({ "error": "too many operations" }));
-        let answer = match way {
-            Way::Lost => return,
-            Way::Held => return state.held.push((asked, stream)),
-            Way::Done | Way::Unanswered | Way::Slow if !asked["success"].as_array().is_none_or(|all| is_taken(all)) => refused,
-            Way::Refused => refused,
-            Way::Done | Way::Unanswered | Way::Slow => ("200 OK", state.answer(&path, &asked)),
-        };
-        drop(state);
-        if way != Way::Unanswered {
-            let (status, text) = (answer.0, answer.1.to_string());
-            write!(stream, "HTTP/1.1 {status}\r\nContent-Length: {}\r\nConnection: close\r\n\r\n", text.len()).unwrap();
-            for piece in text.as_bytes().chunks(text.len() / PIECES + 1) {
-                thread::sleep(if way == Way::Slow { SLOW } else { Duration::ZERO });
-                // (who has asked may have lost patience)
-                let _ = stream.write_all(piece);
-            }
-        }
+        ways.and_then(VecDeque::pop_front).unwrap_or(Way::Done)
+    }
+
+    fn act(&self, way: Way, path: &str, asked: &[u8]) -> Answered {
+        let is_taken = path != Transaction::METHOD || is_taken(&Transaction::decode(asked).unwrap().deeds);
+        if way == Way::Refused || !is_taken { Err((3, "too%20many%20operations")) } else { Ok(self.state().answer(path, asked)) }
+    }
+
+    /// How many connections there were.
+    pub fn connections(&self) -> usize {
+        self.state().connections
+    }
+
+    /// Ends the connections that there are.
+    pub fn cut(&self) {
+        self.cut.send_replace(());
     }
 
     /// What becomes of the next ranges.
@@ -215,7 +288,7 @@ impl Pretended {
 
     /// By which it is asked.
     pub fn gateway(&self) -> Arc<Members> {
-        Arc::new(Members::new(std::slice::from_ref(&self.place), None, None))
+        Arc::new(Members::new(std::slice::from_ref(&self.place), None, None).unwrap())
     }
 
     /// What becomes of the next transactions.
@@ -233,7 +306,10 @@ impl Pretended {
     /// Lets through what is held.
     pub fn let_through(&self) {
         let held = mem::take(&mut self.state().held);
-        held.iter().for_each(|(asked, _)| drop(self.state().answer("kv/txn", asked)));
+        for (asked, mut answer) in held {
+            self.state().transact(&asked);
+            answer.send_reset(Reason::INTERNAL_ERROR);
+        }
     }
 
     /// Takes a key away, as another program does.

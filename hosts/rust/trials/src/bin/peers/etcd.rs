@@ -22,6 +22,8 @@ pub struct Etcd {
     kept: Instant,
     held: Option<Vec<u8>>,
     watch: Option<Stream>,
+    /// The revision of the last transaction; 0 before the first.
+    changed: u64,
 }
 
 /// A call whose messages come one after the other. It lasts while what is sent isn't at its end.
@@ -183,7 +185,7 @@ impl Etcd {
     pub fn connect(address: &str) -> Measured<Etcd> {
         let runtime = Builder::new_current_thread().enable_all().build()?;
         let sending = runtime.block_on(connected(address))?;
-        let mut etcd = Etcd { runtime, sending, lease: 0, kept: Instant::now(), held: None, watch: None };
+        let mut etcd = Etcd { runtime, sending, lease: 0, kept: Instant::now(), held: None, watch: None, changed: 0 };
         let granted = etcd.ask("etcdserverpb.Lease/LeaseGrant", &Fields::default().number(1, LEASE))?;
         etcd.lease = number_of(&granted, 2)?;
         Ok(etcd)
@@ -199,6 +201,18 @@ impl Etcd {
             }
             Ok(message)
         })
+    }
+
+    /// Puts two values in one transaction, if nobody else has changed the first since.
+    pub fn transact(&mut self, name: &str) -> Measured<()> {
+        // (compared is the revision that changed it last)
+        let same = Fields::default().number(2, 2).bytes(3, name).number(6, self.changed);
+        let put = |name: &str| Fields::default().message(2, &Fields::put(name));
+        let asked = Fields::default().message(1, &same).message(2, &put(name)).message(2, &put(&format!("{name}/beside")));
+        let answer = self.ask("etcdserverpb.KV/Txn", &asked)?;
+        number_of(&answer, 2).map_err(|_| "its key was changed by another")?;
+        self.changed = number_of(bytes_of(&answer, 1)?, 3)?;
+        Ok(())
     }
 
     // The next message of the watch.

@@ -77,7 +77,9 @@ impl Service<'_> {
 fn main() -> Measured<()> {
     let words: Vec<_> = std::env::args().skip(1).collect();
     let [service, address, measure, count, seconds] = &words[..] else {
-        return Err("usage: peers cell|etcd|zookeeper ADDRESS sets|reads|told|locks|cached|fill|ready|first COUNT SECONDS".into());
+        return Err(
+            "usage: peers cell|etcd|zookeeper ADDRESS sets|transactions|reads|told|locks|cached|fill|ready|first COUNT SECONDS".into()
+        );
     };
     let service = match service.as_str() {
         "cell" => Service::Cell(address),
@@ -88,6 +90,7 @@ fn main() -> Measured<()> {
     let (count, lasting) = (count.parse()?, Duration::from_secs(seconds.parse()?));
     let figure = match measure.as_str() {
         "sets" => sets(service, count, lasting)?,
+        "transactions" => transactions(address, count, lasting)?,
         "reads" => reads(service, count)?,
         "told" => told(service, count, lasting)?,
         "locks" => locks(service, count, lasting)?,
@@ -103,17 +106,13 @@ fn main() -> Measured<()> {
 
 // Does it with each session in a thread of its own, again and again for so long; how often a second all of them did it. (The sessions
 // end after that.)
-fn all_at_once(
-    sessions: Vec<Box<dyn Session>>,
-    lasting: Duration,
-    deed: impl Fn(&mut dyn Session, u32) -> Measured<()> + Sync,
-) -> Measured<f64> {
+fn all_at_once<S: Send>(sessions: Vec<S>, lasting: Duration, deed: impl Fn(&mut S, u32) -> Measured<()> + Sync) -> Measured<f64> {
     let begun = Instant::now();
     let count = AtomicU32::new(0);
     let numbered = (0..).zip(sessions).collect();
-    let sessions = each_by_itself(numbered, |(number, session): &mut (u32, Box<dyn Session>)| {
+    let sessions = each_by_itself(numbered, |(number, session): &mut (u32, S)| {
         while begun.elapsed() < lasting {
-            deed(&mut **session, *number)?;
+            deed(session, *number)?;
             count.fetch_add(1, Ordering::Relaxed);
         }
         Ok(())
@@ -135,12 +134,21 @@ fn each_by_itself<S: Send>(some: Vec<S>, deed: impl Fn(&mut S) -> Measured<()> +
 // Writes a second, each client's to a file of its own.
 fn sets(service: Service<'_>, clients: u32, lasting: Duration) -> Measured<f64> {
     let mut sessions = service.sessions(clients)?;
+    // (each run has names that no other had)
+    let run = std::process::id();
     for (number, session) in sessions.iter_mut().enumerate() {
-        let name = format!("set{clients}-{number}");
+        let name = format!("set{run}-{number}");
         session.make(&name)?;
         session.open(&name)?;
     }
-    all_at_once(sessions, lasting, |session, number| session.set(&format!("set{clients}-{number}")))
+    all_at_once(sessions, lasting, |session, number| session.set(&format!("set{run}-{number}")))
+}
+
+// Transactions a second of an etcd, each client's of keys of its own.
+fn transactions(address: &str, clients: u32, lasting: Duration) -> Measured<f64> {
+    let clients_there = (0..clients).map(|_| etcd::Etcd::connect(address)).collect::<Measured<Vec<_>>>()?;
+    let run = std::process::id();
+    all_at_once(clients_there, lasting, |etcd, number| etcd.transact(&format!("transaction{run}-{number}")))
 }
 
 // Reads a second at the server, by so many clients beside so many sessions, which are kept and do nothing else.
