@@ -1,5 +1,6 @@
 -- A group of frames that is lost: the store refused a piece of what it changed, and nobody was told of any of it.
 use Rattle.std.specs.Prelude.{◌≡◌, ◌⊎◌, ℕ, ◌+◌, nat_le, List, [], ◌∷◌, ◌++◌, map, length, Option, None, if◌then◌else◌}
+use Rattle.std.proofs.Common.{inl, inr}
 use Rattle.node_core.specs.declared.lines.Line.{Line}
 use Rattle.node_core.specs.declared.lines.Line.TheVariants as lines
 use Rattle.node_core.specs.declared.refusals.Fault.{Fault}
