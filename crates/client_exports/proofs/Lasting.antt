@@ -17,7 +17,7 @@ pub record Between (lease : Option LeaseTerms) (low high : ℕ) : Type 0 where
 earlier : (sent span n m : ℕ) → n ≤ m → nat_lt (17 * ((m - sent) + 1)) (16 * span) ≡ true → nat_lt (17 * ((n - sent) + 1)) (16 * span) ≡ true
 earlier sent span n m le h = grind (arith, nat_tests)
 
-was_leased : (lease : Option LeaseTerms) (n m : ℕ) → n ≤ m → is_leased lease m ≡ true → is_leased lease n ≡ true
+pub was_leased : (lease : Option LeaseTerms) (n m : ℕ) → n ≤ m → is_leased lease m ≡ true → is_leased lease n ≡ true
 was_leased None n m le h = cc
 was_leased (Some terms) n m le h = earlier terms.sent terms.span n m le h
 

@@ -9,3 +9,4 @@ mod Showing
 mod Closing
 mod Looking
 pub mod AsBox
+mod Hitting

@@ -30,7 +30,7 @@ use Rattle.client_exports.specs.Steps.{asked}
 use Rattle.client_exports.specs.Hits.{served_content, hit, readable, shown, found}
 
 -- what the holder is served with by a step of its client
-abbrev told : HeldState → ClientState × Result Asked Fault → Option (List ℕ)
+abbrev pub told : HeldState → ClientState × Result Asked Fault → Option (List ℕ)
 told held step = served_content (asked held step)
 
 -- ---- behind a plan
@@ -65,26 +65,26 @@ by_handle held s m n h =
           [ true ↦ by_entry held s m n h (answer s.cache m h.name) | false ↦ unserved held s m (call_on h.bytes nodes.Read) h.sequencer (targets.Handle n) ]
     ]
 
-by_number : (held : HeldState) (s : ClientState) (m n : ℕ) (o : Option ClientHandle) → told held (ask_by s m (node_plan s m n nodes.Read (usable_handle o))) ≡ found s.cache m (readable o)
+pub by_number : (held : HeldState) (s : ClientState) (m n : ℕ) (o : Option ClientHandle) → told held (ask_by s m (node_plan s m n nodes.Read (usable_handle o))) ≡ found s.cache m (readable o)
 by_number held s m n None = refl
 by_number held s m n (Some h) = by_handle held s m n h
 
 -- ---- the time
 
-abbrev read_of : ℕ → Ask
+abbrev pub read_of : ℕ → Ask
 read_of n = asks.Node n nodes.Read
 
-in_time : (held : HeldState) (now n : ℕ) → nat_lt now moment_limit ≡ true
+pub in_time : (held : HeldState) (now n : ℕ) → nat_lt now moment_limit ≡ true
     → hit held now n ≡ told held (ask_in held.client (max held.client.clock now) (read_of n) (cond (held.client.leaving && true) (Some faults.NoSession) (fault_then held.client (max held.client.clock now))))
 unfolding ask_step
 in_time held now n early = ap (λ b. told held (ask_at held.client (read_of n) (cond b (Ok (max held.client.clock now)) (Err faults.Exhausted)))) early
 
-late : (held : HeldState) (now n : ℕ) → nat_lt now moment_limit ≡ false → hit held now n ≡ None
+pub late : (held : HeldState) (now n : ℕ) → nat_lt now moment_limit ≡ false → hit held now n ≡ None
 unfolding ask_step
 late held now n h = ap (λ b. told held (ask_at held.client (read_of n) (cond b (Ok (max held.client.clock now)) (Err faults.Exhausted)))) h
 
 -- by whether the end of the session was asked for
-faulty : (held : HeldState) (m n : ℕ) (fault : Fault) (b : Bool) → told held (ask_in held.client m (read_of n) (cond (b && true) (Some faults.NoSession) (Some fault))) ≡ None
+pub faulty : (held : HeldState) (m n : ℕ) (fault : Fault) (b : Bool) → told held (ask_in held.client m (read_of n) (cond (b && true) (Some faults.NoSession) (Some fault))) ≡ None
 faulty held m n fault true = refl
 faulty held m n fault false = refl
 

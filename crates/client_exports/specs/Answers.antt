@@ -1,5 +1,5 @@
 -- What an export answers.
-use Rattle.std.specs.Prelude.{◌≡◌, ◌⊎◌, ◌≤◌, ◌<◌, ℕ, List, length, take, Result, Ok, Err}
+use Rattle.std.specs.Prelude.{◌≡◌, ◌⊎◌, ◌≤◌, ◌<◌, ℕ, List, ◌++◌, length, drop, Option, Some, Result, Ok, Err}
 use Rattle.codec.specs.declared.faults.WireFault.{WireFault}
 use Rattle.codec.specs.declared.faults.WireFault.TheVariants as wire
 use Rattle.collections.specs.Results.{Gives}
@@ -8,10 +8,10 @@ use Rattle.client_exports.specs.Statuses.{status_code, wire_code}
 use Rattle.client_exports.specs.States.{HeldState}
 use Rattle.client_exports.specs.Steps.{Makes}
 
--- a client was opened, which is told by 0; or it is told what is wrong. Want of memory, 1, may stand in the place of either
-abbrev pub Opens : Result HeldState WireFault → ℕ → Type 0
-Opens (Ok held) code = (code ≡ 0) ⊎ (code ≡ 1)
-Opens (Err fault) code = (code ≡ wire_code fault) ⊎ (code ≡ 1)
+-- a client was opened, which is told by 0, and the place owns it; or it is told what is wrong. Want of memory, 1, may stand in the place of either
+abbrev pub Opens : Result HeldState WireFault → Option HeldState → ℕ → Type 0
+Opens (Ok held) owned code = ((code ≡ 0) × (owned ≡ Some held)) ⊎ (code ≡ 1)
+Opens (Err fault) owned code = (code ≡ wire_code fault) ⊎ (code ≡ 1)
 
 -- the numbers that tell that nothing has changed: want of memory, a number or a moment at its end, and what is wrong with bytes
 abbrev pub Leaves : ℕ → Type 0
@@ -24,10 +24,10 @@ pub record Answers (old new : HeldState) (code : ℕ) (step : HeldState × Statu
   pub made : Makes old new status step
   pub kept : Leaves code → new ≡ old
 
--- bytes go into a room where they fit, from its front, and their number is told; else the room stays
+-- bytes go to the front of a room if they fit, what stands after them stays, and their number is told; else the room stays
 pub record Fills (bytes : List ℕ) (before after : List ℕ) (count : ℕ) : Type 0 where
   pub counted : count ≡ length bytes
-  pub fits : length bytes ≤ length before → take (length bytes) after ≡ bytes
+  pub fits : length bytes ≤ length before → after ≡ bytes ++ drop (length bytes) before
   pub stays : length before < length bytes → after ≡ before
 
 -- the same of what was to be shown, which is told by 0; or it is told what is wrong, and all stays

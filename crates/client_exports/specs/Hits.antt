@@ -1,5 +1,6 @@
 -- The content that the cache has for a handle.
-use Rattle.std.specs.Prelude.{◌≡◌, ℕ, ◌==◌, List, Option, Some, None, Bool, not, ◌&&◌, is_none, Ok, if◌then◌else◌}
+use Rattle.std.specs.Prelude.{◌≡◌, ℕ, ◌≤◌, nat_lt, ◌==◌, List, Option, Some, None, Bool, not, ◌&&◌, is_none, Ok, if◌then◌else◌}
+use Rattle.lease_core.specs.Lease.{IsMoment}
 use Rattle.cache_core.specs.Caches.{CacheState, answer}
 use Rattle.node_core.specs.declared.views.View.{View}
 use Rattle.tags_cell.specs.declared.messages.calls.Call.TheVariants as calls
@@ -13,6 +14,7 @@ use Rattle.codec.specs.Requests.{request}
 use Rattle.client_exports.specs.declared.statuses.Status.{Status}
 use Rattle.client_exports.specs.declared.statuses.Status.TheVariants as statuses
 use Rattle.client_exports.specs.Answers.{Fills}
+use Rattle.client_exports.specs.Leases.{EndsAt}
 use Rattle.client_exports.specs.Shows.{last_content}
 use Rattle.client_exports.specs.States.{HeldState}
 use Rattle.client_exports.specs.Steps.{ask_held, ask_bytes}
@@ -66,3 +68,9 @@ HitIsAsked =
     (held : HeldState) (now number : ℕ) (bytes handle : List ℕ) (message : CallMessage) → read_whole request bytes ≡ Ok (requests.Call message)
     → message.call ≡ calls.Read handle → number_in handle ≡ Some number
     → hit held now number ≡ served_content (ask_bytes held now bytes)
+
+-- a hit lasts as long as the lease, whatever else becomes of time, and no longer: at each later moment before the end of the lease it is the same, and from then on there is none
+abbrev pub HitLasts : Type 0
+HitLasts =
+    (held : HeldState) (now later number end : ℕ) (content : List ℕ) → EndsAt held.client.cache.lease end → hit held now number ≡ Some content → now ≤ later → IsMoment later
+    → hit held later number ≡ (if nat_lt later end then Some content else None)

@@ -11,6 +11,7 @@ pub mod Wanted
 pub mod Steps
 pub mod Leases
 pub mod Opens
+pub mod Owned
 pub mod Shows
 pub mod Follows
 pub mod Answers

@@ -1,10 +1,6 @@
 //! A client on the heap, as its address.
-ghost use Rattle.std.specs.Prelude.{◌≡◌};
-ghost use Rattle.std.specs.Borrow.{sem};
-ghost use Rattle.std.specs.Box.Ownership.{box_owns};
-ghost use Rattle.std.specs.contracts.impls.GlobalAllocator.TheImpl.{ghosts};
+ghost use Rattle.std.specs.Prelude.{◌≡◌, Option, Some};
 ghost use Rattle.client_exports.specs.States.{HeldState};
-ghost use Rattle.client_exports.specs.contracts.held.Held.{the_row};
 
 use crate::held::Held;
 use crate::parts::Parts;
@@ -16,7 +12,7 @@ use std::marker::Model;
 #[repr(C)]
 pub struct Handle {
     pub(crate) at: *mut u8,
-    alloc: Global,
+    pub(crate) alloc: Global,
     pub ghost value: { HeldState },
 }
 
@@ -29,16 +25,6 @@ impl Model for Handle {
 }
 
 impl Handle {
-    pub(crate) fn of_parts(parts: Parts<Held, Global>) -> Handle
-        ensures { result.value ≡ parts.value }
-    {
-        let Parts { ptr, alloc } = parts;
-        Handle {
-            at: ptr as *mut u8,
-            alloc,
-        }
-    }
-
     pub(crate) fn into_parts(self) -> Parts<Held, Global>
         ensures { result.value ≡ self.value }
     {
@@ -48,12 +34,35 @@ impl Handle {
             alloc,
         }
     }
+}
 
-    // The address alone, for the program to hold as a handle.
-    pub(crate) fn release(self) -> *mut u8
-        ensures* { sem 𝓛 (box_owns (ghosts.dealloc_token self.alloc) the_row result self.value) }
+/// Where a program wants the address of a client that is opened. In C a pointer, which may be anything before. To a contract, `value`
+/// is the client that it owns, if it owns one, with what came of its last step. To let it go frees nothing: a `Handle` does.
+#[derive(Drop)]
+#[repr(C)]
+pub struct HandlePlace {
+    pub(crate) at: *mut u8,
+    alloc: Global,
+    pub ghost value: { Option HeldState },
+}
+
+impl Model for HandlePlace {
+    ghost use Rattle.std.specs.Box.Ownership.{box_owns};
+    ghost use Rattle.std.specs.contracts.impls.GlobalAllocator.TheImpl.{ghosts};
+    ghost use Rattle.client_exports.specs.contracts.held.Held.{the_row};
+    ghost use Rattle.client_exports.specs.Owned.{owns_if};
+
+    ghost also_owns = { λ h. owns_if (λ held. box_owns (ghosts.dealloc_token h.alloc) the_row h.at held) h.value };
+}
+
+impl HandlePlace {
+    pub(crate) fn of_parts(parts: Parts<Held, Global>) -> HandlePlace
+        ensures { result.value ≡ Some parts.value }
     {
-        let Handle { at, alloc: _ } = self;
-        at
+        let Parts { ptr, alloc } = parts;
+        HandlePlace {
+            at: ptr as *mut u8,
+            alloc,
+        }
     }
 }

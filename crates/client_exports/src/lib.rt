@@ -36,9 +36,9 @@ ghost use Rattle.client_exports.specs.Tellings.{telling_at, bytes_at, child_at, 
 pub use calls::OpenParts;
 use client_core::{Ask, NodeCall};
 use codec::WireFault;
-use handles::Handle;
+use handles::{Handle, HandlePlace};
 pub use held::Held;
-pub use laws::hit_is_asked;
+pub use laws::{hit_is_asked, hit_lasts};
 use parts::Parts;
 use rooms::{fill, put, put_hit};
 pub use statuses::Status;
@@ -52,9 +52,9 @@ pub extern "C" fn cell_client_open(
     alloc: Global,
     number: u64,
     principal: &[u8],
-    out: &mut *mut u8,
+    out: &mut HandlePlace,
 ) -> u32
-    ensures opened { Opens (opened number principal.now) result }
+    ensures opened { Opens (opened number principal.now) out.new.value result }
     ensures refused { result ≢ 0 → out.new ≡ out.old }
 {
     match Held::open(alloc, number, principal) {
@@ -63,13 +63,13 @@ pub extern "C" fn cell_client_open(
     }
 }
 
-fn place(alloc: Global, held: Held, out: &mut *mut u8) -> u32
-    ensures opened { Opens (Ok held) result }
+fn place(alloc: Global, held: Held, out: &mut HandlePlace) -> u32
+    ensures opened { Opens (Ok held) out.new.value result }
     ensures refused { result ≢ 0 → out.new ≡ out.old }
 {
     match Box::new(alloc, held) {
         Ok(held) => {
-            *out = Handle::of_parts(Parts::of(held)).release();
+            *out = HandlePlace::of_parts(Parts::of(held));
             Status::Done.code()
         }
         Err(_) => Status::Bad(WireFault::NoMemory).code(),

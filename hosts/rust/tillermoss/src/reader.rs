@@ -120,9 +120,9 @@ struct KeptName {
 /// Reads nodes by their names for any number of threads. Each answer is what the client's cache would answer at a moment within the
 /// call, and so what the master's rows hold then; or what the master answered within it.
 ///
-/// What the cache answered is published, and holds until the client makes its next step or its lease ends: so long
-/// [`hit`](Reader::hit) takes no lock of the client's. A step is counted before its message goes out: so no change is made while a
-/// hit still answers what was there before.
+/// What the cache answered is published, and holds until the client makes its next step or its lease ends, by the law `hit_lasts` of
+/// the library: so long [`hit`](Reader::hit) takes no lock of the client's. A step is counted before its message goes out: so no change
+/// is made while a hit still answers what was there before.
 ///
 /// A name stays open for 10 s at most: who may no longer read it is refused within that time. An ephemeral node isn't kept open, since
 /// that would keep it there: each read of it asks the master.

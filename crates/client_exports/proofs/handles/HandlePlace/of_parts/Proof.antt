@@ -1,6 +1,7 @@
 -- `of_parts` moves two fields, and what they own goes with them. A cast of a pointer is a copy.
 use mathlib.Core.Path.{refl, sym, subst}
 use mathlib.Core.List.{List, [], ◌∷◌, ◌++◌}
+use Rattle.std.specs.Prelude.{Some}
 use seplogic.Ra.Ura.{Ura}
 use mir.Val.{Val}
 use base.Logic.{SProp, ent, emp, id⊢}
@@ -25,10 +26,10 @@ use denote.Triple.Walked.{says, Stays, stay_dropped, walk_of, ends_at, Goes-drop
 use Rattle.std_alloc.proofs.BoxSteps.Form.{D, B, word, box_typed}
 use Rattle.std_alloc.proofs.BoxSteps.Steps.{box_out, box_in}
 use Rattle.client_exports.proofs.AsBox.{E, FromParts as From}
-use Rattle.client_exports.specs.contracts.handles.Handle.of_parts as F
-use Rattle.client_exports.specs.contracts.handles.Handle.of_parts.Key.{name as #self}
-use Rattle.client_exports.proofs.handles.Handle.of_parts.Statement as stated
-use Rattle.client_exports.proofs.handles.Handle.of_parts.Code as code
+use Rattle.client_exports.specs.contracts.handles.HandlePlace.of_parts as F
+use Rattle.client_exports.specs.contracts.handles.HandlePlace.of_parts.Key.{name as #self}
+use Rattle.client_exports.proofs.handles.HandlePlace.of_parts.Statement as stated
+use Rattle.client_exports.proofs.handles.HandlePlace.of_parts.Code as code
 
 abbrev stayed : Stays (F.ended).signature.params (F.ended).kept
 stayed = (stay_dropped From yes, tt)
@@ -42,7 +43,7 @@ module _ {M : Type 1} {𝓤 : Ura M} (𝓛 : Logic 𝓤) (at_mem : Memory → SP
       let Post = (walk_of 𝓛 F.ended stayed (F.clauses 𝓛 at_mem run)).post z in
       let v : D E = record { ptr = z.0.3.0.ptr; alloc = z.0.3.0.alloc; value = z.0.3.0.value } in
       let To = type_at (F.signature).result tt in
-      let made : To.Denot = record { at = v.ptr; alloc = v.alloc; value = v.value } in
+      let made : To.Denot = record { at = v.ptr; alloc = v.alloc; value = Some v.value } in
       qed 𝓛 ((‵ ftrue ⊛ ‵ (fsep ((B E).own_val v z.0.4.0) ftrue)) ∷ raw (emp 𝓤) ∷ []) ∵ split ! $ drop ! $ fsplit ! $
       box_out E ! v z.0.4.0 (λ b o hv e ws fa. box_in E ! v b o v.value e refl $ use1 𝓛 (‵ (To.own_val made (word E hv b o ∷ []))) (id⊢ 𝓤 _) $ move ! (1 ∷ 2 ∷ []) $ drop ! $ drop ! $
       let w = word E hv b o in
