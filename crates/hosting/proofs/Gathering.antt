@@ -155,19 +155,22 @@ so_far_full begun sent here rest old new before after s terms text f = s terms t
 
 -- ---- what a frame does in a group
 
-pub does_message : (sent : Result Frame WireFault) (frame : Frame) (now : ℕ) (message : Request) (answered : Answered) (old new : GroupState) → sent ≡ Ok frame → frame ≡ frames.Message now message
-    → Answers now message (seen old) answered (seen new) → ground new ≡ ground old → PartsAnswer now message old new → DoesHeld sent old (Some (replies.Answered answered)) new
-does_message sent frame now message answered old new is frame_is answers store parted =
-    let P : Result Frame WireFault → Type 0 = λ u. DoesHeld u old (Some (replies.Answered answered)) new in
-    let Q : Frame → Type 0 = λ f. DoesHeld (Ok f) old (Some (replies.Answered answered)) new in
-    subst P (sym is) (subst Q (sym frame_is) ((λ terms. (seen new, answers, refl)), store, parted))
+pub does_message : (frame : Frame) (now : ℕ) (message : Request) (answered : Answered) (old new : GroupState) → frame ≡ frames.Message now message
+    → Answers now message (seen old) answered (seen new) → ground new ≡ ground old → PartsAnswer now message old new → DoesHeld (Ok frame) old (Some (replies.Answered answered)) new
+does_message frame now message answered old new is answers store parted =
+    let P : Frame → Type 0 = λ f. DoesHeld (Ok f) old (Some (replies.Answered answered)) new in
+    subst P (sym is) ((λ terms. (seen new, answers, refl)), store, parted)
 
-pub does_tick : (sent : Result Frame WireFault) (frame : Frame) (now : ℕ) (settled : Settled) (old new : GroupState) → sent ≡ Ok frame → frame ≡ frames.Tick now
-    → Settles now (seen old) settled (seen new) → ground new ≡ ground old → PartsSweeps now old new → DoesHeld sent old (Some (replies.Swept settled)) new
-does_tick sent frame now settled old new is frame_is settles store parted =
-    let P : Result Frame WireFault → Type 0 = λ u. DoesHeld u old (Some (replies.Swept settled)) new in
-    let Q : Frame → Type 0 = λ f. DoesHeld (Ok f) old (Some (replies.Swept settled)) new in
-    subst P (sym is) (subst Q (sym frame_is) ((λ terms. (seen new, settles, refl)), store, parted))
+pub does_tick : (frame : Frame) (now : ℕ) (settled : Settled) (old new : GroupState) → frame ≡ frames.Tick now
+    → Settles now (seen old) settled (seen new) → ground new ≡ ground old → PartsSweeps now old new → DoesHeld (Ok frame) old (Some (replies.Swept settled)) new
+does_tick frame now settled old new is settles store parted =
+    let P : Frame → Type 0 = λ f. DoesHeld (Ok f) old (Some (replies.Swept settled)) new in
+    subst P (sym is) ((λ terms. (seen new, settles, refl)), store, parted)
+
+pub does_sent : (sent : Result Frame WireFault) (frame : Frame) (done : Option Reply) (old new : GroupState) → sent ≡ Ok frame → DoesHeld (Ok frame) old done new → DoesHeld sent old done new
+does_sent sent frame done old new is does =
+    let P : Result Frame WireFault → Type 0 = λ u. DoesHeld u old done new in
+    subst P (sym is) does
 
 -- ---- what is told of a frame
 

@@ -1,5 +1,5 @@
 //! Frames that are there together are done, and what they change is held back.
-ghost use Rattle.std.specs.Prelude.{◌≡◌, length, None, Some};
+ghost use Rattle.std.specs.Prelude.{◌≡◌, length, None, Ok, Some};
 ghost use Rattle.std.specs.Io.Buffered.{reader_remaining};
 ghost use Rattle.hosting.specs.Blocks.{stands_whole};
 ghost use Rattle.hosting.specs.Groups.{DoesHeld, Tries, NextThere, GathersBy, GathersOnBy, PutsReply, PutsTold};
@@ -160,10 +160,19 @@ fn take_held<R: Records>(
     ensures { DoesHeld sent.now group.old result group.new }
 {
     match sent {
-        Ok(Frame::Message(now, request)) => {
+        Ok(frame) => take_frame(alloc, group, frame),
+        Err(_) => None,
+    }
+}
+
+fn take_frame<R: Records>(alloc: Global, group: &mut Group<R>, frame: &Frame) -> Option<Reply>
+    ensures { DoesHeld (Ok frame.now) group.old result group.new }
+{
+    match frame {
+        Frame::Message(now, request) => {
             Some(Reply::Answered(answer_held(alloc, group, *now, request)))
         }
-        Ok(Frame::Tick(now)) => Some(Reply::Swept(settle_held(alloc, group, *now))),
+        Frame::Tick(now) => Some(Reply::Swept(settle_held(alloc, group, *now))),
         _ => None,
     }
 }
