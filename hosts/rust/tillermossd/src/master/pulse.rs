@@ -36,11 +36,9 @@ impl Pulse {
             if is_refused { (Some(self.last.saturating_add(self.pause)), (2 * self.pause).min(REFUSED.1)) } else { (next, REFUSED.0) };
     }
 
-    /// How long from this moment on there is no tick, where no frame waits for its answer; None before something else happens. A frame
-    /// that left something to do, because it does only so much, is followed by a tick at once.
+    /// How long from this moment on there is no tick, where no frame waits for its answer; None before something else happens.
     pub fn rest(&self, now: u64) -> Option<Duration> {
-        let next = self.next?;
-        let due = if next <= self.last { next } else { next.max(self.last.saturating_add(LEAST)) };
+        let due = self.next?.max(self.last.saturating_add(LEAST));
         Some(Duration::from_millis(due.saturating_sub(now)))
     }
 }
@@ -56,9 +54,7 @@ mod tests {
             (Some(1500), 1000, Some(500)),
             (Some(1500), 1500, Some(0)),
             (Some(1500), 9999, Some(0)),
-            (Some(900), 1000, Some(0)),
-            (Some(1000), 1000, Some(0)),
-            (Some(1001), 1000, Some(5)),
+            (Some(900), 1000, Some(5)),
         ];
         for (next, now, wanted) in rows {
             let pulse = Pulse::new(1000, next);
