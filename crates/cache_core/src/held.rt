@@ -27,7 +27,7 @@ pub struct Slot {
 // The entries of a cache. To a contract, the list of them in the order of installing. They are found by their names, and the
 // oldest by its turn, so that each call but `clear` costs a look-up or two and a step in a tree, however many there are.
 #[derive(Drop)]
-pub(crate) struct Held {
+pub(crate) struct CacheEntries {
     alloc: Global,
     slots: IndexMap<Name, Slot>,
     // The names by their turns.
@@ -36,7 +36,7 @@ pub(crate) struct Held {
     turns: u64,
 }
 
-impl Model for Held {
+impl Model for CacheEntries {
     ghost use Rattle.cache_core.specs.Caches.{Entries};
     ghost use Rattle.cache_core.specs.Held.{entries_of, IsHeld};
 
@@ -47,12 +47,12 @@ impl Model for Held {
     ghost invariant = { λ h. IsHeld h.order h.slots.entries h.turns };
 }
 
-impl Held {
+impl CacheEntries {
     // No entries; takes no memory yet.
-    pub(crate) fn new(alloc: Global) -> Held
+    pub(crate) fn new(alloc: Global) -> CacheEntries
         ensures { result ≡ [] }
     {
-        Held {
+        CacheEntries {
             alloc,
             slots: IndexMap::new(alloc),
             order: Table::new(alloc),

@@ -30,7 +30,7 @@ use Rattle.lock_core.specs.State.{LockState}
 use Rattle.lock_core.specs.Turns.{tried, acquired, released, closed_by}
 use Rattle.master_state.specs.declared.updates.Change.{Change}
 use Rattle.master_state.specs.declared.updates.LockPut.{LockPut}
-use Rattle.master_parts.specs.declared.handles.Note.{Note}
+use Rattle.master_parts.specs.declared.handles.HandleNote.{HandleNote}
 use Rattle.master_parts.specs.declared.handles.HandleState.TheVariants as states
 use Rattle.master_parts.specs.Claims.{owner_of, claim_of}
 use Rattle.master_state.specs.NameSpace.{name_space, caller}
@@ -45,12 +45,12 @@ use Rattle.cell_core.specs.Effect.{answered, refused, changes_to, is_last, new_n
 
 -- it ends with an answer, changes the map beside that, deletes a node with its lock, takes a lock, waits for it, or leaves it
 pub data Shape : Type 0 where
-  Ends : (note : Option Note) (answer : CallResult) → Shape
-  Applies : (note : Option Note) (change : Change) (answer : CallResult) → Shape
+  Ends : (note : Option HandleNote) (answer : CallResult) → Shape
+  Applies : (note : Option HandleNote) (change : Change) (answer : CallResult) → Shape
   Deletes : (change : Change) (instance : ℕ) (waiters : List Claim) (answer : CallResult) → Shape
   Locks : (put : LockPut) (claim : Claim) (answer : CallResult) → Shape
   Awaits : (put : LockPut) → Shape
-  Leaves : (note : Option Note) (leave : Leave) (answer : CallResult) → Shape
+  Leaves : (note : Option HandleNote) (leave : Leave) (answer : CallResult) → Shape
 
 abbrev pub effect_by : Shape → Effect
 effect_by (Ends note answer) = record { note = note; change = None; locking = lockings.Nothing; answer = Some answer }
@@ -162,11 +162,11 @@ module _ (s : MasterState) where
   of_released handle (Ok turn) = (Leaves None (record { name = handle.name; instance = handle.instance; held = true; turn = turn }) results.Done, refl)
   of_released handle (Err fault) = of_fault fault
 
-  of_left : (handle : Handle) (note : Option Note) (o : Option Turn) → HasShape (record { note = note; change = None; locking = close_by (name_space s) handle o; answer = Some results.Closed })
+  of_left : (handle : Handle) (note : Option HandleNote) (o : Option Turn) → HasShape (record { note = note; change = None; locking = close_by (name_space s) handle o; answer = Some results.Closed })
   of_left handle note None = (Ends note results.Closed, refl)
   of_left handle note (Some turn) = (Leaves note (record { name = handle.name; instance = handle.instance; held = holds_lock (name_space s) handle; turn = turn }) results.Closed, refl)
 
-  of_closed : (handle : Handle) (note : Option Note) (o : Option Node) → HasShape (record { note = note; change = None; locking = close_under (name_space s) handle o; answer = Some results.Closed })
+  of_closed : (handle : Handle) (note : Option HandleNote) (o : Option Node) → HasShape (record { note = note; change = None; locking = close_under (name_space s) handle o; answer = Some results.Closed })
   of_closed handle note None = (Ends note results.Closed, refl)
   of_closed handle note (Some node) = of_left handle note (closed_by (lock_under (name_space s) handle) (owner_of handle))
 

@@ -14,7 +14,7 @@ use Rattle.tags_cell.specs.declared.messages.outs.CallResult.TheVariants as resu
 use Rattle.tags_cell.specs.declared.messages.outs.Reply.{Reply}
 use Rattle.cell_core.specs.declared.admissions.Admission.{Admission}
 use Rattle.master_parts.specs.declared.pending.Taken.{Taken}
-use Rattle.session_core.specs.declared.records.Kept.{Kept}
+use Rattle.session_core.specs.declared.records.LastCall.{LastCall}
 use Rattle.session_core.specs.Session.{beat_fault, kept_answer}
 use Rattle.master_parts.specs.declared.pending.Task.TheVariants as tasks
 use Rattle.master_parts.specs.declared.pending.Work.TheVariants as works
@@ -85,15 +85,15 @@ new_case s request message new =
 -- ---- a call, by the client's last one
 
 -- how it stands to the last one, by a test
-by_test : (s : MasterState) (request : Request) (message : CallMessage) (b : Bool) (x y : Result (Option (Kept Reply)) Fault) → (b ≡ true → IsCase s request (kept_step s message x)) → (b ≡ false → IsCase s request (kept_step s message y)) → IsCase s request (kept_step s message (cond b x y))
+by_test : (s : MasterState) (request : Request) (message : CallMessage) (b : Bool) (x y : Result (Option (LastCall Reply)) Fault) → (b ≡ true → IsCase s request (kept_step s message x)) → (b ≡ false → IsCase s request (kept_step s message y)) → IsCase s request (kept_step s message (cond b x y))
 by_test s request message true x y h k = h refl
 by_test s request message false x y h k = k refl
 
-kept_case : (s : MasterState) (request : Request) (message : CallMessage) (o : Option (Kept Reply)) → IsHeard s request message → kept_of s message.client ≡ o → IsCase s request (kept_step s message (kept_answer o message.number))
+kept_case : (s : MasterState) (request : Request) (message : CallMessage) (o : Option (LastCall Reply)) → IsHeard s request message → kept_of s message.client ≡ o → IsCase s request (kept_step s message (kept_answer o message.number))
 kept_case s request message None heard is = new_case s request message (record { heard = heard; behind = rw is tt })
 kept_case s request message (Some kept) heard is =
-    let waiting : Result (Option (Kept Reply)) Fault = cond (is_none kept.reply) (Err faults.CallOutstanding) (Ok None) in
-    let older : Result (Option (Kept Reply)) Fault = cond (nat_lt message.number kept.number) (Err faults.Repeat) waiting in
+    let waiting : Result (Option (LastCall Reply)) Fault = cond (is_none kept.reply) (Err faults.CallOutstanding) (Ok None) in
+    let older : Result (Option (LastCall Reply)) Fault = cond (nat_lt message.number kept.number) (Err faults.Repeat) waiting in
     by_test s request message (message.number == kept.number) (Ok (Some kept)) older (λ e. (Repeated message kept heard is (same message.number kept.number e), refl)) (λ apart.
     by_test s request message (nat_lt message.number kept.number) (Err faults.Repeat) waiting (λ e. (OlderCall message kept heard is (less message.number kept.number e), refl)) (λ more.
     let high = above message.number kept.number apart more in
@@ -102,7 +102,7 @@ kept_case s request message (Some kept) heard is =
     new_case s request message (record { heard = heard; behind = rw is (t.0, t.1, high) }))))
 
 -- the session has ended
-ended_case : (s : MasterState) (request : Request) (message : CallMessage) (o : Option (Kept Reply)) → request ≡ requests.Call message → message.epoch ≡ s.epoch → is_live s message.client ≡ false → kept_of s message.client ≡ o → IsCase s request (ended_step s message (kept_answer o message.number))
+ended_case : (s : MasterState) (request : Request) (message : CallMessage) (o : Option (LastCall Reply)) → request ≡ requests.Call message → message.epoch ≡ s.epoch → is_live s message.client ≡ false → kept_of s message.client ≡ o → IsCase s request (ended_step s message (kept_answer o message.number))
 ended_case s request message None is epoch ended none = (NoSession message is epoch ended, refl)
 ended_case s request message (Some kept) is epoch ended some = by_number (message.number == kept.number) refl
   where

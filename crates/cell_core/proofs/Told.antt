@@ -28,8 +28,8 @@ use Rattle.master_state.specs.State.{MasterState}
 use Rattle.master_state.specs.Lookups.{own_handle, shown_handle, node_of_handle, is_usable, handle_state_of, list_answer, answer_on, answer_on_node, answer_under, missing_right, open_present, plain_open, opened_answer, is_of_cell, sequencer_fault, sequencer_result, release_fault, lock_under}
 use Rattle.master_parts.specs.Calls.{needing, write_fault, is_too_long}
 use Rattle.master_parts.specs.Keys.{key_of}
-use Rattle.cell_core.specs.declared.asking.Touched.{Touched}
-use Rattle.cell_core.specs.declared.asking.Touched.TheVariants.{WithParent}
+use Rattle.cell_core.specs.declared.asking.TouchedNames.{TouchedNames}
+use Rattle.cell_core.specs.declared.asking.TouchedNames.TheVariants.{WithParent}
 use Rattle.cell_core.specs.Step.{names_of, task_of, admission_for, touched_by, viewed_name, told_by_open, handle_admission, admission_of_open, admission_of, admission_under, check_admission, answering}
 use Rattle.tags_cell.specs.declared.sequencers.Sequencer.{Sequencer}
 use Rattle.lock_core.specs.State.{hold_of}
@@ -60,7 +60,7 @@ under_touched : (s : MasterState) (client number : ℕ) (opening : Open) (o : Op
 under_touched s client number opening (Some fault) h = cc
 under_touched s client number opening None h = open_touched s client number opening opening.create h
 
-named_touched : (name : Option Touched) (b : Bool) (x : Admission) (other : CallResult) → (cond b x (answering other)).answer ≡ None → (x.answer ≡ None → x.touched ≡ name) → (cond b x (answering other)).touched ≡ name
+named_touched : (name : Option TouchedNames) (b : Bool) (x : Admission) (other : CallResult) → (cond b x (answering other)).answer ≡ None → (x.answer ≡ None → x.touched ≡ name) → (cond b x (answering other)).touched ≡ name
 named_touched name true x other h k = k h
 named_touched name false x other h k = cc
 
@@ -68,7 +68,7 @@ check_waits_never : (s : MasterState) (bytes : List ℕ) (o : Option Fault) → 
 check_waits_never s bytes None h = cc
 check_waits_never s bytes (Some fault) h = cc
 
-no_touch : (o : Option Handle) → ◌≡◌ {A = Option Touched} None (option_and_then (λ handle. touched_by handle calls.Leave) o)
+no_touch : (o : Option Handle) → ◌≡◌ {A = Option TouchedNames} None (option_and_then (λ handle. touched_by handle calls.Leave) o)
 no_touch None = refl
 no_touch (Some handle) = refl
 

@@ -40,7 +40,7 @@ use Rattle.lock_core.specs.Turns.{is_of_client, tried, acquired, released, close
 use Rattle.lock_core.specs.Locks.{lock_at, with_lock}
 use Rattle.lock_core.specs.Counted.{claims_in, claim_count}
 use Rattle.lock_core.proofs.ClaimTurns.{one_where, one_at_most, counted_lock, counted_gone, GrowsTo, GrowsAt, GrowsBy, GrowsIn, acquired_grows, tried_grows, Shrinks, ShrinksBy, ShrinksIn, released_shrinks, closed_shrinks}
-use Rattle.master_parts.specs.declared.handles.Note.{Note}
+use Rattle.master_parts.specs.declared.handles.HandleNote.{HandleNote}
 use Rattle.master_parts.specs.declared.handles.HandleState.TheVariants as states
 use Rattle.master_parts.specs.Keys.{key_of}
 use Rattle.master_parts.specs.Claims.{owner_of, claim_of}
@@ -136,7 +136,7 @@ module _ (s : MasterState) (ordered : IsStrictlySortedBy (slice_cmp nat_cmp) (ke
   same_locks client = not_more s.limits.max_locks (claim_count client s.locks) (claim_count client s.locks) (omega arith)
 
   -- an answer that changes neither the map nor a lock
-  kept_by : (note : Option Note) (answer : Option CallResult) → Keeps (record { note = note; change = None; locking = lockings.Nothing; answer = answer })
+  kept_by : (note : Option HandleNote) (answer : Option CallResult) → Keeps (record { note = note; change = None; locking = lockings.Nothing; answer = answer })
   kept_by mark answer = record { nodes = same_nodes; bytes = same_bytes; locks = same_locks }
 
   either : (b : Bool) (x y : Effect) → Keeps x → Keeps y → Keeps (cond b x y)
@@ -291,11 +291,11 @@ module _ (s : MasterState) (ordered : IsStrictlySortedBy (slice_cmp nat_cmp) (ke
   releases handle (Ok turn) less = record { nodes = same_nodes; bytes = same_bytes; locks = left handle.instance turn.lock less }
   releases handle (Err fault) less = refuses fault
 
-  closes_lock : (handle : Handle) (note : Option Note) (o : Option Turn) → ShrinksIn (lock_under (name_space s) handle) o → Keeps (record { note = note; change = None; locking = close_by (name_space s) handle o; answer = Some results.Closed })
+  closes_lock : (handle : Handle) (note : Option HandleNote) (o : Option Turn) → ShrinksIn (lock_under (name_space s) handle) o → Keeps (record { note = note; change = None; locking = close_by (name_space s) handle o; answer = Some results.Closed })
   closes_lock handle mark None less = kept_by mark (Some results.Closed)
   closes_lock handle mark (Some turn) less = record { nodes = same_nodes; bytes = same_bytes; locks = left handle.instance turn.lock less }
 
-  closes : (handle : Handle) (note : Option Note) (o : Option Node) → Keeps (record { note = note; change = None; locking = close_under (name_space s) handle o; answer = Some results.Closed })
+  closes : (handle : Handle) (note : Option HandleNote) (o : Option Node) → Keeps (record { note = note; change = None; locking = close_under (name_space s) handle o; answer = Some results.Closed })
   closes handle mark None = kept_by mark (Some results.Closed)
   closes handle mark (Some node) = closes_lock handle mark (closed_by (lock_under (name_space s) handle) (owner_of handle)) (closed_shrinks (lock_under (name_space s) handle) (owner_of handle))
 

@@ -3,14 +3,14 @@ use Rattle.std.specs.Prelude.{◌≡◌, ◌≢◌, ℕ, List, ◌∷◌, Option
 use Rattle.std.specs.Option.{option_map, option_to_list}
 use Rattle.rights_core.specs.declared.cache_rights.CacheRight.{CacheRight}
 use Rattle.rights_core.specs.Rights.{clients_to_ask}
-use Rattle.cell_core.specs.declared.asking.Asked.{Asked}
+use Rattle.cell_core.specs.declared.asking.AskedBack.{AskedBack}
 use Rattle.cell_core.specs.declared.asking.ToAsk.{ToAsk}
 
 abbrev pub names_asked : ToAsk → List (List ℕ)
 names_asked asks = asks.first.name ∷ option_to_list (option_map (λ asked. asked.name) asks.above)
 
 -- another name, which is asked for behind the first
-abbrev pub AboveFits : List CacheRight → List ℕ → Option Asked → Type 0
+abbrev pub AboveFits : List CacheRight → List ℕ → Option AskedBack → Type 0
 AboveFits rights name None = Unit {0}
 AboveFits rights name (Some above) = (name ≢ above.name) × (above.clients ≡ clients_to_ask above.name rights)
 

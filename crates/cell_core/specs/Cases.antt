@@ -7,13 +7,13 @@ use Rattle.tags_cell.specs.declared.messages.requests.CallMessage.{CallMessage}
 use Rattle.tags_cell.specs.declared.messages.requests.Request.{Request}
 use Rattle.tags_cell.specs.declared.messages.outs.CallResult.{CallResult}
 use Rattle.tags_cell.specs.declared.messages.outs.Reply.{Reply}
-use Rattle.master_parts.specs.declared.handles.Note.{Note}
+use Rattle.master_parts.specs.declared.handles.HandleNote.{HandleNote}
 use Rattle.master_parts.specs.declared.pending.Taken.{Taken}
-use Rattle.session_core.specs.declared.records.Kept.{Kept}
+use Rattle.session_core.specs.declared.records.LastCall.{LastCall}
 use Rattle.session_core.specs.Session.{beat_fault}
 use Rattle.master_state.specs.State.{MasterState}
 use Rattle.master_state.specs.Lookups.{session_of, kept_of, is_live, is_full, may_start, nothing, turned_away, refusal, repeated}
-use Rattle.cell_core.specs.declared.asking.Touched.{Touched}
+use Rattle.cell_core.specs.declared.asking.TouchedNames.{TouchedNames}
 use Rattle.cell_core.specs.Step.{queued, parked, acked, replied, is_cachable, granting, waits, admission_for}
 use Rattle.master_state.specs.Updates.{with_note}
 use Rattle.node_core.specs.declared.refusals.Fault.TheVariants as faults
@@ -25,7 +25,7 @@ use Rattle.master_parts.specs.declared.pending.Work.TheVariants as works
 -- ---- a message
 
 -- the client's last call, if it made one, has its reply and a smaller number
-abbrev pub IsBehind : Option (Kept Reply) → ℕ → Type 0
+abbrev pub IsBehind : Option (LastCall Reply) → ℕ → Type 0
 IsBehind None number = Unit {0}
 IsBehind (Some kept) number = (reply : Reply) × (kept.reply ≡ Some reply) × (kept.number < number)
 
@@ -46,20 +46,20 @@ IsUnkept s client None = Unit {0}
 IsUnkept s client (Some name) = is_cachable s client name ≡ false
 
 -- what is noted of its handle first, and what it is answered at once: by its tests, or as Busy where it would wait and there is no room
-pub record IsAnswered (s : MasterState) (message : CallMessage) (note : Option Note) (answer : CallResult) : Type 0 where
+pub record IsAnswered (s : MasterState) (message : CallMessage) (note : Option HandleNote) (answer : CallResult) : Type 0 where
   pub is_noted : note ≡ (admission_for s message).note
   pub is_answer : (((admission_for s message).answer ≡ Some answer) × IsUnkept (with_note s note) message.client (admission_for s message).told)
       ⊎ (((admission_for s message).answer ≡ None) × (is_full (with_note s note) ≡ true) × (answer ≡ results.Refused faults.Busy))
 
 -- what is noted of its handle first, and what it is answered at once, which tells what a name shows, and may be kept in the client's cache
-pub record IsGranted (s : MasterState) (message : CallMessage) (note : Option Note) (answer : CallResult) (name : List ℕ) : Type 0 where
+pub record IsGranted (s : MasterState) (message : CallMessage) (note : Option HandleNote) (answer : CallResult) (name : List ℕ) : Type 0 where
   pub is_noted : note ≡ (admission_for s message).note
   pub is_answer : (admission_for s message).answer ≡ Some answer
   pub is_told : (admission_for s message).told ≡ Some name
   pub cachable : is_cachable (with_note s note) message.client name ≡ true
 
 -- it passes its tests, and there is room; what it touches
-pub record IsAdmitted (s : MasterState) (message : CallMessage) (note : Option Note) (touched : Option Touched) : Type 0 where
+pub record IsAdmitted (s : MasterState) (message : CallMessage) (note : Option HandleNote) (touched : Option TouchedNames) : Type 0 where
   pub is_touched : touched ≡ (admission_for s message).touched
   pub is_noted : note ≡ (admission_for s message).note
   pub passes : (admission_for s message).answer ≡ None
@@ -79,14 +79,14 @@ pub data TakeCase (s : MasterState) (request : Request) : Type 0 where
   OldEpoch : (message : CallMessage) → request ≡ requests.Call message → message.epoch ≢ s.epoch → TakeCase s request
   NoSession : (message : CallMessage) → request ≡ requests.Call message → message.epoch ≡ s.epoch → is_live s message.client ≡ false → TakeCase s request
   -- the session has ended, by this call
-  LeftBefore : (message : CallMessage) (kept : Kept Reply) → request ≡ requests.Call message → message.epoch ≡ s.epoch → is_live s message.client ≡ false → kept_of s message.client ≡ Some kept → message.number ≡ kept.number → TakeCase s request
-  Repeated : (message : CallMessage) (kept : Kept Reply) → IsHeard s request message → kept_of s message.client ≡ Some kept → message.number ≡ kept.number → TakeCase s request
-  OlderCall : (message : CallMessage) (kept : Kept Reply) → IsHeard s request message → kept_of s message.client ≡ Some kept → message.number < kept.number → TakeCase s request
-  Outstanding : (message : CallMessage) (kept : Kept Reply) → IsHeard s request message → kept_of s message.client ≡ Some kept → kept.number < message.number → kept.reply ≡ None → TakeCase s request
+  LeftBefore : (message : CallMessage) (kept : LastCall Reply) → request ≡ requests.Call message → message.epoch ≡ s.epoch → is_live s message.client ≡ false → kept_of s message.client ≡ Some kept → message.number ≡ kept.number → TakeCase s request
+  Repeated : (message : CallMessage) (kept : LastCall Reply) → IsHeard s request message → kept_of s message.client ≡ Some kept → message.number ≡ kept.number → TakeCase s request
+  OlderCall : (message : CallMessage) (kept : LastCall Reply) → IsHeard s request message → kept_of s message.client ≡ Some kept → message.number < kept.number → TakeCase s request
+  Outstanding : (message : CallMessage) (kept : LastCall Reply) → IsHeard s request message → kept_of s message.client ≡ Some kept → kept.number < message.number → kept.reply ≡ None → TakeCase s request
   Recovering : (message : CallMessage) → IsNew s request message → s.recovering ≡ true → TakeCase s request
-  Answered : (message : CallMessage) (note : Option Note) (answer : CallResult) → IsNew s request message → s.recovering ≡ false → IsAnswered s message note answer → TakeCase s request
-  Granted : (message : CallMessage) (note : Option Note) (answer : CallResult) (name : List ℕ) → IsNew s request message → s.recovering ≡ false → IsGranted s message note answer name → TakeCase s request
-  Waits : (message : CallMessage) (note : Option Note) (touched : Option Touched) → IsNew s request message → s.recovering ≡ false → IsAdmitted s message note touched → TakeCase s request
+  Answered : (message : CallMessage) (note : Option HandleNote) (answer : CallResult) → IsNew s request message → s.recovering ≡ false → IsAnswered s message note answer → TakeCase s request
+  Granted : (message : CallMessage) (note : Option HandleNote) (answer : CallResult) (name : List ℕ) → IsNew s request message → s.recovering ≡ false → IsGranted s message note answer name → TakeCase s request
+  Waits : (message : CallMessage) (note : Option HandleNote) (touched : Option TouchedNames) → IsNew s request message → s.recovering ≡ false → IsAdmitted s message note touched → TakeCase s request
 
 -- what the master is then, prints and sends
 abbrev pub taken_by : (s : MasterState) (request : Request) → TakeCase s request → MasterState × Taken

@@ -23,7 +23,7 @@ use Rattle.tags_cell.specs.declared.messages.calls.Disposition.TheVariants.{May,
 use Rattle.tags_cell.specs.declared.messages.calls.Call.{Call}
 use Rattle.tags_cell.specs.declared.messages.outs.CallResult.{CallResult}
 use Rattle.cell_core.specs.declared.effects.Effect.{Effect}
-use Rattle.master_parts.specs.declared.pending.Idle.{Idle}
+use Rattle.master_parts.specs.declared.pending.Orphan.{Orphan}
 use Rattle.cell_core.specs.declared.effects.Locking.{Locking}
 use Rattle.cell_core.specs.declared.effects.Locking.TheVariants.{Nothing, Takes, Waits, Leaves, Goes}
 use Rattle.lock_core.specs.declared.claims.Claim.{Claim}
@@ -302,7 +302,7 @@ change_on space now handle call = option_map_or (λ node. change_at space now ha
 -- ---- by the cell itself
 
 -- an ephemeral node that nobody holds open goes as one that is deleted, and nobody asked for it
-abbrev pub gone_by_itself : NameSpace → Idle → Effect
+abbrev pub gone_by_itself : NameSpace → Orphan → Effect
 gone_by_itself space idle = record {
   note = None;
   change = Some (record { change = Gone idle.name; next_instance = space.next_instance });

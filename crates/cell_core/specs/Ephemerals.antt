@@ -5,7 +5,7 @@ use Rattle.node_core.specs.declared.refusals.Fault.{Fault}
 use Rattle.node_core.specs.declared.nodes.Node.{Node}
 use Rattle.node_core.specs.Nodes.{get_node, with_parent}
 use Rattle.gate_core.specs.Gate.{push_answer}
-use Rattle.master_parts.specs.declared.pending.Idle.{Idle}
+use Rattle.master_parts.specs.declared.pending.Orphan.{Orphan}
 use Rattle.master_parts.specs.declared.pending.Task.TheVariants as tasks
 use Rattle.master_parts.specs.Ephemerals.{is_left, goes, idle_of}
 use Rattle.master_state.specs.State.{MasterState, tables_of}
@@ -34,15 +34,15 @@ abbrev pub may_tidy : MasterState → Bool
 may_tidy s = not s.recovering && nat_le (s.serving_from + spared_for) s.clock && is_ok (push_answer s.gate)
 
 -- the first by name
-abbrev pub next_idle : MasterState → Option Idle
+abbrev pub next_idle : MasterState → Option Orphan
 next_idle s = if may_tidy s then option_map idle_of (find (is_to_go s) s.nodes) else None
 
 -- ---- what is done
 
 -- its deletion waits behind all other changes, and who may keep its name in a cache, or the one above, is asked for it
-abbrev pub tidied : MasterState → Idle → MasterState
+abbrev pub tidied : MasterState → Orphan → MasterState
 tidied s idle = asking_for (queued s (with_parent idle.name) (tasks.Tidies idle)) (with_parent idle.name)
 
 -- at its turn: the same node is there, and nobody holds it open again
-abbrev pub is_still_idle : MasterState → Idle → Bool
+abbrev pub is_still_idle : MasterState → Orphan → Bool
 is_still_idle s idle = option_map_or (λ node. node.instance == idle.instance && is_idle_node s idle.name node) (get_node s.nodes idle.name) false

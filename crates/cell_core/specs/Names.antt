@@ -10,8 +10,8 @@ use Rattle.master_parts.specs.declared.pending.Task.{Task}
 use Rattle.master_parts.specs.declared.pending.Work.{Work}
 use Rattle.master_state.specs.State.{MasterState}
 use Rattle.node_core.specs.Nodes.{with_parent}
-use Rattle.cell_core.specs.declared.asking.Touched.{Touched}
-use Rattle.cell_core.specs.declared.asking.Touched.TheVariants.{WithParent}
+use Rattle.cell_core.specs.declared.asking.TouchedNames.{TouchedNames}
+use Rattle.cell_core.specs.declared.asking.TouchedNames.TheVariants.{WithParent}
 use Rattle.cell_core.specs.Step.{touched_by, names_of, task_of, admission_for}
 use Rattle.master_parts.specs.Calls.{bytes_of}
 use Rattle.tags_cell.specs.declared.messages.calls.Call.TheVariants as calls
@@ -20,7 +20,7 @@ use Rattle.master_parts.specs.declared.pending.Task.TheVariants as tasks
 use Rattle.master_parts.specs.declared.pending.Work.TheVariants as works
 
 -- what it touches: the names whose view it may change
-abbrev pub call_touched : List ℕ → Call → Option Touched
+abbrev pub call_touched : List ℕ → Call → Option TouchedNames
 call_touched secret (calls.Open opening) = option_map (λ create. WithParent opening.name) opening.create
 call_touched secret call = option_and_then (λ handle. touched_by handle call) (read_handle secret (bytes_of call))
 

@@ -17,15 +17,15 @@ use Rattle.tags_cell.specs.declared.messages.requests.Request.{Request}
 use Rattle.tags_cell.specs.declared.messages.outs.CallResult.{CallResult}
 use Rattle.tags_cell.specs.declared.messages.outs.Reply.{Reply}
 use Rattle.master_parts.specs.declared.pending.Taken.{Taken}
-use Rattle.session_core.specs.declared.records.Kept.{Kept}
+use Rattle.session_core.specs.declared.records.LastCall.{LastCall}
 use Rattle.session_core.specs.Session.{beat_fault, beaten, kept_answer, keeping}
 use Rattle.session_core.specs.Sessions.{with_session, issued_by}
-use Rattle.master_parts.specs.declared.pending.Asked.{Asked}
+use Rattle.master_parts.specs.declared.pending.WaitingRequest.{WaitingRequest}
 use Rattle.master_parts.specs.declared.pending.Task.{Task}
-use Rattle.master_parts.specs.declared.handles.Note.{Note}
+use Rattle.master_parts.specs.declared.handles.HandleNote.{HandleNote}
 use Rattle.cell_core.specs.declared.admissions.Admission.{Admission}
-use Rattle.cell_core.specs.declared.asking.Touched.{Touched}
-use Rattle.cell_core.specs.declared.asking.Touched.TheVariants.{Alone, WithParent}
+use Rattle.cell_core.specs.declared.asking.TouchedNames.{TouchedNames}
+use Rattle.cell_core.specs.declared.asking.TouchedNames.TheVariants.{Alone, WithParent}
 use Rattle.master_parts.specs.Keys.{key_of}
 use Rattle.master_state.specs.NameSpace.{name_space, caller}
 use Rattle.master_state.specs.State.{MasterState}
@@ -47,7 +47,7 @@ use Rattle.master_parts.specs.declared.pending.Work.TheVariants as works
 
 -- ---- what the master keeps
 
-abbrev pub recorded : MasterState → ℕ → Kept Reply → MasterState
+abbrev pub recorded : MasterState → ℕ → LastCall Reply → MasterState
 recorded s client kept = record s { sessions = with_session s.sessions client (keeping kept) }
 
 -- what waits behind all others, with the names that it touches
@@ -171,7 +171,7 @@ check_admission s bytes (Some fault) = answering (results.Refused fault)
 check_admission s bytes None = answering (check_answer (name_space s) bytes)
 
 -- what a call on a node touches: the names whose view it may change
-abbrev pub touched_by : Handle → Call → Option Touched
+abbrev pub touched_by : Handle → Call → Option TouchedNames
 touched_by handle (calls.Set bytes content generation) = Some (Alone handle.name)
 touched_by handle (calls.SetAcl bytes acls generation) = Some (Alone handle.name)
 touched_by handle (calls.Delete bytes) = Some (WithParent handle.name)
@@ -189,7 +189,7 @@ touched_by handle (calls.CheckSequencer bytes) = None
 touched_by handle calls.Leave = None
 
 -- a handle that is shown is open from then on, where nothing is noted of it yet
-abbrev pub shown_note : MasterState → Handle → List ℕ → Option Note
+abbrev pub shown_note : MasterState → Handle → List ℕ → Option HandleNote
 shown_note s handle bytes = if is_none (handle_state_of s (key_of handle)) then Some (open_note handle bytes) else None
 
 -- it is noted also where the call is refused
@@ -214,24 +214,24 @@ admission_for s message = admission_of s message.client message.number message.c
 
 -- ---- calls
 
-abbrev pub names_of : Option Touched → List (List ℕ)
+abbrev pub names_of : Option TouchedNames → List (List ℕ)
 names_of None = []
 names_of (Some (Alone name)) = name ∷ []
 names_of (Some (WithParent name)) = with_parent name
 
 -- what waits of a call: its sequencer is tested again when its turn comes
-abbrev pub task_of : CallMessage → Asked
+abbrev pub task_of : CallMessage → WaitingRequest
 task_of message = record { client = message.client; number = message.number; work = works.Calls message.call message.sequencer }
 
-abbrev pub with_call : MasterState → CallMessage → Option Touched → MasterState
+abbrev pub with_call : MasterState → CallMessage → Option TouchedNames → MasterState
 with_call s message touched = queued (recorded s message.client (record { number = message.number; reply = None })) (names_of touched) (tasks.Asked (task_of message))
 
 -- who holds a name that it touches is asked for it
-abbrev pub waits : MasterState → CallMessage → Option Touched → MasterState × Taken
+abbrev pub waits : MasterState → CallMessage → Option TouchedNames → MasterState × Taken
 waits s message touched = (asking_for (with_call s message touched) (names_of touched), nothing)
 
 -- a call that is answered at once, or waits where there is room
-abbrev pub admit_step : MasterState → CallMessage → Option Touched → Option (List ℕ) → Option CallResult → MasterState × Taken
+abbrev pub admit_step : MasterState → CallMessage → Option TouchedNames → Option (List ℕ) → Option CallResult → MasterState × Taken
 admit_step s message touched told (Some result) = telling s message.client message.number result told
 admit_step s message touched told None =
     if is_full s then replied s message.client message.number (results.Refused faults.Busy) else waits s message touched
@@ -245,13 +245,13 @@ new_call s message =
     if s.recovering then replied s message.client message.number (results.Refused faults.Recovering) else new_call_by s message (admission_for s message)
 
 -- by the last call of the client: it comes again, an older one comes, one comes while it waits, or a new one comes
-abbrev pub kept_step : MasterState → CallMessage → Result (Option (Kept Reply)) Fault → MasterState × Taken
+abbrev pub kept_step : MasterState → CallMessage → Result (Option (LastCall Reply)) Fault → MasterState × Taken
 kept_step s message (Err fault) = (s, refusal s message.client message.number fault)
 kept_step s message (Ok (Some kept)) = (s, repeated kept)
 kept_step s message (Ok None) = new_call s message
 
 -- of a session that has ended: the call by which its client ended it comes again, or there is none
-abbrev pub ended_step : MasterState → CallMessage → Result (Option (Kept Reply)) Fault → MasterState × Taken
+abbrev pub ended_step : MasterState → CallMessage → Result (Option (LastCall Reply)) Fault → MasterState × Taken
 ended_step s message (Ok (Some kept)) =
     if is_leave message.call && is_some kept.reply then (s, repeated kept) else (s, refusal s message.client message.number faults.NoSession)
 ended_step s message _ = (s, refusal s message.client message.number faults.NoSession)

@@ -7,9 +7,9 @@ ghost use Rattle.master_state.specs.NameSpace.{name_space};
 ghost use Rattle.master_state.specs.Lookups.{sequencer_fault, is_of_cell};
 ghost use Rattle.master_parts.specs.Calls.{bytes_of};
 
-use crate::asking::Touched;
+use crate::asking::TouchedNames;
 use collections::Bytes;
-use master_parts::{HandleKey, Note, OpenHandle, bytes_of, create_fault};
+use master_parts::{HandleKey, HandleNote, OpenHandle, bytes_of, create_fault};
 use master_state::Master;
 use names_cell::Name;
 use node_core::Fault;
@@ -20,9 +20,9 @@ use tags_cell::{Call, CallMessage, CallResult, ClientNumber, Handle, MessageNumb
 #[derive(Drop)]
 pub(crate) struct Admission {
     /// What is noted of a handle first.
-    pub note: Option<Note>,
+    pub note: Option<HandleNote>,
     /// The names whose view the call may change, where it waits.
-    pub touched: Option<Touched>,
+    pub touched: Option<TouchedNames>,
     /// The name of which the answer tells what it shows: the view of its node, or that there is none.
     pub told: Option<Name>,
     /// What is answered at once; None where the call waits for its turn.
@@ -112,7 +112,11 @@ fn check_admission(
 }
 
 // It is open from then on, where nothing is noted of it yet.
-fn shown_note(master: &Master, handle: &Handle, bytes: &[u8]) -> Result<Option<Note>, AllocError>
+fn shown_note(
+    master: &Master,
+    handle: &Handle,
+    bytes: &[u8],
+) -> Result<Option<HandleNote>, AllocError>
     requires { read_handle master.now.secret bytes.now ≡ Some handle.now }
     ensures { IfOk result (λ note. note ≡ shown_note master.now handle.now bytes.now) }
 {
@@ -153,7 +157,7 @@ fn admission_of_open(
         None => plain_admission(master, client, number, opening),
         Some(create) => Ok(Admission {
             note: None,
-            touched: Some(Touched::WithParent(opening.name.clone()?)),
+            touched: Some(TouchedNames::WithParent(opening.name.clone()?)),
             told: None,
             answer: create_fault(opening, &create.node),
         }),
@@ -180,12 +184,14 @@ fn plain_admission(
 }
 
 // What a call on a handle's node touches.
-fn touched_by(handle: &Handle, call: &Call) -> Result<Option<Touched>, AllocError>
+fn touched_by(handle: &Handle, call: &Call) -> Result<Option<TouchedNames>, AllocError>
     ensures { IfOk result (λ touched. touched ≡ touched_by handle.now call.now) }
 {
     match call {
-        Call::Set { .. } | Call::SetAcl { .. } => Ok(Some(Touched::Alone(handle.name.clone()?))),
-        Call::Delete(_) => Ok(Some(Touched::WithParent(handle.name.clone()?))),
+        Call::Set { .. } | Call::SetAcl { .. } => Ok(Some(TouchedNames::Alone(
+            handle.name.clone()?,
+        ))),
+        Call::Delete(_) => Ok(Some(TouchedNames::WithParent(handle.name.clone()?))),
         Call::Open(_) | Call::Close(_) | Call::Read(_) | Call::Stat(_) | Call::List(_) => Ok(None),
         Call::Acquire { .. } | Call::TryAcquire { .. } | Call::Release(_) => Ok(None),
         Call::GetSequencer(_) | Call::SetSequencer(_) | Call::CheckSequencer(_) => Ok(None),

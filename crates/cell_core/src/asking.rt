@@ -14,7 +14,7 @@ use std::alloc::{AllocError, Global};
 
 /// What a change that waits touches: the names whose view it may change (Burrows 2006, section 2.7).
 #[derive(Drop)]
-pub enum Touched {
+pub enum TouchedNames {
     /// The node of this name changes.
     Alone(Name),
     /// The node of this name comes or goes, and is listed above it.
@@ -23,7 +23,7 @@ pub enum Touched {
 
 /// Who is asked for a name, each with the number of its next invalidation.
 #[derive(Drop)]
-pub(crate) struct Asked {
+pub(crate) struct AskedBack {
     pub name: Name,
     pub clients: Table<u64, u64>,
 }
@@ -31,15 +31,15 @@ pub(crate) struct Asked {
 /// Who is to be asked for what a change touches.
 #[derive(Drop)]
 pub(crate) struct ToAsk {
-    pub first: Asked,
-    pub above: Option<Asked>,
+    pub first: AskedBack,
+    pub above: Option<AskedBack>,
 }
 
-impl Touched {
+impl TouchedNames {
     /// The name of the node that changes, comes or goes.
     pub(crate) fn name(&self) -> &Name {
         match self {
-            Touched::Alone(name) | Touched::WithParent(name) => name,
+            TouchedNames::Alone(name) | TouchedNames::WithParent(name) => name,
         }
     }
 
@@ -48,8 +48,8 @@ impl Touched {
     {
         let mut names = Items::new(alloc);
         match self {
-            Touched::Alone(name) => names.push(name.clone()?)?,
-            Touched::WithParent(name) => {
+            TouchedNames::Alone(name) => names.push(name.clone()?)?,
+            TouchedNames::WithParent(name) => {
                 names.push(name.clone()?)?;
                 if let Some(parent) = name.parent()? {
                     names.push(parent)?;
@@ -65,11 +65,11 @@ impl Touched {
         ensures fits { IfOk result (IsToAsk master.now.rights) }
     {
         match self {
-            Touched::Alone(name) => Ok(ToAsk {
+            TouchedNames::Alone(name) => Ok(ToAsk {
                 first: to_ask_for(master, name)?,
                 above: None,
             }),
-            Touched::WithParent(name) => with_parent(master, name),
+            TouchedNames::WithParent(name) => with_parent(master, name),
         }
     }
 }
@@ -89,7 +89,7 @@ fn with_parent(master: &Master, name: &Name) -> Result<ToAsk, AllocError>
 }
 
 // Who is asked for the name above.
-fn to_ask_above(master: &Master, name: &Name) -> Result<Option<Asked>, AllocError>
+fn to_ask_above(master: &Master, name: &Name) -> Result<Option<AskedBack>, AllocError>
     ensures name { IfOk result (λ above. option_map (λ asked. asked.name) above ≡ parent_of name.now) }
     ensures fits { IfOk result (AboveFits master.now.rights name.now) }
 {
@@ -100,11 +100,11 @@ fn to_ask_above(master: &Master, name: &Name) -> Result<Option<Asked>, AllocErro
     }
 }
 
-fn to_ask_for(master: &Master, name: &Name) -> Result<Asked, AllocError>
+fn to_ask_for(master: &Master, name: &Name) -> Result<AskedBack, AllocError>
     ensures { IfOk result (λ asked. asked ≡ record { name = name.now; clients = clients_to_ask name.now master.now.rights }) }
 {
     let clients = master.rights().to_ask(name)?;
-    Ok(Asked {
+    Ok(AskedBack {
         name: name.clone()?,
         clients,
     })
@@ -123,21 +123,21 @@ pub(crate) fn ask(master: &mut Master, asks: ToAsk)
     }
 }
 
-fn ask_one(master: &mut Master, asked: Asked)
+fn ask_one(master: &mut Master, asked: AskedBack)
     requires { asked.clients ≡ clients_to_ask asked.name master.old.rights }
     ensures { master.new ≡ asking master.old asked.name }
 {
-    let Asked { name, clients } = asked;
+    let AskedBack { name, clients } = asked;
     master.tables.mark(&name, &clients);
     master.tables.issue_all(&clients);
 }
 
 // Who is asked for both names is asked for this one by the invalidation behind the first.
-fn ask_above(master: &mut Master, asked: Asked)
+fn ask_above(master: &mut Master, asked: AskedBack)
     requires { renumbered master.old.rights asked.clients ≡ clients_to_ask asked.name master.old.rights }
     ensures { master.new ≡ asking master.old asked.name }
 {
-    let Asked { name, mut clients } = asked;
+    let AskedBack { name, mut clients } = asked;
     master.rights().renumber(&mut clients);
-    ask_one(master, Asked { name, clients });
+    ask_one(master, AskedBack { name, clients });
 }

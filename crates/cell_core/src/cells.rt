@@ -8,8 +8,8 @@ ghost use Rattle.master_state.specs.Updates.{BeginsNew, grown, undone, rest_of, 
 
 use crate::stored::{locks_of, sessions_of};
 use collections::Items;
-use master_parts::{Nodes, Tables, Telling};
-use master_state::{Former, Grown, Master, Rest, Update, finish, grow, settle, undo};
+use master_parts::{Nodes, SessionEvent, Tables};
+use master_state::{FormerParts, Grown, Master, Rest, Update, finish, grow, settle, undo};
 use rows_cell::{MasterTerms, Rows};
 use std::alloc::{AllocError, Global};
 use std::marker::Model;
@@ -17,11 +17,11 @@ use std::marker::Model;
 /// A master in memory, which changes by messages, updates and moments alone. All that is known of it is looked up in
 /// `Master`, lent to be read. It commits nothing by itself.
 #[derive(Drop)]
-pub struct Cell {
+pub struct MemoryMaster {
     pub(crate) master: Master,
 }
 
-impl Model for Cell {
+impl Model for MemoryMaster {
     ghost use Rattle.master_state.specs.State.{MasterState};
 
     ghost Value = { MasterState };
@@ -29,7 +29,7 @@ impl Model for Cell {
     ghost view = { λ c. c.master };
 }
 
-impl Cell {
+impl MemoryMaster {
     /// A master that comes up with these rows, by its terms, the moment in milliseconds: nothing waits, no right is held, and
     /// it knows of no call and of no handle. To each live session it issues its first event, which tells that
     /// it is up, and where there is one it is in recovery.
@@ -38,7 +38,7 @@ impl Cell {
         rows: Rows,
         terms: MasterTerms,
         now: u64,
-    ) -> Result<Cell, AllocError>
+    ) -> Result<MemoryMaster, AllocError>
         requires range { (least_lease ≤ terms.lease) × (terms.lease ≤ longest_lease) }
         requires moment { IsMoment now }
         ensures { IfOk result (λ cell. cell ≡ master_of rows terms now) }
@@ -67,7 +67,7 @@ impl Cell {
             clock: now,
             serving_from: now,
         };
-        Ok(Cell { master })
+        Ok(MemoryMaster { master })
     }
 
     /// What the master is, to be looked up in.
@@ -111,7 +111,7 @@ impl Cell {
 
     /// Queues the events in the sessions of their clients; one whose session has ended is told of nothing. Takes no
     /// memory.
-    pub fn tell(&mut self, tellings: Items<Telling>)
+    pub fn tell(&mut self, tellings: Items<SessionEvent>)
         ensures { self.new ≡ with_tellings self.old tellings }
     {
         self.master.tell(tellings);
@@ -129,14 +129,14 @@ impl Cell {
     }
 
     /// Takes an update back that was begun and not finished. Takes no memory.
-    pub fn undo(&mut self, former: Former)
+    pub fn undo(&mut self, former: FormerParts)
         ensures { self.new ≡ undone self.old former }
     {
         undo(&mut self.master, former);
     }
 
     /// What was kept for taking an update back is forgotten. To be called behind the commit. Takes no memory.
-    pub fn settle(&mut self, former: Former)
+    pub fn settle(&mut self, former: FormerParts)
         ensures { self.new ≡ self.old }
     {
         settle(&mut self.master, former);

@@ -8,7 +8,7 @@ use crate::locks::close_at;
 use crate::writes::change_on;
 use collections::{Bytes, Items};
 use lock_core::{Claim, Turn};
-use master_parts::{Note, bytes_of, create_fault};
+use master_parts::{HandleNote, bytes_of, create_fault};
 use master_state::{Change, LockPut, Master};
 use names_cell::Name;
 use node_core::{Fault, Mod};
@@ -44,7 +44,7 @@ pub enum Locking {
 #[derive(Drop)]
 pub struct Effect {
     /// What is noted of a handle.
-    pub note: Option<Note>,
+    pub note: Option<HandleNote>,
     /// None where the call is refused, or there is nothing to change.
     pub change: Option<Change>,
     pub locking: Locking,

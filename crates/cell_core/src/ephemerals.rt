@@ -6,10 +6,10 @@ ghost use Rattle.master_parts.specs.Ephemerals.{idle_of};
 ghost use Rattle.cell_core.specs.Step.{queued, names_of};
 ghost use Rattle.cell_core.specs.Ephemerals.{is_to_go, is_ok, may_tidy, next_idle, tidied, is_still_idle};
 
-use crate::asking::{Touched, ask};
-use crate::cells::Cell;
+use crate::asking::{TouchedNames, ask};
+use crate::cells::MemoryMaster;
 use crate::takes::queue;
-use master_parts::{Idle, Task};
+use master_parts::{Orphan, Task};
 use master_state::Master;
 use std::alloc::AllocError;
 
@@ -17,11 +17,11 @@ use std::alloc::AllocError;
 /// shown its handle, or its session has ended.
 pub const SPARED_FOR: u64 = 60_000;
 
-impl Cell {
+impl MemoryMaster {
     /// The first ephemeral node by name that goes: nobody holds it open, it has no children and isn't the root, and the
     /// cell doesn't wait to delete it yet. None in recovery, nor within 60,000 ms from its end or from the master's
     /// coming up without one, nor where no change has room.
-    pub fn next_idle(&self) -> Result<Option<Idle>, AllocError>
+    pub fn next_idle(&self) -> Result<Option<Orphan>, AllocError>
         ensures { IfOk result (λ idle. idle ≡ next_idle self.now) }
     {
         let master = &self.master;
@@ -33,7 +33,7 @@ impl Cell {
     }
 
     /// Whether the node may still go when its turn comes: the same node is there, and nobody holds it open again.
-    pub fn is_still_idle(&self, idle: &Idle) -> Result<bool, AllocError>
+    pub fn is_still_idle(&self, idle: &Orphan) -> Result<bool, AllocError>
         ensures { IfOk result (λ still. still ≡ is_still_idle self.now idle.now) }
     {
         let master = &self.master;
@@ -48,13 +48,13 @@ impl Cell {
 
     /// The deletion of an ephemeral node waits behind all other changes, and who may keep its name in a cache, or the
     /// one above, is asked for it.
-    pub fn tidy(&mut self, idle: Idle) -> Result<(), AllocError>
+    pub fn tidy(&mut self, idle: Orphan) -> Result<(), AllocError>
         requires { is_ok (push_answer self.old.gate) ≡ true }
         ensures ok { OnOk result (self.new ≡ tidied self.old idle) }
         ensures err { OnErr result (self.new ≡ self.old) }
     {
         let master = &mut self.master;
-        let touched = Touched::WithParent(idle.name.clone()?);
+        let touched = TouchedNames::WithParent(idle.name.clone()?);
         let asks = touched.to_ask(master)?;
         match queue_idle(master, &touched, idle) {
             Ok(()) => {
@@ -70,7 +70,7 @@ impl Cell {
     }
 }
 
-fn queue_idle(master: &mut Master, touched: &Touched, idle: Idle) -> Result<(), AllocError>
+fn queue_idle(master: &mut Master, touched: &TouchedNames, idle: Orphan) -> Result<(), AllocError>
     requires { is_ok (push_answer master.old.gate) ≡ true }
     ensures ok { OnOk result (master.new ≡ queued master.old (names_of (Some touched.now)) (Task.Tidies idle)) }
     ensures err { OnErr result (master.new ≡ master.old) }
@@ -93,7 +93,7 @@ fn may_tidy(master: &Master) -> bool
 }
 
 // The first node by name that is to go.
-fn first_to_go(master: &Master) -> Result<Option<Idle>, AllocError>
+fn first_to_go(master: &Master) -> Result<Option<Orphan>, AllocError>
     ensures { IfOk result (λ idle. idle ≡ option_map idle_of (find (is_to_go master.now) master.now.nodes)) }
 {
     master.tables.first_to_go()

@@ -18,8 +18,8 @@ mod takes;
 mod writes;
 
 pub use answers::{Answers, Thrice};
-pub use asking::Touched;
-pub use cells::Cell;
+pub use asking::TouchedNames;
+pub use cells::MemoryMaster;
 pub use effects::{Effect, Leave, Locking, effect_of};
 pub use ephemerals::SPARED_FOR;
 pub use laws::{limits_hold, limits_only_refuse, queues_what_it_touches};

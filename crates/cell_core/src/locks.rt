@@ -9,7 +9,7 @@ use crate::effects::{Effect, Leave, Locking};
 use crate::room::lock_fault;
 use collections::Items;
 use lock_core::{Acquired, Claim, Lock, Turn};
-use master_parts::{HandleKey, HandleState, Idle, Note, claim_of, owner_of};
+use master_parts::{HandleKey, HandleNote, HandleState, Orphan, claim_of, owner_of};
 use master_state::{Change, LockPut, Master};
 use node_core::{Fault, LockMode, Mod};
 use std::alloc::AllocError;
@@ -108,7 +108,7 @@ pub(crate) fn close_at(master: &Master, handle: &Handle) -> Result<Effect, Alloc
 {
     let locking = close_by(master, handle)?;
     Ok(Effect {
-        note: Some(Note {
+        note: Some(HandleNote {
             key: HandleKey::of(handle),
             state: HandleState::Closed,
         }),
@@ -151,7 +151,7 @@ pub(crate) fn deleted(master: &Master, handle: &Handle) -> Result<Effect, AllocE
 }
 
 /// An ephemeral node that nobody holds open goes as one that is deleted, and nobody asked for it.
-pub fn gone_by_itself(master: &Master, idle: &Idle) -> Result<Effect, AllocError>
+pub fn gone_by_itself(master: &Master, idle: &Orphan) -> Result<Effect, AllocError>
     ensures { IfOk result (λ done. done ≡ gone_by_itself (name_space master.now) idle.now) }
 {
     let waiters = waiters_of(master, idle.instance)?;

@@ -9,23 +9,23 @@ ghost use Rattle.cell_core.specs.Ephemerals.{is_ok};
 
 use crate::admissions::{Admission, admission_for};
 use crate::answers::{Answers, Thrice};
-use crate::asking::{Touched, ask};
-use crate::cells::Cell;
+use crate::asking::{TouchedNames, ask};
+use crate::cells::MemoryMaster;
 use collections::Items;
 use gate_core::Pending;
 use lease_core::MOMENT_LIMIT;
-use master_parts::{Asked, Note, Taken, Task, Work, answered_by, is_leave};
+use master_parts::{HandleNote, Taken, Task, WaitingRequest, Work, answered_by, is_leave};
 use master_state::{Master, settle_note};
 use names_cell::Name;
 use node_core::Fault;
 use rights_core::Ending;
-use session_core::Kept;
+use session_core::LastCall;
 use std::alloc::AllocError;
 use tags_cell::{
     Beat, CallMessage, CallResult, ClientNumber, MessageNumber, Reply, Request, Start,
 };
 
-impl Cell {
+impl MemoryMaster {
     /// One step by a request that came. A moment, in milliseconds, that is earlier than the last one counts as that;
     /// one of 2^53 or more is refused as Exhausted, and so is every request once 2^63-1 changes have waited, as many
     /// rights were granted, or a session has as many events. Nothing is committed.
@@ -95,7 +95,7 @@ fn take_start<A: Answers>(master: &mut Master, start: &Start) -> Result<A, Alloc
         return A::of(master.turned_away(start.client, start.number, Fault::Busy)?);
     }
     let work = Work::Starts(start.principal.clone()?, master.clock);
-    let asked = Asked {
+    let asked = WaitingRequest {
         client: start.client,
         number: start.number,
         work,
@@ -164,7 +164,7 @@ fn of_ended(master: &Master, message: &CallMessage) -> Result<Taken, AllocError>
 fn left_before(
     master: &Master,
     message: &CallMessage,
-    kept: &Kept<Reply>,
+    kept: &LastCall<Reply>,
 ) -> Result<Taken, AllocError>
     ensures { IfOk result (λ taken. ended_step master.now message.now (Ok (Some kept.now)) ≡ (master.now, taken)) }
 {
@@ -216,9 +216,9 @@ fn new_call<A: Answers>(master: &mut Master, message: &CallMessage) -> Result<A,
 // What is noted of the call's handle is taken back where memory is refused.
 fn admit_noted<A: Answers>(
     master: &mut Master,
-    note: Note,
+    note: HandleNote,
     message: &CallMessage,
-    touched: Option<Touched>,
+    touched: Option<TouchedNames>,
     told: Option<Name>,
     answer: Option<CallResult>,
 ) -> Result<A, AllocError>
@@ -226,7 +226,7 @@ fn admit_noted<A: Answers>(
     ensures ok { IfOk result (λ taken. admit_step (with_note master.old (Some note)) message.now touched told answer ≡ (master.new, A.answer taken)) }
     ensures err { OnErr result (master.new ≡ master.old) }
 {
-    let Note { key, state } = note;
+    let HandleNote { key, state } = note;
     let former = master.tables.put_handle(key, state)?;
     match admit(master, message, touched, told, answer) {
         Ok(taken) => {
@@ -244,7 +244,7 @@ fn admit_noted<A: Answers>(
 fn admit<A: Answers>(
     master: &mut Master,
     message: &CallMessage,
-    touched: Option<Touched>,
+    touched: Option<TouchedNames>,
     told: Option<Name>,
     answer: Option<CallResult>,
 ) -> Result<A, AllocError>
@@ -334,7 +334,7 @@ fn hold(master: &mut Master, client: ClientNumber, name: &Name) -> Result<(), Al
 fn wait<A: Answers>(
     master: &mut Master,
     message: &CallMessage,
-    touched: Option<Touched>,
+    touched: Option<TouchedNames>,
 ) -> Result<A, AllocError>
     requires room { is_full master.old ≡ false }
     requires more { is_spent master.old ≡ false }
@@ -355,7 +355,7 @@ fn wait<A: Answers>(
 fn wait_quietly(
     master: &mut Master,
     message: &CallMessage,
-    touched: Option<Touched>,
+    touched: Option<TouchedNames>,
 ) -> Result<(), AllocError>
     requires room { is_full master.old ≡ false }
     requires more { is_spent master.old ≡ false }
@@ -381,7 +381,7 @@ fn wait_quietly(
 fn queue_touching(
     master: &mut Master,
     message: &CallMessage,
-    touched: &Touched,
+    touched: &TouchedNames,
 ) -> Result<(), AllocError>
     requires room { is_full master.old ≡ false }
     requires more { is_spent master.old ≡ false }
@@ -406,13 +406,13 @@ fn queue_call(
     let client = message.client;
     let number = message.number;
     let work = work_of(message)?;
-    let asked = Asked {
+    let asked = WaitingRequest {
         client,
         number,
         work,
     };
     queue(master, touched, Task::Asked(asked))?;
-    let kept = Kept {
+    let kept = LastCall {
         number,
         reply: None,
     };

@@ -13,10 +13,10 @@ use Rattle.rows_cell.specs.Settings.{Settled}
 use Rattle.rows_cell.specs.Stores.{Store}
 use Rattle.world_steps.specs.World.{WorldView, IsUndoubted, opened, store_in}
 use Rattle.scripts.specs.Ran.{EndsWith, EndsWell, EndsSurely}
-use Rattle.hosting.specs.declared.seats.Seat.{Seat}
-use Rattle.hosting.specs.declared.seats.Seat.TheVariants.{Down}
+use Rattle.hosting.specs.declared.seats.HostedMaster.{HostedMaster}
+use Rattle.hosting.specs.declared.seats.HostedMaster.TheVariants.{Down}
 use Rattle.hosting.specs.Seats.{Hosted, hosted, without_master}
-use Rattle.hosting.specs.declared.stops.Stop.TheVariants.{NoMemory}
+use Rattle.hosting.specs.declared.stops.StreamStop.TheVariants.{NoMemory}
 use Rattle.hosting.specs.declared.stops.GroupStop.{GroupStop}
 use Rattle.hosting.specs.declared.stops.GroupStop.TheVariants.{Stopped}
 use Rattle.hosting.specs.Groups.{EndsGroups}
@@ -127,7 +127,7 @@ module _ (terms : GroupTerms) (text before after : Known) (status : ℕ) (first 
       (omega (arith, grown, from, to, sure), frames_led)
 
 -- over rows that nobody closes
-pub frames_ended : {R : Type 0} (store : R → Store) (terms : GroupTerms) (text before after : Known) (status : ℕ) (records : R) (seat : Seat R) → EndsServing terms text before after status (hosted store (Down records)) (hosted store seat)
+pub frames_ended : {R : Type 0} (store : R → Store) (terms : GroupTerms) (text before after : Known) (status : ℕ) (records : R) (seat : HostedMaster R) → EndsServing terms text before after status (hosted store (Down records)) (hosted store seat)
     → EndsFrames terms text status before after
 frames_ended store terms text before after status records seat served =
     let new = hosted store seat in

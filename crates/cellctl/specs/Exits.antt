@@ -1,8 +1,8 @@
 -- How the program ends.
 use Rattle.std.specs.Prelude.{◌≡◌, ◌⊎◌, ⊤, ℕ}
 use Rattle.scripts.specs.Stops.{IsStatus}
-use Rattle.cellctl.specs.declared.troubles.Subject.{Subject}
-use Rattle.cellctl.specs.declared.troubles.Subject.TheVariants.{Store, Pipe, Rows, Script, Settings}
+use Rattle.cellctl.specs.declared.troubles.TroubleSubject.{TroubleSubject}
+use Rattle.cellctl.specs.declared.troubles.TroubleSubject.TheVariants.{Store, Pipe, Rows, Script, Settings}
 
 -- as a script does, by a command line or settings that aren't any, by a store that is refused, or by a run of threads that is
 abbrev pub IsExit : ℕ → Type 0
@@ -21,13 +21,13 @@ abbrev pub IsShut : ℕ → Type 0
 IsShut status = (status ≡ 3) ⊎ (status ≡ 4)
 
 -- a trouble is with what somebody wrote
-abbrev pub IsOfText : Subject → Type 0
+abbrev pub IsOfText : TroubleSubject → Type 0
 IsOfText Script = ⊤
 IsOfText Settings = ⊤
 IsOfText subject = ⊥
 
 -- a trouble is with rows, or with the way to them
-abbrev pub IsOfRows : Subject → Type 0
+abbrev pub IsOfRows : TroubleSubject → Type 0
 IsOfRows Store = ⊤
 IsOfRows Pipe = ⊤
 IsOfRows Rows = ⊤

@@ -4,7 +4,7 @@ use Rattle.rows_cell.specs.declared.settings.MasterTerms.{MasterTerms}
 use Rattle.rows_cell.specs.Stores.{Store}
 use Rattle.world_steps.specs.World.{WorldView, opened, store_in}
 use Rattle.scripts.specs.Ran.{EndsWith, EndsWell, EndsSurely}
-use Rattle.hosting.specs.declared.stops.Stop.TheVariants as stops
+use Rattle.hosting.specs.declared.stops.StreamStop.TheVariants as stops
 use Rattle.hosting.specs.declared.stops.GroupStop.{GroupStop}
 use Rattle.hosting.specs.declared.stops.GroupStop.TheVariants.{Stopped, Refused}
 use Rattle.hosting.specs.Seats.{Hosted, without_master}

@@ -4,7 +4,7 @@ ghost use Rattle.std.specs.Prelude.{IfErr};
 ghost use Rattle.cellctl.specs.Exits.{IsExit, IsShut};
 
 use crate::findings::tell_other_cell;
-use crate::looks::{Seen, content_of, seen_in};
+use crate::looks::{FoundRow, content_of, seen_in};
 use crate::settings::Chosen;
 use crate::stores::remove_empty;
 use crate::texts::{KNOWN_SECRET, OTHER_PRINCIPALS};
@@ -146,7 +146,7 @@ fn admit_quietly<S: Alter>(
     }
 }
 
-fn admit_seen(rt: &HostRuntime, chosen: &Chosen, path: &str, seen: &Seen) -> Result<(), u8>
+fn admit_seen(rt: &HostRuntime, chosen: &Chosen, path: &str, seen: &FoundRow) -> Result<(), u8>
     ensures exit { IfErr result IsExit }
     ensures shut { IfErr result IsShut }
 {

@@ -11,9 +11,9 @@ use crate::pipes::serve_rows;
 use crate::serves::serve_path;
 use crate::settings::settings;
 use crate::sources::Source;
-use crate::stores::{Asked, run_printing};
+use crate::stores::{ScriptAsked, run_printing};
 use crate::texts::Trouble;
-use crate::troubles::{Subject, tell, trouble_of};
+use crate::troubles::{TroubleSubject, tell, trouble_of};
 use crate::words::program;
 use anyhow::{Context, Result, bail};
 use clap::ArgMatches;
@@ -143,7 +143,7 @@ fn run_script(rt: &HostRuntime, words: &ArgMatches<'_>) -> Result<u8>
     match settings(rt, words.get_str("settings")) {
         Ok(chosen) => match source_of(rt, words.get_str("FILE")) {
             Ok(source) => {
-                let asked = Asked {
+                let asked = ScriptAsked {
                     source,
                     is_traced: words.get_flag("trace"),
                 };
@@ -173,7 +173,7 @@ fn input_of(rt: &HostRuntime) -> Result<Source, u8>
 {
     match Source::input(rt.alloc(), rt.stdin(), rt.stderr()) {
         Ok(source) => Ok(source),
-        Err(_) => Err(tell(rt, Subject::Script, "-", Trouble::NoMemory)),
+        Err(_) => Err(tell(rt, TroubleSubject::Script, "-", Trouble::NoMemory)),
     }
 }
 
@@ -182,11 +182,11 @@ fn file_of(rt: &HostRuntime, path: &str) -> Result<Source, u8>
     ensures unset { IfErr result IsUnset }
 {
     if is_folder(rt, path) {
-        return Err(tell(rt, Subject::Script, path, Trouble::IsFolder));
+        return Err(tell(rt, TroubleSubject::Script, path, Trouble::IsFolder));
     }
     match File::open(rt, path) {
         Ok(file) => Ok(Source::File(file)),
-        Err(error) => Err(tell(rt, Subject::Script, path, trouble_of(error.kind()))),
+        Err(error) => Err(tell(rt, TroubleSubject::Script, path, trouble_of(error.kind()))),
     }
 }
 

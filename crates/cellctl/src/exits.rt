@@ -1,7 +1,7 @@
 //! How the program ends where something can't be read or written.
 ghost use Rattle.cellctl.specs.Exits.{IsExit, IsUnwritten, IsUnset};
 
-use crate::troubles::{Subject, output_trouble, tell};
+use crate::troubles::{TroubleSubject, output_trouble, tell};
 use std::io;
 
 /// Why the command line or the settings can't be read: there is no memory for it, or it is theirs.
@@ -20,5 +20,5 @@ pub(crate) fn tell_unwritten(rt: &HostRuntime, error: &io::Error) -> u8
     ensures exit { IsExit result }
     ensures unwritten { IsUnwritten result }
 {
-    tell(rt, Subject::Output, "", output_trouble(error))
+    tell(rt, TroubleSubject::Output, "", output_trouble(error))
 }

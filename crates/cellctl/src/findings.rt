@@ -2,9 +2,9 @@
 ghost use Rattle.cellctl.specs.Exits.{IsExit, IsShut};
 
 use crate::check::has_journal;
-use crate::looks::{Foreign, Seen, foreign_in, open_bytes, seen_in};
+use crate::looks::{Foreign, FoundRow, foreign_in, open_bytes, seen_in};
 use crate::texts::{FOREIGN, OTHER_CELL, Trouble};
-use crate::troubles::{Subject, tell, trouble_of};
+use crate::troubles::{TroubleSubject, tell, trouble_of};
 use names_cell::Component;
 use sqlite::{Error, ErrorCode};
 use std::alloc::{AllocError, Global};
@@ -35,7 +35,7 @@ pub(crate) fn tell_finding(rt: &HostRuntime, cell: &Component, path: &str, findi
     ensures shut { IsShut result }
 {
     match finding {
-        Finding::Plain(trouble) => tell(rt, Subject::Store, path, *trouble),
+        Finding::Plain(trouble) => tell(rt, TroubleSubject::Store, path, *trouble),
         Finding::OtherCell(theirs) => tell_other_cell(rt, cell, path, theirs.as_str()),
         Finding::Foreign(foreign) => tell_foreign(rt, path, foreign),
     }
@@ -58,8 +58,8 @@ fn tell_foreign(rt: &HostRuntime, path: &str, foreign: &Foreign) -> u8
     ensures shut { IsShut result }
 {
     match foreign {
-        Foreign::Empty => tell(rt, Subject::Store, path, Trouble::NoTable),
-        Foreign::Otherwise => tell(rt, Subject::Store, path, Trouble::OtherTables),
+        Foreign::Empty => tell(rt, TroubleSubject::Store, path, Trouble::NoTable),
+        Foreign::Otherwise => tell(rt, TroubleSubject::Store, path, Trouble::OtherTables),
         Foreign::Table(table) => {
             let _ = eprintln!(rt;
                 "cellctl: the store {path}: it has the table {table:?}, which no store has"
@@ -130,11 +130,11 @@ fn found_in(alloc: Global, cell: &Component, database: &[u8], log: &[u8]) -> Fin
 }
 
 // The tables are those of a store: it is another cell's, or a row breaks a rule.
-fn whose(cell: &Component, seen: Option<Seen>) -> Finding {
+fn whose(cell: &Component, seen: Option<FoundRow>) -> Finding {
     let Some(seen) = seen else {
         return Finding::Plain(Trouble::DamagedRow);
     };
-    let Seen {
+    let FoundRow {
         cell: theirs,
         has_known_secret: _,
     } = seen;

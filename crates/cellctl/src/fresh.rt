@@ -2,7 +2,7 @@
 ghost use Rattle.std.specs.Prelude.{IfErr, IfOk};
 ghost use Rattle.cellctl.specs.Exits.{IsExit};
 
-use crate::troubles::{Subject, tell, trouble_of};
+use crate::troubles::{TroubleSubject, tell, trouble_of};
 use std::alloc::{AllocError, Global};
 use std::fs::{File, OpenOptions};
 use std::io::{self, Write};
@@ -28,7 +28,7 @@ pub(crate) fn write_fresh(rt: &HostRuntime, path: &str) -> u8
 {
     match try_write(rt, path) {
         Ok(()) => 0,
-        Err(error) => tell(rt, Subject::Settings, path, trouble_of(error.kind())),
+        Err(error) => tell(rt, TroubleSubject::Settings, path, trouble_of(error.kind())),
     }
 }
 

@@ -30,7 +30,7 @@ enum Form {
 
 // A place in a line: what may stand there.
 #[derive(Clone, Copy)]
-enum Place {
+enum WordPlace {
     Step,
     Moment,
     Cut,
@@ -77,245 +77,272 @@ enum Place {
 
 // What stands at a place: words that say it, whether the line may end before it, and the forms of a word, each with the place
 // behind it.
-type Told = (&'static str, bool, &'static [(Form, Place)]);
+type PlaceWords = (&'static str, bool, &'static [(Form, WordPlace)]);
 
-// What stands at each place, in the order of `Place`.
-const ENTRIES: &[Told] = &[
+// What stands at each place, in the order of `WordPlace`.
+const ENTRIES: &[PlaceWords] = &[
     (
         "a step: up, down, cut, tick, join, ask, beat, take, give, sweep or settle",
         false,
         &[
-            (Form::Is("up"), Place::Moment),
-            (Form::Is("down"), Place::End),
-            (Form::Is("cut"), Place::Cut),
-            (Form::Is("tick"), Place::MasterTick),
-            (Form::Is("join"), Place::Joiner),
-            (Form::Is("ask"), Place::Asker),
-            (Form::Is("beat"), Place::Client),
-            (Form::Is("take"), Place::Message),
-            (Form::Is("give"), Place::Message),
-            (Form::Is("sweep"), Place::End),
-            (Form::Is("settle"), Place::End),
+            (Form::Is("up"), WordPlace::Moment),
+            (Form::Is("down"), WordPlace::End),
+            (Form::Is("cut"), WordPlace::Cut),
+            (Form::Is("tick"), WordPlace::MasterTick),
+            (Form::Is("join"), WordPlace::Joiner),
+            (Form::Is("ask"), WordPlace::Asker),
+            (Form::Is("beat"), WordPlace::Client),
+            (Form::Is("take"), WordPlace::Message),
+            (Form::Is("give"), WordPlace::Message),
+            (Form::Is("sweep"), WordPlace::End),
+            (Form::Is("settle"), WordPlace::End),
         ],
     ),
     (
         "the master's clock, a number of milliseconds",
         false,
-        &[(Form::Number, Place::End)],
+        &[(Form::Number, WordPlace::End)],
     ),
     (
         "what is cut: sweep or up",
         false,
         &[
-            (Form::Is("sweep"), Place::Commit),
-            (Form::Is("up"), Place::CutMoment),
+            (Form::Is("sweep"), WordPlace::Commit),
+            (Form::Is("up"), WordPlace::CutMoment),
         ],
     ),
     (
         "the master's clock, a number of milliseconds",
         false,
-        &[(Form::Number, Place::Commit)],
+        &[(Form::Number, WordPlace::Commit)],
     ),
     (
         "kept or lost",
         false,
         &[
-            (Form::Is("kept"), Place::End),
-            (Form::Is("lost"), Place::End),
+            (Form::Is("kept"), WordPlace::End),
+            (Form::Is("lost"), WordPlace::End),
         ],
     ),
     (
         "by how many milliseconds the master's clock moves",
         false,
-        &[(Form::Number, Place::ClientsTick)],
+        &[(Form::Number, WordPlace::ClientsTick)],
     ),
     (
         "by how many milliseconds the clients' clocks move",
         false,
-        &[(Form::Number, Place::OwnTick)],
+        &[(Form::Number, WordPlace::OwnTick)],
     ),
     (
         "a client's number, a colon and by how many milliseconds its clock moves, or nothing",
         true,
-        &[(Form::Tick, Place::OwnTick)],
+        &[(Form::Tick, WordPlace::OwnTick)],
     ),
     (
         "the client's number, 1 to 9007199254740991",
         false,
-        &[(Form::Client, Place::Principal)],
+        &[(Form::Client, WordPlace::Principal)],
     ),
-    ("a principal", false, &[(Form::Any, Place::End)]),
-    ("the client's number", false, &[(Form::Number, Place::Call)]),
-    ("the client's number", false, &[(Form::Number, Place::End)]),
-    ("the message's number", false, &[(Form::Number, Place::End)]),
+    ("a principal", false, &[(Form::Any, WordPlace::End)]),
+    (
+        "the client's number",
+        false,
+        &[(Form::Number, WordPlace::Call)],
+    ),
+    (
+        "the client's number",
+        false,
+        &[(Form::Number, WordPlace::End)],
+    ),
+    (
+        "the message's number",
+        false,
+        &[(Form::Number, WordPlace::End)],
+    ),
     (
         "a call: open, close, poison, read, stat, list, set, acl, delete, acquire, try, release, getseq, setseq or checkseq",
         false,
         &[
-            (Form::Is("open"), Place::Name),
-            (Form::Is("close"), Place::Handle),
-            (Form::Is("poison"), Place::Handle),
-            (Form::Is("read"), Place::Handle),
-            (Form::Is("stat"), Place::Handle),
-            (Form::Is("list"), Place::Handle),
-            (Form::Is("set"), Place::SetHandle),
-            (Form::Is("acl"), Place::AclHandle),
-            (Form::Is("delete"), Place::Handle),
-            (Form::Is("acquire"), Place::LockHandle),
-            (Form::Is("try"), Place::LockHandle),
-            (Form::Is("release"), Place::Handle),
-            (Form::Is("getseq"), Place::Handle),
-            (Form::Is("setseq"), Place::SequencerHandle),
-            (Form::Is("checkseq"), Place::Sequencer),
+            (Form::Is("open"), WordPlace::Name),
+            (Form::Is("close"), WordPlace::Handle),
+            (Form::Is("poison"), WordPlace::Handle),
+            (Form::Is("read"), WordPlace::Handle),
+            (Form::Is("stat"), WordPlace::Handle),
+            (Form::Is("list"), WordPlace::Handle),
+            (Form::Is("set"), WordPlace::SetHandle),
+            (Form::Is("acl"), WordPlace::AclHandle),
+            (Form::Is("delete"), WordPlace::Handle),
+            (Form::Is("acquire"), WordPlace::LockHandle),
+            (Form::Is("try"), WordPlace::LockHandle),
+            (Form::Is("release"), WordPlace::Handle),
+            (Form::Is("getseq"), WordPlace::Handle),
+            (Form::Is("setseq"), WordPlace::SequencerHandle),
+            (Form::Is("checkseq"), WordPlace::Sequencer),
         ],
     ),
-    ("the handle's number", false, &[(Form::Number, Place::End)]),
     (
         "the handle's number",
         false,
-        &[(Form::Number, Place::SetContent)],
+        &[(Form::Number, WordPlace::End)],
+    ),
+    (
+        "the handle's number",
+        false,
+        &[(Form::Number, WordPlace::SetContent)],
     ),
     (
         "a content: hexadecimal in lower case, - for an empty one, or fill:N:HH",
         false,
-        &[(Form::Content, Place::Generation)],
+        &[(Form::Content, WordPlace::Generation)],
     ),
     (
         "the generation that it has to have, a number, or nothing",
         true,
-        &[(Form::Number, Place::End)],
+        &[(Form::Number, WordPlace::End)],
     ),
     (
         "the handle's number",
         false,
-        &[(Form::Number, Place::AclRead)],
+        &[(Form::Number, WordPlace::AclRead)],
     ),
-    ("the ACL to read by", false, &[(Form::Any, Place::AclWrite)]),
+    (
+        "the ACL to read by",
+        false,
+        &[(Form::Any, WordPlace::AclWrite)],
+    ),
     (
         "the ACL to write by",
         false,
-        &[(Form::Any, Place::AclChange)],
+        &[(Form::Any, WordPlace::AclChange)],
     ),
     (
         "the ACL to change ACLs by",
         false,
-        &[(Form::Any, Place::Generation)],
+        &[(Form::Any, WordPlace::Generation)],
     ),
     (
         "the handle's number",
         false,
-        &[(Form::Number, Place::LockMode)],
+        &[(Form::Number, WordPlace::LockMode)],
     ),
     (
         "how the lock is held: x or s",
         false,
-        &[(Form::Is("x"), Place::End), (Form::Is("s"), Place::End)],
+        &[
+            (Form::Is("x"), WordPlace::End),
+            (Form::Is("s"), WordPlace::End),
+        ],
     ),
     (
         "the handle's number",
         false,
-        &[(Form::Number, Place::Sequencer)],
+        &[(Form::Number, WordPlace::Sequencer)],
     ),
     (
         "a sequencer, hexadecimal in lower case",
         false,
-        &[(Form::Bytes, Place::End)],
+        &[(Form::Bytes, WordPlace::End)],
     ),
-    ("a name", false, &[(Form::Any, Place::Mode)]),
+    ("a name", false, &[(Form::Any, WordPlace::Mode)]),
     (
         "a mode: some letters of rwc, in this order",
         false,
-        &[(Form::Mode, Place::Making)],
+        &[(Form::Mode, WordPlace::Making)],
     ),
     (
         "may, must, delay, events or nothing",
         true,
         &[
-            (Form::Is("may"), Place::Kind),
-            (Form::Is("must"), Place::Kind),
-            (Form::Is("delay"), Place::Delay),
-            (Form::Is("events"), Place::Events),
+            (Form::Is("may"), WordPlace::Kind),
+            (Form::Is("must"), WordPlace::Kind),
+            (Form::Is("delay"), WordPlace::Delay),
+            (Form::Is("events"), WordPlace::Events),
         ],
     ),
     (
         "file or dir",
         false,
         &[
-            (Form::Is("file"), Place::FileLife),
-            (Form::Is("dir"), Place::DirectoryLife),
+            (Form::Is("file"), WordPlace::FileLife),
+            (Form::Is("dir"), WordPlace::DirectoryLife),
         ],
     ),
     (
         "permanent or ephemeral",
         false,
         &[
-            (Form::Is("permanent"), Place::FirstContent),
-            (Form::Is("ephemeral"), Place::FirstContent),
+            (Form::Is("permanent"), WordPlace::FirstContent),
+            (Form::Is("ephemeral"), WordPlace::FirstContent),
         ],
     ),
     (
         "a content: hexadecimal in lower case, - for an empty one, or fill:N:HH",
         false,
-        &[(Form::Content, Place::Acl)],
+        &[(Form::Content, WordPlace::Acl)],
     ),
     (
         "permanent or ephemeral",
         false,
         &[
-            (Form::Is("permanent"), Place::Acl),
-            (Form::Is("ephemeral"), Place::Acl),
+            (Form::Is("permanent"), WordPlace::Acl),
+            (Form::Is("ephemeral"), WordPlace::Acl),
         ],
     ),
     (
         "acl, delay, events or nothing",
         true,
         &[
-            (Form::Is("acl"), Place::NewRead),
-            (Form::Is("delay"), Place::Delay),
-            (Form::Is("events"), Place::Events),
+            (Form::Is("acl"), WordPlace::NewRead),
+            (Form::Is("delay"), WordPlace::Delay),
+            (Form::Is("events"), WordPlace::Events),
         ],
     ),
-    ("the ACL to read by", false, &[(Form::Any, Place::NewWrite)]),
+    (
+        "the ACL to read by",
+        false,
+        &[(Form::Any, WordPlace::NewWrite)],
+    ),
     (
         "the ACL to write by",
         false,
-        &[(Form::Any, Place::NewChange)],
+        &[(Form::Any, WordPlace::NewChange)],
     ),
     (
         "the ACL to change ACLs by",
         false,
-        &[(Form::Any, Place::Options)],
+        &[(Form::Any, WordPlace::Options)],
     ),
     (
         "delay, events or nothing",
         true,
         &[
-            (Form::Is("delay"), Place::Delay),
-            (Form::Is("events"), Place::Events),
+            (Form::Is("delay"), WordPlace::Delay),
+            (Form::Is("events"), WordPlace::Events),
         ],
     ),
     (
         "the lock-delay, a number of milliseconds",
         false,
-        &[(Form::Number, Place::AfterDelay)],
+        &[(Form::Number, WordPlace::AfterDelay)],
     ),
     (
         "events or nothing",
         true,
-        &[(Form::Is("events"), Place::Events)],
+        &[(Form::Is("events"), WordPlace::Events)],
     ),
     (
         "events: some letters of mdlx, in this order",
         false,
-        &[(Form::Events, Place::End)],
+        &[(Form::Events, WordPlace::End)],
     ),
     ("nothing", true, &[]),
 ];
 
 // Behind the last word of a line.
-const LAST: Told = ("nothing", true, &[]);
+const LAST: PlaceWords = ("nothing", true, &[]);
 
-fn entry(place: Place) -> Told {
+fn entry(place: WordPlace) -> PlaceWords {
     match ENTRIES.get(place as usize) {
         Some(found) => *found,
         None => LAST,
@@ -337,7 +364,7 @@ pub(crate) struct Astray<'a> {
 
 /// Where a line that isn't blank leaves the grammar; nothing where it doesn't.
 pub(crate) fn where_astray(alloc: Global, line: &str) -> Option<Astray<'_>> {
-    let mut place = Place::Step;
+    let mut place = WordPlace::Step;
     let mut column = 1u64;
     for word in line.split(' ') {
         let (wanted, _, ways) = entry(place);
@@ -358,7 +385,7 @@ pub(crate) fn where_astray(alloc: Global, line: &str) -> Option<Astray<'_>> {
 }
 
 // A line that ends at a place.
-fn ended(place: Place, column: u64) -> Option<Astray<'static>> {
+fn ended(place: WordPlace, column: u64) -> Option<Astray<'static>> {
     let (wanted, may_end, _) = entry(place);
     if may_end {
         return None;
@@ -378,7 +405,7 @@ fn behind(column: u64, word: &str) -> u64 {
 }
 
 // The place behind a word, where it may stand.
-fn next_of(alloc: Global, ways: &[(Form, Place)], word: &str) -> Option<Place> {
+fn next_of(alloc: Global, ways: &[(Form, WordPlace)], word: &str) -> Option<WordPlace> {
     if word.is_empty() {
         return None;
     }
@@ -434,7 +461,7 @@ fn is_bytes(alloc: Global, word: &str) -> bool {
 }
 
 // The word that may stand there and is nearest to this one, the first of several.
-fn nearest(alloc: Global, ways: &[(Form, Place)], word: &str) -> Option<&'static str> {
+fn nearest(alloc: Global, ways: &[(Form, WordPlace)], word: &str) -> Option<&'static str> {
     let mut best = None;
     let mut least = NEAR_DISTANCE + 1;
     for (form, _) in ways {

@@ -5,7 +5,7 @@ use clap::{Arg, ArgAction, ArgMatches, Command};
 use std::alloc::{AllocError, Global};
 use std::sync::Wait;
 use std::thread::Threads;
-use threads::{Idle, live_with};
+use threads::{NoHook, live_with};
 
 /// What such a run does and prints, and how it ends.
 const RUNS: &str = "\
@@ -88,7 +88,7 @@ fn run_clients<W: Threads + Wait + Sync>(
     ensures { IsExit result }
 {
     let mut output = rt.stdout();
-    match live_with(threads, rt.alloc(), clients, rounds, &Idle, &mut output) {
+    match live_with(threads, rt.alloc(), clients, rounds, &NoHook, &mut output) {
         0 => 0,
         2 => refuse_words(rt),
         _ => 5,

@@ -50,7 +50,7 @@ const TABLES: &[(&[u8], &[&[u8]])] = &[
 
 /// What the row of the cell says of a store.
 #[derive(Drop)]
-pub(crate) struct Seen {
+pub(crate) struct FoundRow {
     /// The cell's name.
     pub(crate) cell: String,
     /// Whether its secret is the one that everybody knows.
@@ -71,14 +71,14 @@ pub(crate) enum Foreign {
 }
 
 /// What the row of the cell says, where the database is a store.
-pub(crate) fn seen_in<S: Alter>(alloc: Global, conn: &mut Connection<S>) -> Option<Seen> {
+pub(crate) fn seen_in<S: Alter>(alloc: Global, conn: &mut Connection<S>) -> Option<FoundRow> {
     if !is_store(alloc, conn) {
         return None;
     }
     let row = conn.query_row("SELECT cell, secret FROM meta", &[]).ok()?;
     let cell: String = row.get(0).ok()?;
     let secret: Vec<u8> = row.get(1).ok()?;
-    Some(Seen {
+    Some(FoundRow {
         cell,
         has_known_secret: secret.iter().all(|byte| *byte == 0),
     })

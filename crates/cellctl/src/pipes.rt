@@ -7,9 +7,9 @@ ghost use Rattle.cellctl.specs.Led.{EndsFrames, EndsAnyFrames};
 use crate::serves::{Frames, serve_seat};
 use crate::settings::settings;
 use crate::texts::Trouble;
-use crate::troubles::{Subject, tell, trouble_of};
+use crate::troubles::{TroubleSubject, tell, trouble_of};
 use anyhow::{Context, Result};
-use hosting::{GroupLimits, Seat};
+use hosting::{GroupLimits, HostedMaster};
 use rows_cell::{Settings, StoreFault};
 use rows_remote::FrameRecords;
 use std::fs::File;
@@ -52,7 +52,12 @@ fn serve_folder<I: Read + Drop, W: Write>(
     let path = format!(in rt.alloc(); "{folder}/asked").context("naming the pipe")?;
     match File::create(rt, path.as_str()) {
         Ok(asked) => serve_asked(rt, settings, folder, limits, asked, reader, writer),
-        Err(error) => Ok(tell(rt, Subject::Pipe, path.as_str(), trouble_of(error.kind()))),
+        Err(error) => Ok(tell(
+            rt,
+            TroubleSubject::Pipe,
+            path.as_str(),
+            trouble_of(error.kind()),
+        )),
     }
 }
 
@@ -80,7 +85,12 @@ fn serve_asked<I: Read + Drop, W: Write>(
             reader,
             writer,
         ),
-        Err(error) => Ok(tell(rt, Subject::Pipe, path.as_str(), trouble_of(error.kind()))),
+        Err(error) => Ok(tell(
+            rt,
+            TroubleSubject::Pipe,
+            path.as_str(),
+            trouble_of(error.kind()),
+        )),
     }
 }
 
@@ -106,12 +116,12 @@ fn serve_pipes<I: Read + Drop, W: Write>(
                 errors: rt.stderr(),
                 limits,
             };
-            let seat = Seat::Down(records);
+            let seat = HostedMaster::Down(records);
             let (seat, status) = serve_seat(rt.alloc(), settings, seat, frames, writer);
             drop(seat.close());
             Ok(status)
         }
-        Err(fault) => Ok(tell(rt, Subject::Rows, folder, trouble_of_rows(fault))),
+        Err(fault) => Ok(tell(rt, TroubleSubject::Rows, folder, trouble_of_rows(fault))),
     }
 }
 

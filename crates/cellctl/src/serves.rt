@@ -15,7 +15,7 @@ use crate::runs::Unclosed;
 use crate::settings::{Chosen, settings};
 use crate::stores::{left_open, tell_unfound};
 use anyhow::{Context, Result};
-use hosting::{GroupLimits, GroupStop, GroupTerms, Seat, Stop, serve_groups};
+use hosting::{GroupLimits, GroupStop, GroupTerms, HostedMaster, StreamStop, serve_groups};
 use rows_cell::{Records, Settings};
 use rows_sql::SqlRecords;
 use sqlite::{Connection, FileStore, Files};
@@ -177,7 +177,7 @@ fn serve_store<D: Disk + Drop, I: Read + Drop, W: Write, E: Write + Drop>(
         Ok(records) => records,
         Err((fault, store)) => return Err(Unclosed::Refused(fault, store)),
     };
-    let (seat, status) = serve_seat(alloc, settings, Seat::Down(records), frames, writer);
+    let (seat, status) = serve_seat(alloc, settings, HostedMaster::Down(records), frames, writer);
     match seat.close().close() {
         Ok(files) => Ok((status, files)),
         Err((error, store)) => Err(Unclosed::Open(status, error, store)),
@@ -188,10 +188,10 @@ fn serve_store<D: Disk + Drop, I: Read + Drop, W: Write, E: Write + Drop>(
 pub(crate) fn serve_seat<R: Records, I: Read + Drop, W: Write, E: Write + Drop>(
     alloc: Global,
     settings: &Settings,
-    seat: Seat<R>,
+    seat: HostedMaster<R>,
     frames: Frames<I, E>,
     writer: &mut W,
-) -> (Seat<R>, u8)
+) -> (HostedMaster<R>, u8)
     ensures served { EndsServing (record { master = terms_of settings.now; limits = frames.limits }) (I.remaining frames.reader) (W.contents writer.old) (W.contents writer.new) result.1 (hosted R.store seat) (hosted R.store result.0) }
     ensures exit { IsExit result.1 }
 {
@@ -218,9 +218,9 @@ fn ended_status(ended: &Result<(), GroupStop>) -> u8
 {
     match ended {
         Ok(()) => 0,
-        Err(GroupStop::Stopped(Stop::Unread)) => 1,
-        Err(GroupStop::Stopped(Stop::Unwritten)) => 1,
-        Err(GroupStop::Stopped(Stop::NoMemory)) => 4,
+        Err(GroupStop::Stopped(StreamStop::Unread)) => 1,
+        Err(GroupStop::Stopped(StreamStop::Unwritten)) => 1,
+        Err(GroupStop::Stopped(StreamStop::NoMemory)) => 4,
         Err(GroupStop::Refused(_)) => 3,
     }
 }
@@ -239,13 +239,13 @@ fn tell_ended<E: Write>(ended: &Result<(), GroupStop>, errors: &mut E) {
     }
 }
 
-fn tell_stopped<E: Write>(stop: &Stop, errors: &mut E) {
+fn tell_stopped<E: Write>(stop: &StreamStop, errors: &mut E) {
     match stop {
-        Stop::Unwritten => {}
-        Stop::Unread => {
+        StreamStop::Unwritten => {}
+        StreamStop::Unread => {
             let _ = writeln!(errors, "cellctl: the input can't be read");
         }
-        Stop::NoMemory => {
+        StreamStop::NoMemory => {
             let _ = writeln!(errors, "cellctl: out of memory");
         }
     }

@@ -3,7 +3,7 @@ ghost use Rattle.std.specs.Prelude.{IfErr};
 ghost use Rattle.cellctl.specs.Exits.{IsExit, IsUnset};
 
 use crate::texts::Trouble;
-use crate::troubles::{Subject, tell, trouble_of};
+use crate::troubles::{TroubleSubject, tell, trouble_of};
 use rows_cell::Settings;
 use scripts::{TextFault, read_settings};
 use std::fs;
@@ -53,7 +53,7 @@ fn settings_at(rt: &HostRuntime, path: &str) -> Result<Chosen, u8>
 {
     match fs::read_to_string(rt, path) {
         Ok(text) => said(rt, path, text.as_str()),
-        Err(error) => Err(tell(rt, Subject::Settings, path, trouble_of(error.kind()))),
+        Err(error) => Err(tell(rt, TroubleSubject::Settings, path, trouble_of(error.kind()))),
     }
 }
 
@@ -75,7 +75,7 @@ fn tell_fault(rt: &HostRuntime, path: &str, fault: &TextFault) -> u8
     ensures unset { IsUnset result }
 {
     if matches!(fault, TextFault::NoMemory) {
-        return tell(rt, Subject::Settings, path, Trouble::NoMemory);
+        return tell(rt, TroubleSubject::Settings, path, Trouble::NoMemory);
     }
     let _ = eprintln!(rt; "cellctl: the settings {path}: {fault}");
     let _ = eprintln!(rt; "  status 2: {CURE}");

@@ -14,7 +14,7 @@ use crate::refusals::Output;
 use crate::runs::{Script, Unclosed, run_new, run_path};
 use crate::settings::Chosen;
 use crate::texts::Trouble;
-use crate::troubles::{Subject, tell, trouble_of};
+use crate::troubles::{TroubleSubject, tell, trouble_of};
 use anyhow::{Context, Result};
 use rows_cell::StoreFault;
 use sqlite::{Error, ErrorCode};
@@ -32,7 +32,7 @@ const FIRST_PAGE_AT: u64 = 56;
 
 /// The script that is asked for.
 #[derive(Drop)]
-pub(crate) struct Asked<I> {
+pub(crate) struct ScriptAsked<I> {
     pub(crate) source: I,
     /// Whether each message that is sent is told of.
     pub(crate) is_traced: bool,
@@ -45,7 +45,7 @@ pub(crate) fn run_printing<I: Read + Drop>(
     rt: &HostRuntime,
     chosen: &Chosen,
     path: Option<&str>,
-    asked: Asked<I>,
+    asked: ScriptAsked<I>,
 ) -> Result<u8>
     ensures exit { IfOk result IsExit }
     // Of the standard output no byte is known; what is written is said by `run_over`.
@@ -63,7 +63,7 @@ fn run_over<I: Read + Drop, W: Write + Drop>(
     rt: &HostRuntime,
     chosen: &Chosen,
     path: Option<&str>,
-    asked: Asked<I>,
+    asked: ScriptAsked<I>,
     output: &mut Output<'_, W, Stderr>,
     at: &Cell<u64>,
 ) -> Result<u8>
@@ -71,7 +71,7 @@ fn run_over<I: Read + Drop, W: Write + Drop>(
     ensures ran { IfOk result (λ status. EndsRun chosen.now.settings path.entry (I.remaining asked.source) status (W.contents output.old.writer) (W.contents output.new.writer)) }
     ensures none { OnErr result (W.contents output.new.writer ≡ W.contents output.old.writer) }
 {
-    let Asked { source, is_traced } = asked;
+    let ScriptAsked { source, is_traced } = asked;
     let lines = LineReader::new(rt.alloc(), source, at);
     let mut lines = lines.context("making room for the script")?;
     let script = Script {
@@ -164,7 +164,7 @@ pub(crate) fn tell_unfound(rt: &HostRuntime, path: &str, kind: io::ErrorKind) ->
     ensures exit { IsExit result }
     ensures shut { IsShut result }
 {
-    tell(rt, Subject::Store, path, trouble_of(kind))
+    tell(rt, TroubleSubject::Store, path, trouble_of(kind))
 }
 
 // Looks whose the store is, before it is run over.
@@ -260,10 +260,10 @@ fn tell_refused(rt: &HostRuntime, chosen: &Chosen, path: &str, fault: StoreFault
 {
     let cell = chosen.settings.cell();
     match fault {
-        StoreFault::NoMemory => tell(rt, Subject::Store, path, Trouble::NoMemory),
+        StoreFault::NoMemory => tell(rt, TroubleSubject::Store, path, Trouble::NoMemory),
         StoreFault::Damaged => tell_finding(rt, cell, path, &find(rt, cell, path)),
-        StoreFault::Exhausted => tell(rt, Subject::Store, path, Trouble::LastEpoch),
-        _ => tell(rt, Subject::Store, path, Trouble::Unreadable),
+        StoreFault::Exhausted => tell(rt, TroubleSubject::Store, path, Trouble::LastEpoch),
+        _ => tell(rt, TroubleSubject::Store, path, Trouble::Unreadable),
     }
 }
 

@@ -7,7 +7,7 @@ use std::io;
 
 /// What a trouble is with.
 #[derive(Clone, Copy, Debug, PartialEq, Eq)]
-pub(crate) enum Subject {
+pub(crate) enum TroubleSubject {
     Store,
     Pipe,
     Rows,
@@ -17,9 +17,9 @@ pub(crate) enum Subject {
 }
 
 /// Tells of a trouble, what cures it, and the exit status, which is the answer.
-pub(crate) fn tell(rt: &HostRuntime, subject: Subject, path: &str, trouble: Trouble) -> u8
+pub(crate) fn tell(rt: &HostRuntime, subject: TroubleSubject, path: &str, trouble: Trouble) -> u8
     ensures exit { IsExit result }
-    ensures output { subject ≡ Subject.Output → IsUnwritten result }
+    ensures output { subject ≡ TroubleSubject.Output → IsUnwritten result }
     ensures rows { IsOfRows subject → IsShut result }
     ensures text { IsOfText subject → IsUnset result }
 {
@@ -31,31 +31,31 @@ pub(crate) fn tell(rt: &HostRuntime, subject: Subject, path: &str, trouble: Trou
     status
 }
 
-fn status_of(subject: Subject, trouble: Trouble) -> u8
+fn status_of(subject: TroubleSubject, trouble: Trouble) -> u8
     ensures exit { IsExit result }
-    ensures output { subject ≡ Subject.Output → IsUnwritten result }
+    ensures output { subject ≡ TroubleSubject.Output → IsUnwritten result }
     ensures rows { IsOfRows subject → IsShut result }
     ensures text { IsOfText subject → IsUnset result }
 {
     match (subject, trouble) {
         (_, Trouble::NoMemory) => 4,
-        (Subject::Output, _) => 1,
-        (Subject::Store, _) => 3,
-        (Subject::Pipe, _) => 3,
-        (Subject::Rows, _) => 3,
+        (TroubleSubject::Output, _) => 1,
+        (TroubleSubject::Store, _) => 3,
+        (TroubleSubject::Pipe, _) => 3,
+        (TroubleSubject::Rows, _) => 3,
         _ => 2,
     }
 }
 
 // What it is called, before its path.
-fn noun_of(subject: Subject) -> &'static str {
+fn noun_of(subject: TroubleSubject) -> &'static str {
     match subject {
-        Subject::Store => "the store ",
-        Subject::Pipe => "the pipe ",
-        Subject::Rows => "the rows behind the pipes of ",
-        Subject::Script => "the script ",
-        Subject::Settings => "the settings ",
-        Subject::Output => "the standard output",
+        TroubleSubject::Store => "the store ",
+        TroubleSubject::Pipe => "the pipe ",
+        TroubleSubject::Rows => "the rows behind the pipes of ",
+        TroubleSubject::Script => "the script ",
+        TroubleSubject::Settings => "the settings ",
+        TroubleSubject::Output => "the standard output",
     }
 }
 

@@ -5,8 +5,8 @@ use Rattle.std.specs.Option.{option_map}
 use Rattle.lease_core.specs.Lease.{moment_limit}
 use Rattle.cache_core.specs.Caches.{answer}
 use Rattle.cache_core.specs.Kept.{serving}
-use Rattle.cache_core.specs.declared.standings.Standing.{Standing}
-use Rattle.cache_core.specs.declared.standings.Standing.TheVariants as standings
+use Rattle.cache_core.specs.declared.standings.SessionTrust.{SessionTrust}
+use Rattle.cache_core.specs.declared.standings.SessionTrust.TheVariants as standings
 use Rattle.node_core.specs.Limits.{number_end}
 use Rattle.node_core.specs.declared.refusals.Fault.{Fault}
 use Rattle.node_core.specs.declared.refusals.Fault.TheVariants as faults
@@ -21,13 +21,13 @@ use Rattle.tags_cell.specs.declared.messages.outs.NewHandle.{NewHandle}
 use Rattle.client_core.specs.declared.parts.asks.Ask.{Ask}
 use Rattle.client_core.specs.declared.parts.asks.Ask.TheVariants as asks
 use Rattle.client_core.specs.declared.parts.asks.NodeCall.{NodeCall}
-use Rattle.client_core.specs.declared.parts.asks.Asked.{Asked}
+use Rattle.client_core.specs.declared.parts.asks.AskOutcome.{AskOutcome}
 use Rattle.client_core.specs.declared.parts.asks.Outcome.TheVariants as outcomes
 use Rattle.client_core.specs.declared.parts.handles.ClientHandle.{ClientHandle}
-use Rattle.client_core.specs.declared.plans.Plan.{Plan}
-use Rattle.client_core.specs.declared.plans.Plan.TheVariants as plans
-use Rattle.client_core.specs.declared.parts.sessions.Session.{Session}
-use Rattle.client_core.specs.declared.parts.sessions.Session.TheVariants as sessions
+use Rattle.client_core.specs.declared.plans.AskPlan.{AskPlan}
+use Rattle.client_core.specs.declared.plans.AskPlan.TheVariants as plans
+use Rattle.client_core.specs.declared.parts.sessions.ClientStanding.{ClientStanding}
+use Rattle.client_core.specs.declared.parts.sessions.ClientStanding.TheVariants as sessions
 use Rattle.client_core.specs.declared.parts.steps.Beaten.{Beaten}
 use Rattle.client_core.specs.declared.parts.targets.Target.{Target}
 use Rattle.client_core.specs.declared.parts.targets.Target.TheVariants as targets
@@ -50,11 +50,11 @@ use Rattle.client_core.specs.declared.parts.asks.NodeCall.TheVariants as node_ca
 -- ---- ask
 
 -- one of the cases is what is done
-abbrev pub IsAsked : (s : ClientState) (now : ℕ) (ask : Ask) → ClientState × Result Asked Fault → Type 0
+abbrev pub IsAsked : (s : ClientState) (now : ℕ) (ask : Ask) → ClientState × Result AskOutcome Fault → Type 0
 IsAsked s now ask p = (c : AskCase s now ask) × (p ≡ asked_in s now ask c)
 
 -- a plan is carried out
-abbrev IsDone : (s : ClientState) (now : ℕ) (ask : Ask) → Result Plan Fault → Type 0
+abbrev IsDone : (s : ClientState) (now : ℕ) (ask : Ask) → Result AskPlan Fault → Type 0
 IsDone s now ask plan = plan_of s (noted_moment s now) ask ≡ plan → IsAsked s now ask (ask_by s (noted_moment s now) plan)
 
 send_case : (s : ClientState) (now : ℕ) (ask : Ask) (call : Call) (sequencer : Option (List ℕ)) (target : Target) → is_leaving target ≡ asks_to_leave ask → is_leave call ≡ is_leaving target → IsSafe s now → s.outstanding ≡ None → IsDone s now ask (Ok (plans.Send call sequencer target))
@@ -81,7 +81,7 @@ share_case s now opening view handle safe stays shared =
     (λ h. (OutOfHandles opening view handle safe refl shared (not_less (s.opened + 1) number_end h), refl))
 
 -- what is sent where the cache doesn't answer
-abbrev sent_open : ClientState → Open → Result Plan Fault
+abbrev sent_open : ClientState → Open → Result AskPlan Fault
 sent_open s opening = send_plan s (calls.Open opening) None targets.NewHandle
 
 kept_case : (s : ClientState) (now : ℕ) (opening : Open) (view : View) (k : Option NewHandle) → IsSafe s now → s.leaving ≡ false → is_plain opening ≡ true → answer s.cache (noted_moment s now) opening.name ≡ Some (Some view) → only_reads opening ≡ true → serving s.kept opening.name view.node.instance ≡ k → IsDone s now (asks.Open opening) (served_or (option_map (share s opening view) k) (sent_open s opening))
@@ -120,7 +120,7 @@ poison_case s now number None safe found is = (Refused faults.BadHandle safe is,
 poison_case s now number (Some handle) safe found is = poisoned_case s now number handle handle.poisoned safe found refl is
 
 -- what is sent where the cache doesn't answer
-abbrev sent_call : ClientState → ℕ → ClientHandle → NodeCall → Result Plan Fault
+abbrev sent_call : ClientState → ℕ → ClientHandle → NodeCall → Result AskPlan Fault
 sent_call s number handle call = send_plan s (call_on handle.bytes call) handle.sequencer (targets.Handle number)
 
 -- a call on a node doesn't end the session
@@ -224,15 +224,15 @@ beats_case s now early live then =
     (λ h. (Beats early live then (less (s.beats + 1) number_end h), ap (λ x. (with_beat (note_in x s (noted_moment s now)) (noted_moment s now), Ok (beaten (note_lines s (noted_moment s now)) (Some (beat_message s))))) live))
     (λ h. (OutOfBeats early (not_less (s.beats + 1) number_end h), refl))
 
-quiet_case : (s : ClientState) (now : ℕ) (session : Session) → now < moment_limit → session_then s (noted_moment s now) ≡ session → session ≢ sessions.Unstarted → session ≢ sessions.Live → IsBeaten s now (beat_by s (noted_moment s now) sessions.Lost)
+quiet_case : (s : ClientState) (now : ℕ) (session : ClientStanding) → now < moment_limit → session_then s (noted_moment s now) ≡ session → session ≢ sessions.Unstarted → session ≢ sessions.Live → IsBeaten s now (beat_by s (noted_moment s now) sessions.Lost)
 quiet_case s now session early is started live = (Quiet early (λ e. started (sym is ∙ e)) (λ e. live (sym is ∙ e)), refl)
 
-live_case : (s : ClientState) (now : ℕ) (standing : Standing) → now < moment_limit → s.session ≡ sessions.Live → standing_then s (noted_moment s now) ≡ standing → IsBeaten s now (beat_by s (noted_moment s now) (session_behind standing))
+live_case : (s : ClientState) (now : ℕ) (standing : SessionTrust) → now < moment_limit → s.session ≡ sessions.Live → standing_then s (noted_moment s now) ≡ standing → IsBeaten s now (beat_by s (noted_moment s now) (session_behind standing))
 live_case s now standings.Safe early live at = beats_case s now early live (then_in s (noted_moment s now) sessions.Live live (ap session_behind at))
 live_case s now (standings.Jeopardy since) early live at = beats_case s now early live (then_in s (noted_moment s now) sessions.Live live (ap session_behind at))
 live_case s now standings.Lost early live at = quiet_case s now sessions.Lost early (then_in s (noted_moment s now) sessions.Lost live (ap session_behind at)) (λ e. cc) (λ e. cc)
 
-session_case : (s : ClientState) (now : ℕ) (session : Session) → now < moment_limit → s.session ≡ session → IsBeaten s now (beat_by s (noted_moment s now) (session_in session s (noted_moment s now)))
+session_case : (s : ClientState) (now : ℕ) (session : ClientStanding) → now < moment_limit → s.session ≡ session → IsBeaten s now (beat_by s (noted_moment s now) (session_in session s (noted_moment s now)))
 session_case s now sessions.Unstarted early is = starts_case s now early is
 session_case s now sessions.Live early is = live_case s now (standing_then s (noted_moment s now)) early is refl
 session_case s now sessions.Lost early is = quiet_case s now sessions.Lost early (ap (λ x. session_in x s (noted_moment s now)) is) (λ e. cc) (λ e. cc)

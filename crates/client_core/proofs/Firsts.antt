@@ -10,10 +10,10 @@ use Rattle.node_core.specs.declared.refusals.Fault.{Fault}
 use Rattle.tags_cell.specs.declared.messages.requests.Request.{Request}
 use Rattle.cache_core.specs.Caches.{is_leased}
 use Rattle.cache_core.specs.Standings.{grace_period, standing_at, turn_line}
-use Rattle.cache_core.specs.declared.standings.Standing.{Standing}
-use Rattle.cache_core.specs.declared.standings.Standing.TheVariants as standings
-use Rattle.client_core.specs.declared.parts.sessions.Session.{Session}
-use Rattle.client_core.specs.declared.parts.sessions.Session.TheVariants as sessions
+use Rattle.cache_core.specs.declared.standings.SessionTrust.{SessionTrust}
+use Rattle.cache_core.specs.declared.standings.SessionTrust.TheVariants as standings
+use Rattle.client_core.specs.declared.parts.sessions.ClientStanding.{ClientStanding}
+use Rattle.client_core.specs.declared.parts.sessions.ClientStanding.TheVariants as sessions
 use Rattle.client_core.specs.declared.parts.steps.Beaten.{Beaten}
 use Rattle.client_core.specs.Moments.{moment}
 use Rattle.client_core.specs.State.{ClientState, session_behind, session_in, session_then, note_lines_in, note_lines}
@@ -100,12 +100,12 @@ end_past lease from long = λ t from_t is. absurd (omega (arith, long, from_t, i
 
 -- ---- how the time turns it
 
-turn_prints : Standing → Bool → ℕ → Bool
+turn_prints : SessionTrust → Bool → ℕ → Bool
 turn_prints standings.Safe leased m = not leased
 turn_prints (standings.Jeopardy since) leased m = nat_le grace_period (m - since)
 turn_prints standings.Lost leased m = false
 
-session_turns : Session → Standing → Bool → ℕ → Bool
+session_turns : ClientStanding → SessionTrust → Bool → ℕ → Bool
 session_turns sessions.Unstarted standing leased m = false
 session_turns sessions.Live standing leased m = turn_prints standing leased m
 session_turns sessions.Lost standing leased m = false
@@ -115,14 +115,14 @@ jeopardy_prints : (client since : ℕ) (b : Bool) → prints (option_to_list (tu
 jeopardy_prints client since true = refl
 jeopardy_prints client since false = refl
 
-standing_prints : (client : ℕ) (standing : Standing) (leased : Bool) (m : ℕ) → prints (option_to_list (turn_line client standing (standing_at standing leased m))) ≡ turn_prints standing leased m
+standing_prints : (client : ℕ) (standing : SessionTrust) (leased : Bool) (m : ℕ) → prints (option_to_list (turn_line client standing (standing_at standing leased m))) ≡ turn_prints standing leased m
 unfolding turn_prints
 standing_prints client standings.Safe true m = refl
 standing_prints client standings.Safe false m = refl
 standing_prints client (standings.Jeopardy since) leased m = jeopardy_prints client since (nat_le grace_period (m - since))
 standing_prints client standings.Lost leased m = refl
 
-turns_in : (s : ClientState) (session : Session) (m : ℕ) → prints (note_lines_in session s m) ≡ session_turns session s.standing (is_leased s.cache.lease m) m
+turns_in : (s : ClientState) (session : ClientStanding) (m : ℕ) → prints (note_lines_in session s m) ≡ session_turns session s.standing (is_leased s.cache.lease m) m
 unfolding session_turns
 turns_in s sessions.Unstarted m = refl
 turns_in s sessions.Live m = standing_prints s.number s.standing (is_leased s.cache.lease m) m
@@ -135,12 +135,12 @@ at_clock clock t le = omega (arith, le)
 turns_are : (s : ClientState) (t : ℕ) → s.clock ≤ t → turns_at s t ≡ session_turns s.session s.standing (is_leased s.cache.lease t) t
 turns_are s t le = ap (λ (m : ℕ). prints (note_lines s m)) (at_clock s.clock t le) ∙ turns_in s s.session t
 
-turns_by : (s : ClientState) (session : Session) (standing : Standing) (t : ℕ) → s.session ≡ session → s.standing ≡ standing → s.clock ≤ t
+turns_by : (s : ClientState) (session : ClientStanding) (standing : SessionTrust) (t : ℕ) → s.session ≡ session → s.standing ≡ standing → s.clock ≤ t
     → turns_at s t ≡ session_turns session standing (is_leased s.cache.lease t) t
 turns_by s session standing t e f le =
     turns_are s t le
-    ∙ ap (λ (u : Session). session_turns u s.standing (is_leased s.cache.lease t) t) e
-    ∙ ap (λ (u : Standing). session_turns session u (is_leased s.cache.lease t) t) f
+    ∙ ap (λ (u : ClientStanding). session_turns u s.standing (is_leased s.cache.lease t) t) e
+    ∙ ap (λ (u : SessionTrust). session_turns session u (is_leased s.cache.lease t) t) f
 
 -- a jeopardy has lasted long enough
 lasted : (since t : ℕ) → since + grace_period ≤ t → nat_le grace_period (t - since) ≡ true
@@ -175,7 +175,7 @@ pub no_turn_lost : (s : ClientState) → s.session ≡ sessions.Live → s.stand
 unfolding session_turns turn_prints
 no_turn_lost s e f = λ t le is. turns_by s sessions.Live standings.Lost t e f le
 
-turns_never : (session : Session) (standing : Standing) (leased : Bool) (t : ℕ) → (session ≡ sessions.Live → ⊥) → session_turns session standing leased t ≡ false
+turns_never : (session : ClientStanding) (standing : SessionTrust) (leased : Bool) (t : ℕ) → (session ≡ sessions.Live → ⊥) → session_turns session standing leased t ≡ false
 unfolding session_turns
 turns_never sessions.Unstarted standing leased t h = refl
 turns_never sessions.Live standing leased t h = absurd (h refl)
@@ -201,38 +201,38 @@ acts_sent : (b : Bool) (new old : ClientState) (lines : List Line) (message : Re
 acts_sent true new old lines message fault = or_true (prints lines)
 acts_sent false new old lines message fault = refl
 
-does_by : Session → Bool → Bool → Bool
+does_by : ClientStanding → Bool → Bool → Bool
 does_by sessions.Unstarted numbered printed = numbered
 does_by sessions.Live numbered printed = numbered
 does_by sessions.Lost numbered printed = printed
 does_by sessions.TurnedAway numbered printed = printed
 
-acts_by : (s : ClientState) (m : ℕ) (session : Session) → acts (beat_by s m session).1 ≡ does_by session (has_number s.beats) (prints (note_lines s m))
+acts_by : (s : ClientState) (m : ℕ) (session : ClientStanding) → acts (beat_by s m session).1 ≡ does_by session (has_number s.beats) (prints (note_lines s m))
 unfolding does_by
 acts_by s m sessions.Unstarted = acts_sent (has_number s.beats) _ s (note_lines s m) (start_message s) _
 acts_by s m sessions.Live = acts_sent (has_number s.beats) _ s (note_lines s m) (beat_message s) _
 acts_by s m sessions.Lost = or_false (prints (note_lines s m))
 acts_by s m sessions.TurnedAway = or_false (prints (note_lines s m))
 
-session_at : Session → Standing → Bool → ℕ → Session
+session_at : ClientStanding → SessionTrust → Bool → ℕ → ClientStanding
 session_at sessions.Unstarted standing leased m = sessions.Unstarted
 session_at sessions.Live standing leased m = session_behind (standing_at standing leased m)
 session_at sessions.Lost standing leased m = sessions.Lost
 session_at sessions.TurnedAway standing leased m = sessions.TurnedAway
 
-session_is : (s : ClientState) (session : Session) (m : ℕ) → session_in session s m ≡ session_at session s.standing (is_leased s.cache.lease m) m
+session_is : (s : ClientState) (session : ClientStanding) (m : ℕ) → session_in session s m ≡ session_at session s.standing (is_leased s.cache.lease m) m
 unfolding session_at
 session_is s sessions.Unstarted m = refl
 session_is s sessions.Live m = refl
 session_is s sessions.Lost m = refl
 session_is s sessions.TurnedAway m = refl
 
-beats_in : Standing → Bool → ℕ → Bool
+beats_in : SessionTrust → Bool → ℕ → Bool
 beats_in standings.Safe numbered t = numbered
 beats_in (standings.Jeopardy since) numbered t = nat_le grace_period (t - since) || numbered
 beats_in standings.Lost numbered t = false
 
-beats_by : Session → Standing → Bool → ℕ → Bool
+beats_by : ClientStanding → SessionTrust → Bool → ℕ → Bool
 beats_by sessions.Unstarted standing numbered t = numbered
 beats_by sessions.Live standing numbered t = beats_in standing numbered t
 beats_by sessions.Lost standing numbered t = false
@@ -243,7 +243,7 @@ unfolding does_by
 jeopardy_does true numbered since = refl
 jeopardy_does false numbered since = refl
 
-live_does : (standing : Standing) (leased : Bool) (t : ℕ) (numbered : Bool)
+live_does : (standing : SessionTrust) (leased : Bool) (t : ℕ) (numbered : Bool)
     → does_by (session_behind (standing_at standing leased t)) numbered (turn_prints standing leased t) ≡ beats_in standing numbered t
 unfolding does_by turn_prints beats_in
 live_does standings.Safe true t numbered = refl
@@ -251,7 +251,7 @@ live_does standings.Safe false t numbered = refl
 live_does (standings.Jeopardy since) leased t numbered = jeopardy_does (nat_le grace_period (t - since)) numbered since
 live_does standings.Lost leased t numbered = refl
 
-all_does : (session : Session) (standing : Standing) (leased : Bool) (t : ℕ) (numbered : Bool)
+all_does : (session : ClientStanding) (standing : SessionTrust) (leased : Bool) (t : ℕ) (numbered : Bool)
     → does_by (session_at session standing leased t) numbered (session_turns session standing leased t) ≡ beats_by session standing numbered t
 unfolding session_at session_turns beats_by does_by
 all_does sessions.Unstarted standing leased t numbered = refl
@@ -267,7 +267,7 @@ unfolding beat_step
 beats_are s t le is =
     ap (λ (r : Result ℕ Fault). acts (beat_at s r).1) (moment_is s.clock t le is)
     ∙ acts_by s t (session_then s t)
-    ∙ ap (λ (u : Session). does_by u (has_number s.beats) (prints (note_lines s t))) (session_is s s.session t)
+    ∙ ap (λ (u : ClientStanding). does_by u (has_number s.beats) (prints (note_lines s t))) (session_is s s.session t)
     ∙ ap (λ (p : Bool). does_by (session_at s.session s.standing (is_leased s.cache.lease t) t) (has_number s.beats) p) (turns_in s s.session t)
     ∙ all_does s.session s.standing (is_leased s.cache.lease t) t (has_number s.beats)
 
@@ -282,14 +282,14 @@ jeopardy_first true since from = first_same _ (λ t. true) from (until from) (λ
 jeopardy_first false since from =
     first_same _ (λ t. nat_le grace_period (t - since)) from (until (loss_at from since)) (λ t le is. or_false (nat_le grace_period (t - since))) (lost_from from since)
 
-in_session_first : (standing : Standing) (numbered : Bool) (from : ℕ) → IsFirst (beats_in standing numbered) from (in_session standing numbered from)
+in_session_first : (standing : SessionTrust) (numbered : Bool) (from : ℕ) → IsFirst (beats_in standing numbered) from (in_session standing numbered from)
 unfolding beats_in
 in_session_first standings.Safe numbered from = always_or_never numbered from
 in_session_first (standings.Jeopardy since) numbered from = jeopardy_first numbered since from
 in_session_first standings.Lost numbered from = λ t le is. refl
 
-beats_as : (s : ClientState) (session : Session) → s.session ≡ session → (t : ℕ) → s.clock ≤ t → IsMoment t → beats_at s t ≡ beats_by session s.standing (has_number s.beats) t
-beats_as s session e t le is = beats_are s t le is ∙ ap (λ (u : Session). beats_by u s.standing (has_number s.beats) t) e
+beats_as : (s : ClientState) (session : ClientStanding) → s.session ≡ session → (t : ℕ) → s.clock ≤ t → IsMoment t → beats_at s t ≡ beats_by session s.standing (has_number s.beats) t
+beats_as s session e t le is = beats_are s t le is ∙ ap (λ (u : ClientStanding). beats_by u s.standing (has_number s.beats) t) e
 
 pub next_start : (s : ClientState) (beats clock : ℕ) (found : Option ℕ) → s.session ≡ sessions.Unstarted → beats ≡ s.beats → clock ≡ s.clock → found ≡ now_or_never (has_number beats) clock → IsNextBeat s found
 unfolding beats_by
@@ -298,12 +298,12 @@ next_start s beats clock found e b k is =
     subst P (sym (is ∙ ap (λ (n : ℕ). now_or_never (has_number n) clock) b ∙ ap (λ (n : ℕ). now_or_never (has_number s.beats) n) k))
     (first_same (beats_at s) (λ t. has_number s.beats) s.clock (now_or_never (has_number s.beats) s.clock) (beats_as s sessions.Unstarted e) (always_or_never (has_number s.beats) s.clock))
 
-pub next_live : (s : ClientState) (standing : Standing) (beats clock : ℕ) (found : Option ℕ) → s.session ≡ sessions.Live → standing ≡ s.standing → beats ≡ s.beats → clock ≡ s.clock
+pub next_live : (s : ClientState) (standing : SessionTrust) (beats clock : ℕ) (found : Option ℕ) → s.session ≡ sessions.Live → standing ≡ s.standing → beats ≡ s.beats → clock ≡ s.clock
     → found ≡ in_session standing (has_number beats) clock → IsNextBeat s found
 unfolding beats_by
 next_live s standing beats clock found e f b k is =
     let P : Option ℕ → Type 0 = λ o. IsFirst (beats_at s) s.clock o in
-    subst P (sym (is ∙ ap (λ (u : Standing). in_session u (has_number beats) clock) f ∙ ap (λ (n : ℕ). in_session s.standing (has_number n) clock) b
+    subst P (sym (is ∙ ap (λ (u : SessionTrust). in_session u (has_number beats) clock) f ∙ ap (λ (n : ℕ). in_session s.standing (has_number n) clock) b
     ∙ ap (λ (n : ℕ). in_session s.standing (has_number s.beats) n) k))
     (first_same (beats_at s) (beats_in s.standing (has_number s.beats)) s.clock (in_session s.standing (has_number s.beats) s.clock) (beats_as s sessions.Live e)
     (in_session_first s.standing (has_number s.beats) s.clock))
@@ -317,6 +317,6 @@ unfolding beats_by
 no_beat_away s e = λ t le is. beats_as s sessions.TurnedAway e t le is
 
 -- without a session, and with none to come
-pub no_beat : (s : ClientState) (session : Session) → session ≡ s.session → (session ≡ sessions.Lost) ⊎ (session ≡ sessions.TurnedAway) → IsNextBeat s None
+pub no_beat : (s : ClientState) (session : ClientStanding) → session ≡ s.session → (session ≡ sessions.Lost) ⊎ (session ≡ sessions.TurnedAway) → IsNextBeat s None
 no_beat s session e (inl lost) = no_beat_lost s (sym e ∙ lost)
 no_beat s session e (inr away) = no_beat_away s (sym e ∙ away)

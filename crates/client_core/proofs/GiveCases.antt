@@ -4,8 +4,8 @@ use Rattle.std.specs.Prelude.{◌==◌, ◌&&◌, nat_lt, nat_le}
 use Rattle.std.proofs.lemmas.Bool.Decides.{nat_tests}
 use Rattle.lease_core.specs.Lease.{moment_limit}
 use Rattle.cache_core.specs.Caches.{takes_lease}
-use Rattle.cache_core.specs.declared.standings.Standing.{Standing}
-use Rattle.cache_core.specs.declared.standings.Standing.TheVariants as standings
+use Rattle.cache_core.specs.declared.standings.SessionTrust.{SessionTrust}
+use Rattle.cache_core.specs.declared.standings.SessionTrust.TheVariants as standings
 use Rattle.node_core.specs.declared.refusals.Fault.{Fault}
 use Rattle.node_core.specs.declared.refusals.Fault.TheVariants as faults
 use Rattle.node_core.specs.declared.lines.Line.TheVariants as lines
@@ -16,8 +16,8 @@ use Rattle.tags_cell.specs.declared.messages.beats.Alive.{Alive as AliveMessage}
 use Rattle.tags_cell.specs.declared.messages.outs.Reply.{Reply}
 use Rattle.tags_cell.specs.declared.messages.outs.Refused.{Refused as RefusedMessage}
 use Rattle.tags_cell.specs.Messages.{request_number, out_client}
-use Rattle.client_core.specs.declared.parts.sessions.Session.{Session}
-use Rattle.client_core.specs.declared.parts.sessions.Session.TheVariants as sessions
+use Rattle.client_core.specs.declared.parts.sessions.ClientStanding.{ClientStanding}
+use Rattle.client_core.specs.declared.parts.sessions.ClientStanding.TheVariants as sessions
 use Rattle.client_core.specs.declared.parts.steps.Given.{Given}
 use Rattle.client_core.specs.declared.parts.targets.Target.{Target}
 use Rattle.client_core.specs.declared.parts.targets.Target.TheVariants as targets
@@ -65,7 +65,7 @@ newest_case s now out message true heard is unstarted h =
     begun_case s now out message (is_span message.span) heard is (record { unstarted = unstarted; newest = same message.number s.beats h }) refl
 newest_case s now out message false heard is unstarted h = (StartedDropped message heard is (λ e. other message.number s.beats h), refl)
 
-started_case : (s : ClientState) (now : ℕ) (out : Out) (message : StartedMessage) (session : Session) → IsHeard s now out → out ≡ outs.Started message → s.session ≡ session → IsGiven s now out (cond (is_unstarted session && message.number == s.beats) (begin s (noted_moment s now) message) (passed_over s (noted_moment s now)))
+started_case : (s : ClientState) (now : ℕ) (out : Out) (message : StartedMessage) (session : ClientStanding) → IsHeard s now out → out ≡ outs.Started message → s.session ≡ session → IsGiven s now out (cond (is_unstarted session && message.number == s.beats) (begin s (noted_moment s now) message) (passed_over s (noted_moment s now)))
 started_case s now out message sessions.Unstarted heard is at = newest_case s now out message (message.number == s.beats) heard is at refl
 started_case s now out message sessions.Live heard is at = (StartedDropped message heard is (λ e. cc), refl)
 started_case s now out message sessions.Lost heard is at = (StartedDropped message heard is (λ e. cc), refl)
@@ -138,7 +138,7 @@ own_epoch_case : (s : ClientState) (now : ℕ) (out : Out) (message : AliveMessa
 own_epoch_case s now out message true heard is live h = span_case s now out message (is_span message.span) heard is (record { live = live; epoch = same message.epoch s.epoch h }) refl
 own_epoch_case s now out message false heard is live h = (AliveDropped message heard is (λ e. other message.epoch s.epoch h), refl)
 
-alive_case : (s : ClientState) (now : ℕ) (out : Out) (message : AliveMessage) (session : Session) → IsHeard s now out → out ≡ outs.Alive message → session_then s (noted_moment s now) ≡ session → IsGiven s now out (cond (is_live session && message.epoch == s.epoch) (prolong s (noted_moment s now) message) (passed_over s (noted_moment s now)))
+alive_case : (s : ClientState) (now : ℕ) (out : Out) (message : AliveMessage) (session : ClientStanding) → IsHeard s now out → out ≡ outs.Alive message → session_then s (noted_moment s now) ≡ session → IsGiven s now out (cond (is_live session && message.epoch == s.epoch) (prolong s (noted_moment s now) message) (passed_over s (noted_moment s now)))
 alive_case s now out message sessions.Unstarted heard is at = (AliveDropped message heard is (λ e. cc), refl)
 alive_case s now out message sessions.Live heard is at = own_epoch_case s now out message (message.epoch == s.epoch) heard is (lives s now at) refl
 alive_case s now out message sessions.Lost heard is at = (AliveDropped message heard is (λ e. cc), refl)
@@ -152,7 +152,7 @@ pub taught_if : (b : Bool) (o : Option Lesson) (t : Lesson) → cond b o None �
 taught_if true o t h = (refl, h)
 taught_if false o t h = cc
 
-safe_standing : (standing : Standing) → is_safe standing ≡ true → standing ≡ standings.Safe
+safe_standing : (standing : SessionTrust) → is_safe standing ≡ true → standing ≡ standings.Safe
 safe_standing standings.Safe h = refl
 safe_standing (standings.Jeopardy since) h = cc
 safe_standing standings.Lost h = cc
@@ -231,7 +231,7 @@ epoch_case : (s : ClientState) (now : ℕ) (out : Out) (message : Reply) (b : Bo
 epoch_case s now out message true heard is live h for = outstanding_case s now out message s.outstanding heard is live (same message.epoch s.epoch h) refl for
 epoch_case s now out message false heard is live h none = not_awaited_case s now out message heard is none
 
-reply_case : (s : ClientState) (now : ℕ) (out : Out) (message : Reply) (session : Session) → IsHeard s now out → out ≡ outs.Reply message → session_then s (noted_moment s now) ≡ session → awaited s (noted_moment s now) message ≡ cond (is_live session && message.epoch == s.epoch) (target_for message.number s.outstanding) None → IsGiven s now out (reply_for s (noted_moment s now) message (cond (is_live session && message.epoch == s.epoch) (target_for message.number s.outstanding) None))
+reply_case : (s : ClientState) (now : ℕ) (out : Out) (message : Reply) (session : ClientStanding) → IsHeard s now out → out ≡ outs.Reply message → session_then s (noted_moment s now) ≡ session → awaited s (noted_moment s now) message ≡ cond (is_live session && message.epoch == s.epoch) (target_for message.number s.outstanding) None → IsGiven s now out (reply_for s (noted_moment s now) message (cond (is_live session && message.epoch == s.epoch) (target_for message.number s.outstanding) None))
 reply_case s now out message sessions.Unstarted heard is at none = not_awaited_case s now out message heard is none
 reply_case s now out message sessions.Live heard is at for = epoch_case s now out message (message.epoch == s.epoch) heard is (lives s now at) refl for
 reply_case s now out message sessions.Lost heard is at none = not_awaited_case s now out message heard is none
@@ -240,7 +240,7 @@ reply_case s now out message sessions.TurnedAway heard is at none = not_awaited_
 -- ---- a refusal
 
 -- the session that a refusal leaves
-abbrev left : ClientState → ℕ → RefusedMessage → Option Session
+abbrev left : ClientState → ℕ → RefusedMessage → Option ClientStanding
 left s now message = session_after (session_then s (noted_moment s now)) s.epoch message.epoch message.fault
 
 -- the later epoch that it tells of
@@ -263,7 +263,7 @@ away_case s now out message heard is fault unstarted = (
   ap (λ x. (lost (note_in x s (noted_moment s now)) sessions.TurnedAway, Ok (told s (noted_moment s now) (lines.Lost s.number ∷ []) None))) unstarted,
 )
 
-without_case : (s : ClientState) (now : ℕ) (out : Out) (message : RefusedMessage) (session : Session) → IsHeard s now out → out ≡ outs.Refused message → message.fault ≡ faults.NoSession → session_then s (noted_moment s now) ≡ session → tells s now message ≡ None → left s now message ≡ session_without session s.epoch message.epoch → IsGiven s now out (lose_step s (noted_moment s now) (session_without session s.epoch message.epoch))
+without_case : (s : ClientState) (now : ℕ) (out : Out) (message : RefusedMessage) (session : ClientStanding) → IsHeard s now out → out ≡ outs.Refused message → message.fault ≡ faults.NoSession → session_then s (noted_moment s now) ≡ session → tells s now message ≡ None → left s now message ≡ session_without session s.epoch message.epoch → IsGiven s now out (lose_step s (noted_moment s now) (session_without session s.epoch message.epoch))
 without_case s now out message sessions.Unstarted heard is fault at earlier after = away_case s now out message heard is fault (unstarted_before s s.session (noted_moment s now) at)
 without_case s now out message sessions.Live heard is fault at earlier after = loss_case s now out message (nat_le s.epoch message.epoch) heard is fault (lives s now at) refl earlier after
 without_case s now out message sessions.Lost heard is fault at earlier after = stays_case s now out message heard is earlier after
@@ -277,7 +277,7 @@ later_case s now out message present true true heard is fault live e h told_of a
 later_case s now out message present true false heard is fault live e h earlier after = stays_case s now out message heard is earlier after
 later_case s now out message present false c heard is fault live e h earlier after = stays_case s now out message heard is earlier after
 
-old_case : (s : ClientState) (now : ℕ) (out : Out) (message : RefusedMessage) (present : ℕ) (session : Session) → IsHeard s now out → out ≡ outs.Refused message → message.fault ≡ faults.OldEpoch present → session_then s (noted_moment s now) ≡ session → tells s now message ≡ cond (is_live session && (nat_le s.epoch message.epoch && nat_lt s.epoch present)) (Some present) None → left s now message ≡ None → IsGiven s now out (learn_step s (noted_moment s now) None (cond (is_live session && (nat_le s.epoch message.epoch && nat_lt s.epoch present)) (Some present) None))
+old_case : (s : ClientState) (now : ℕ) (out : Out) (message : RefusedMessage) (present : ℕ) (session : ClientStanding) → IsHeard s now out → out ≡ outs.Refused message → message.fault ≡ faults.OldEpoch present → session_then s (noted_moment s now) ≡ session → tells s now message ≡ cond (is_live session && (nat_le s.epoch message.epoch && nat_lt s.epoch present)) (Some present) None → left s now message ≡ None → IsGiven s now out (learn_step s (noted_moment s now) None (cond (is_live session && (nat_le s.epoch message.epoch && nat_lt s.epoch present)) (Some present) None))
 old_case s now out message present sessions.Unstarted heard is fault at earlier after = stays_case s now out message heard is earlier after
 old_case s now out message present sessions.Live heard is fault at told_of after = later_case s now out message present (nat_le s.epoch message.epoch) (nat_lt s.epoch present) heard is fault (lives s now at) refl refl told_of after
 old_case s now out message present sessions.Lost heard is fault at earlier after = stays_case s now out message heard is earlier after

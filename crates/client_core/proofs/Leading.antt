@@ -34,16 +34,16 @@ use Rattle.client_core.proofs.AskCases.{ask_case, beat_case}
 use Rattle.client_core.proofs.Leases.{note_keeps}
 use Rattle.client_core.specs.Targets.{is_leaving}
 use Rattle.client_core.specs.Sessions.{session_fault}
-use Rattle.client_core.specs.declared.plans.Plan.{Plan}
-use Rattle.client_core.specs.declared.plans.Plan.TheVariants as plans
+use Rattle.client_core.specs.declared.plans.AskPlan.{AskPlan}
+use Rattle.client_core.specs.declared.plans.AskPlan.TheVariants as plans
 use Rattle.client_core.specs.declared.parts.targets.Outstanding.{Outstanding}
 use Rattle.client_core.specs.declared.parts.targets.Target.TheVariants as targets
 use Rattle.client_core.specs.declared.parts.asks.Ask.TheVariants as asks
-use Rattle.client_core.specs.declared.parts.sessions.Session.{Session}
-use Rattle.client_core.specs.declared.parts.sessions.Session.TheVariants as sessions
+use Rattle.client_core.specs.declared.parts.sessions.ClientStanding.{ClientStanding}
+use Rattle.client_core.specs.declared.parts.sessions.ClientStanding.TheVariants as sessions
 use Rattle.tags_cell.specs.declared.messages.calls.Call.TheVariants as calls
 use Rattle.cache_core.specs.Standings.{standing_at}
-use Rattle.cache_core.specs.declared.standings.Standing.TheVariants as standings
+use Rattle.cache_core.specs.declared.standings.SessionTrust.TheVariants as standings
 
 -- ---- lists of changes
 
@@ -224,7 +224,7 @@ same_so : (b : Bool) (cache : CacheState) → b ≡ false → cache ≡ shut_if 
 same_so true cache h = cc
 same_so false cache h = refl
 
-kept_on : (b : Bool) (session : Session) (o : Option Fault) → session ≡ sessions.Live → o ≡ None → is_none (cond (b && not (true && is_live session)) (Some faults.NoSession) o) ≡ true
+kept_on : (b : Bool) (session : ClientStanding) (o : Option Fault) → session ≡ sessions.Live → o ≡ None → is_none (cond (b && not (true && is_live session)) (Some faults.NoSession) o) ≡ true
 kept_on true session o live none = rw (live, none) refl
 kept_on false session o live none = rw none refl
 
@@ -260,7 +260,7 @@ asks_it s moment (asks.SetSequencer number sequencer) h = cc
 asks_it s moment (asks.CheckSequencer bytes) h = cc
 asks_it s moment asks.Leave h = refl
 
-sends_it : (b : Bool) (o : Option Outstanding) (plan : Plan) (fault : Fault) → (b && is_none o) ≡ true → cond (is_some o) (Err faults.CallOutstanding) (Ok plan) ≡ Err fault → ⊥
+sends_it : (b : Bool) (o : Option Outstanding) (plan : AskPlan) (fault : Fault) → (b && is_none o) ≡ true → cond (is_some o) (Err faults.CallOutstanding) (Ok plan) ≡ Err fault → ⊥
 sends_it true None plan fault h is = cc
 sends_it true (Some call) plan fault h is = cc
 sends_it false o plan fault h is = cc

@@ -2,8 +2,8 @@
 use Rattle.std.proofs.Common.{◌≡◌, ◌≢◌, ◌⊎◌, inl, inr, ℕ, ◌<◌, ◌≤◌, max, Bool, true, false, cond, [], Option, Some, None, Result, Ok, Err, refl, sym, ap, ◌∙◌, subst, arith}
 use Rattle.lease_core.specs.Lease.{LeaseTerms, moment_limit}
 use Rattle.cache_core.specs.Caches.{CacheState}
-use Rattle.cache_core.specs.declared.standings.Standing.{Standing}
-use Rattle.cache_core.specs.declared.standings.Standing.TheVariants as standings
+use Rattle.cache_core.specs.declared.standings.SessionTrust.{SessionTrust}
+use Rattle.cache_core.specs.declared.standings.SessionTrust.TheVariants as standings
 use Rattle.node_core.specs.declared.refusals.Fault.{Fault}
 use Rattle.node_core.specs.declared.refusals.Fault.TheVariants as faults
 use Rattle.tags_cell.specs.declared.messages.requests.Request.{Request}
@@ -17,8 +17,8 @@ use Rattle.tags_cell.specs.declared.messages.outs.Refused.{Refused as RefusedMes
 use Rattle.tags_cell.specs.declared.messages.outs.CallResult.{CallResult}
 use Rattle.tags_cell.specs.declared.messages.outs.CallResult.TheVariants as results
 use Rattle.client_core.specs.declared.parts.asks.Ask.{Ask}
-use Rattle.client_core.specs.declared.parts.sessions.Session.{Session}
-use Rattle.client_core.specs.declared.parts.sessions.Session.TheVariants as sessions
+use Rattle.client_core.specs.declared.parts.sessions.ClientStanding.{ClientStanding}
+use Rattle.client_core.specs.declared.parts.sessions.ClientStanding.TheVariants as sessions
 use Rattle.client_core.specs.declared.parts.steps.Beaten.{Beaten}
 use Rattle.client_core.specs.declared.parts.targets.Target.{Target}
 use Rattle.client_core.specs.State.{ClientState, standing_then, session_behind, session_in, note_in, note, note_live, note_lines}
@@ -138,16 +138,16 @@ keeps : (s : ClientState) → Keeps s s
 keeps s = record { of_beats = record { beats = refl; sent = refl }; of_session = record { session = inl refl; epoch = refl; processed = refl; lease = refl } }
 
 -- where the session is, by the standing
-given_up : (standing : Standing) → (session_behind standing ≡ sessions.Live) ⊎ (session_behind standing ≡ sessions.Lost)
+given_up : (standing : SessionTrust) → (session_behind standing ≡ sessions.Live) ⊎ (session_behind standing ≡ sessions.Lost)
 given_up standings.Safe = inl refl
 given_up (standings.Jeopardy since) = inl refl
 given_up standings.Lost = inr refl
 
-live_stays : (s new : ClientState) (session : Session) → s.session ≡ sessions.Live → new.session ≡ session → (session ≡ sessions.Live) ⊎ (session ≡ sessions.Lost) → SessionStays s new
+live_stays : (s new : ClientState) (session : ClientStanding) → s.session ≡ sessions.Live → new.session ≡ session → (session ≡ sessions.Live) ⊎ (session ≡ sessions.Lost) → SessionStays s new
 live_stays s new session live is (inl e) = inl (is ∙ (e ∙ sym live))
 live_stays s new session live is (inr e) = inr (live, is ∙ e)
 
-session_stays : (s : ClientState) (session : Session) (moment : ℕ) → s.session ≡ session → SessionStays s (note_in session s moment)
+session_stays : (s : ClientState) (session : ClientStanding) (moment : ℕ) → s.session ≡ session → SessionStays s (note_in session s moment)
 session_stays s sessions.Unstarted moment is = inl refl
 session_stays s sessions.Live moment is = live_stays s (note_live s moment) (session_behind (standing_then s moment)) is refl (given_up (standing_then s moment))
 session_stays s sessions.Lost moment is = inl refl

@@ -3,14 +3,14 @@ use Rattle.std.proofs.Common.{◌≡◌, ◌≢◌, ℕ, Bool, true, false, cond
 use Rattle.std.specs.Prelude.{◌||◌}
 use Rattle.lease_core.specs.Lease.{LeaseTerms, is_unexpired}
 use Rattle.cache_core.specs.Caches.{CacheState, is_leased, noted as noted_cache}
-use Rattle.cache_core.specs.declared.standings.Standing.{Standing}
-use Rattle.cache_core.specs.declared.standings.Standing.TheVariants as standings
+use Rattle.cache_core.specs.declared.standings.SessionTrust.{SessionTrust}
+use Rattle.cache_core.specs.declared.standings.SessionTrust.TheVariants as standings
 use Rattle.tags_cell.specs.declared.messages.outs.Out.{Out}
 use Rattle.tags_cell.specs.declared.messages.outs.CallResult.{CallResult}
 use Rattle.tags_cell.specs.declared.messages.outs.CallResult.TheVariants as results
 use Rattle.client_core.specs.declared.parts.asks.Ask.{Ask}
-use Rattle.client_core.specs.declared.parts.sessions.Session.{Session}
-use Rattle.client_core.specs.declared.parts.sessions.Session.TheVariants as sessions
+use Rattle.client_core.specs.declared.parts.sessions.ClientStanding.{ClientStanding}
+use Rattle.client_core.specs.declared.parts.sessions.ClientStanding.TheVariants as sessions
 use Rattle.client_core.specs.declared.parts.targets.Target.{Target}
 use Rattle.client_core.specs.Leased.{under, shut, shut_if}
 use Rattle.client_core.specs.State.{ClientState, IsOff, at_moment, note_live, note_in, note, session_behind, standing_then}
@@ -26,7 +26,7 @@ use Rattle.client_core.specs.Cases.GiveCase.{GivenTooLate, OfAnother, Started, S
 noted_shut : (cache : CacheState) (now : ℕ) → cache.enabled ≡ false → (noted_cache cache now).enabled ≡ false
 noted_shut cache now h = elim (is_leased cache.lease now) as (λ b. (cond b cache (record cache { entries = []; enabled = false })).enabled ≡ false) [ true ↦ h | false ↦ refl ]
 
-still_begun : (standing : Standing) → session_behind standing ≢ sessions.Unstarted
+still_begun : (standing : SessionTrust) → session_behind standing ≢ sessions.Unstarted
 still_begun standings.Safe = λ e. cc
 still_begun (standings.Jeopardy since) = λ e. cc
 still_begun standings.Lost = λ e. cc
@@ -34,7 +34,7 @@ still_begun standings.Lost = λ e. cc
 live_off : (s : ClientState) (m : ℕ) → IsOff s → IsOff (note_live s m)
 live_off s m h = record { shuts = λ leave. noted_shut s.cache m (h.shuts leave); begun = λ leave. still_begun (standing_then s m) }
 
-note_off_in : (s : ClientState) (session : Session) (m : ℕ) → IsOff s → IsOff (note_in session s m)
+note_off_in : (s : ClientState) (session : ClientStanding) (m : ℕ) → IsOff s → IsOff (note_in session s m)
 note_off_in s sessions.Unstarted m h = record { shuts = h.shuts; begun = h.begun }
 note_off_in s sessions.Live m h = live_off s m h
 note_off_in s sessions.Lost m h = record { shuts = h.shuts; begun = h.begun }

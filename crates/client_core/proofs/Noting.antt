@@ -5,10 +5,10 @@ use Rattle.std.proofs.lemmas.Bool.Decides.{nat_tests}
 use Rattle.cache_core.specs.Caches.{CacheState, is_leased, noted}
 use Rattle.std.specs.Option.{option_to_list}
 use Rattle.cache_core.specs.Standings.{grace_period, standing_at, turn_line}
-use Rattle.cache_core.specs.declared.standings.Standing.{Standing}
-use Rattle.cache_core.specs.declared.standings.Standing.TheVariants as standings
-use Rattle.client_core.specs.declared.parts.sessions.Session.{Session}
-use Rattle.client_core.specs.declared.parts.sessions.Session.TheVariants as sessions
+use Rattle.cache_core.specs.declared.standings.SessionTrust.{SessionTrust}
+use Rattle.cache_core.specs.declared.standings.SessionTrust.TheVariants as standings
+use Rattle.client_core.specs.declared.parts.sessions.ClientStanding.{ClientStanding}
+use Rattle.client_core.specs.declared.parts.sessions.ClientStanding.TheVariants as sessions
 use Rattle.client_core.specs.State.{ClientState, at_moment, standing_then, session_behind, session_in, session_then, note_in, note, note_lines_in, note_lines}
 use Rattle.client_core.specs.Asks.{fault_then}
 use Rattle.client_core.specs.Sessions.{standing_fault, session_fault}
@@ -39,23 +39,23 @@ both false b h = cc
 
 -- ---- the standing
 
-no_longer_safe : (b : Bool) (since : ℕ) (X : Type 0) → cond {A = Standing} b standings.Lost (standings.Jeopardy since) ≡ standings.Safe → X
+no_longer_safe : (b : Bool) (since : ℕ) (X : Type 0) → cond {A = SessionTrust} b standings.Lost (standings.Jeopardy since) ≡ standings.Safe → X
 no_longer_safe true since X h = cc
 no_longer_safe false since X h = cc
 
 -- safe is who was safe, under a lease that runs
-pub stays_safe : (standing : Standing) (leased : Bool) (moment : ℕ) → standing_at standing leased moment ≡ standings.Safe → (standing ≡ standings.Safe) × (leased ≡ true)
+pub stays_safe : (standing : SessionTrust) (leased : Bool) (moment : ℕ) → standing_at standing leased moment ≡ standings.Safe → (standing ≡ standings.Safe) × (leased ≡ true)
 stays_safe standings.Safe true moment h = (refl, refl)
 stays_safe standings.Safe false moment h = cc
 stays_safe (standings.Jeopardy since) leased moment h = no_longer_safe (nat_le grace_period (moment - since)) since _ h
 stays_safe standings.Lost leased moment h = cc
 
-relies : (standing : Standing) → standing_fault standing ≡ None → standing ≡ standings.Safe
+relies : (standing : SessionTrust) → standing_fault standing ≡ None → standing ≡ standings.Safe
 relies standings.Safe h = refl
 relies (standings.Jeopardy since) h = cc
 relies standings.Lost h = cc
 
-relies_on : (session : Session) (standing : Standing) → session_fault session standing ≡ None → (session ≡ sessions.Live) × (standing ≡ standings.Safe)
+relies_on : (session : ClientStanding) (standing : SessionTrust) → session_fault session standing ≡ None → (session ≡ sessions.Live) × (standing ≡ standings.Safe)
 relies_on sessions.Unstarted standing h = cc
 relies_on sessions.Live standing h = (refl, relies standing h)
 relies_on sessions.Lost standing h = cc
@@ -78,24 +78,24 @@ faultless s moment h = let e = relies_on s.session (standing_then s moment) h in
 -- ---- the session
 
 -- what is a session then was one before
-pub live_before : (s : ClientState) (session : Session) (moment : ℕ) → session_in session s moment ≡ sessions.Live → session ≡ sessions.Live
+pub live_before : (s : ClientState) (session : ClientStanding) (moment : ℕ) → session_in session s moment ≡ sessions.Live → session ≡ sessions.Live
 live_before s sessions.Unstarted moment h = cc
 live_before s sessions.Live moment h = refl
 live_before s sessions.Lost moment h = cc
 live_before s sessions.TurnedAway moment h = cc
 
-not_unstarted : (standing : Standing) (X : Type 0) → session_behind standing ≡ sessions.Unstarted → X
+not_unstarted : (standing : SessionTrust) (X : Type 0) → session_behind standing ≡ sessions.Unstarted → X
 not_unstarted standings.Safe X h = cc
 not_unstarted (standings.Jeopardy since) X h = cc
 not_unstarted standings.Lost X h = cc
 
-pub unstarted_before : (s : ClientState) (session : Session) (moment : ℕ) → session_in session s moment ≡ sessions.Unstarted → session ≡ sessions.Unstarted
+pub unstarted_before : (s : ClientState) (session : ClientStanding) (moment : ℕ) → session_in session s moment ≡ sessions.Unstarted → session ≡ sessions.Unstarted
 unstarted_before s sessions.Unstarted moment h = refl
 unstarted_before s sessions.Live moment h = not_unstarted (standing_then s moment) _ h
 unstarted_before s sessions.Lost moment h = cc
 unstarted_before s sessions.TurnedAway moment h = cc
 
-pub then_in : (s : ClientState) (moment : ℕ) (session : Session) → s.session ≡ sessions.Live → session_behind (standing_then s moment) ≡ session → session_then s moment ≡ session
+pub then_in : (s : ClientState) (moment : ℕ) (session : ClientStanding) → s.session ≡ sessions.Live → session_behind (standing_then s moment) ≡ session → session_then s moment ≡ session
 then_in s moment session live h = ap (λ x. session_in x s moment) live ∙ h
 
 -- ---- the cache
@@ -115,7 +115,7 @@ noted_by cache true h = refl
 noted_by cache false h = cc
 
 -- a client whose parts are the same
-made : (s : ClientState) (moment : ℕ) (session : Session) (cache : CacheState) (standing : Standing) → session ≡ s.session → cache ≡ s.cache → standing ≡ s.standing → (record s { clock = moment; session = session; cache = cache; standing = standing }) ≡ at_moment s moment
+made : (s : ClientState) (moment : ℕ) (session : ClientStanding) (cache : CacheState) (standing : SessionTrust) → session ≡ s.session → cache ≡ s.cache → standing ≡ s.standing → (record s { clock = moment; session = session; cache = cache; standing = standing }) ≡ at_moment s moment
 made s moment session cache standing h k l = ap (λ x. record s { clock = moment; session = x; cache = cache; standing = standing }) h ∙ (ap (λ x. record s { clock = moment; session = s.session; cache = x; standing = standing }) k ∙ ap (λ x. record s { clock = moment; session = s.session; cache = s.cache; standing = x }) l)
 
 relied_then : (s : ClientState) (moment : ℕ) → Relies s moment → standing_then s moment ≡ standings.Safe
@@ -138,67 +138,67 @@ safe_note_sets_the_clock s moment h = let r = faultless s moment h in (r.leased,
 
 -- ---- what stays
 
-pub note_number : (s : ClientState) (session : Session) (moment : ℕ) → (note_in session s moment).number ≡ s.number
+pub note_number : (s : ClientState) (session : ClientStanding) (moment : ℕ) → (note_in session s moment).number ≡ s.number
 note_number s sessions.Unstarted moment = refl
 note_number s sessions.Live moment = refl
 note_number s sessions.Lost moment = refl
 note_number s sessions.TurnedAway moment = refl
 
-pub note_clock : (s : ClientState) (session : Session) (moment : ℕ) → (note_in session s moment).clock ≡ moment
+pub note_clock : (s : ClientState) (session : ClientStanding) (moment : ℕ) → (note_in session s moment).clock ≡ moment
 note_clock s sessions.Unstarted moment = refl
 note_clock s sessions.Live moment = refl
 note_clock s sessions.Lost moment = refl
 note_clock s sessions.TurnedAway moment = refl
 
-pub note_beats : (s : ClientState) (session : Session) (moment : ℕ) → (note_in session s moment).beats ≡ s.beats
+pub note_beats : (s : ClientState) (session : ClientStanding) (moment : ℕ) → (note_in session s moment).beats ≡ s.beats
 note_beats s sessions.Unstarted moment = refl
 note_beats s sessions.Live moment = refl
 note_beats s sessions.Lost moment = refl
 note_beats s sessions.TurnedAway moment = refl
 
-pub note_leaving : (s : ClientState) (session : Session) (moment : ℕ) → (note_in session s moment).leaving ≡ s.leaving
+pub note_leaving : (s : ClientState) (session : ClientStanding) (moment : ℕ) → (note_in session s moment).leaving ≡ s.leaving
 note_leaving s sessions.Unstarted moment = refl
 note_leaving s sessions.Live moment = refl
 note_leaving s sessions.Lost moment = refl
 note_leaving s sessions.TurnedAway moment = refl
 
-pub note_sent : (s : ClientState) (session : Session) (moment : ℕ) → (note_in session s moment).sent ≡ s.sent
+pub note_sent : (s : ClientState) (session : ClientStanding) (moment : ℕ) → (note_in session s moment).sent ≡ s.sent
 note_sent s sessions.Unstarted moment = refl
 note_sent s sessions.Live moment = refl
 note_sent s sessions.Lost moment = refl
 note_sent s sessions.TurnedAway moment = refl
 
-pub note_epoch : (s : ClientState) (session : Session) (moment : ℕ) → (note_in session s moment).epoch ≡ s.epoch
+pub note_epoch : (s : ClientState) (session : ClientStanding) (moment : ℕ) → (note_in session s moment).epoch ≡ s.epoch
 note_epoch s sessions.Unstarted moment = refl
 note_epoch s sessions.Live moment = refl
 note_epoch s sessions.Lost moment = refl
 note_epoch s sessions.TurnedAway moment = refl
 
-pub note_processed : (s : ClientState) (session : Session) (moment : ℕ) → (note_in session s moment).processed ≡ s.processed
+pub note_processed : (s : ClientState) (session : ClientStanding) (moment : ℕ) → (note_in session s moment).processed ≡ s.processed
 note_processed s sessions.Unstarted moment = refl
 note_processed s sessions.Live moment = refl
 note_processed s sessions.Lost moment = refl
 note_processed s sessions.TurnedAway moment = refl
 
-pub note_outstanding : (s : ClientState) (session : Session) (moment : ℕ) → (note_in session s moment).outstanding ≡ s.outstanding
+pub note_outstanding : (s : ClientState) (session : ClientStanding) (moment : ℕ) → (note_in session s moment).outstanding ≡ s.outstanding
 note_outstanding s sessions.Unstarted moment = refl
 note_outstanding s sessions.Live moment = refl
 note_outstanding s sessions.Lost moment = refl
 note_outstanding s sessions.TurnedAway moment = refl
 
-pub note_opened : (s : ClientState) (session : Session) (moment : ℕ) → (note_in session s moment).opened ≡ s.opened
+pub note_opened : (s : ClientState) (session : ClientStanding) (moment : ℕ) → (note_in session s moment).opened ≡ s.opened
 note_opened s sessions.Unstarted moment = refl
 note_opened s sessions.Live moment = refl
 note_opened s sessions.Lost moment = refl
 note_opened s sessions.TurnedAway moment = refl
 
-pub note_lease : (s : ClientState) (session : Session) (moment : ℕ) → (note_in session s moment).cache.lease ≡ s.cache.lease
+pub note_lease : (s : ClientState) (session : ClientStanding) (moment : ℕ) → (note_in session s moment).cache.lease ≡ s.cache.lease
 note_lease s sessions.Unstarted moment = refl
 note_lease s sessions.Live moment = noted_lease s.cache moment
 note_lease s sessions.Lost moment = refl
 note_lease s sessions.TurnedAway moment = refl
 
-note_session_in : (s : ClientState) (session : Session) (moment : ℕ) → s.session ≡ session → (note_in session s moment).session ≡ session_in session s moment
+note_session_in : (s : ClientState) (session : ClientStanding) (moment : ℕ) → s.session ≡ session → (note_in session s moment).session ≡ session_in session s moment
 note_session_in s sessions.Unstarted moment is = is
 note_session_in s sessions.Live moment is = refl
 note_session_in s sessions.Lost moment is = is

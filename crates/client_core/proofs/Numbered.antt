@@ -5,8 +5,8 @@ use Rattle.std.specs.Option.{option_to_list}
 use Rattle.std.proofs.lemmas.Bool.Decides.{nat_tests}
 use Rattle.lease_core.specs.Lease.{moment_limit}
 use Rattle.cache_core.specs.Standings.{turn_line}
-use Rattle.cache_core.specs.declared.standings.Standing.{Standing}
-use Rattle.cache_core.specs.declared.standings.Standing.TheVariants as standings
+use Rattle.cache_core.specs.declared.standings.SessionTrust.{SessionTrust}
+use Rattle.cache_core.specs.declared.standings.SessionTrust.TheVariants as standings
 use Rattle.node_core.specs.declared.refusals.Fault.{Fault}
 use Rattle.node_core.specs.declared.refusals.Fault.TheVariants as faults
 use Rattle.node_core.specs.declared.answers.Answer.{Answer}
@@ -22,13 +22,13 @@ use Rattle.tags_cell.specs.declared.messages.outs.CallResult.{CallResult}
 use Rattle.tags_cell.specs.declared.messages.outs.CallResult.TheVariants as results
 use Rattle.tags_cell.specs.Messages.{request_number, out_client}
 use Rattle.client_core.specs.declared.parts.asks.Ask.{Ask}
-use Rattle.client_core.specs.declared.parts.asks.Asked.{Asked}
+use Rattle.client_core.specs.declared.parts.asks.AskOutcome.{AskOutcome}
 use Rattle.client_core.specs.declared.parts.asks.NodeCall.{NodeCall}
 use Rattle.client_core.specs.declared.parts.asks.Outcome.{Outcome}
 use Rattle.client_core.specs.declared.parts.asks.Outcome.TheVariants as outcomes
 use Rattle.client_core.specs.declared.parts.handles.ClientHandle.{ClientHandle}
-use Rattle.client_core.specs.declared.parts.sessions.Session.{Session}
-use Rattle.client_core.specs.declared.parts.sessions.Session.TheVariants as sessions
+use Rattle.client_core.specs.declared.parts.sessions.ClientStanding.{ClientStanding}
+use Rattle.client_core.specs.declared.parts.sessions.ClientStanding.TheVariants as sessions
 use Rattle.client_core.specs.declared.parts.steps.Given.{Given}
 use Rattle.client_core.specs.declared.parts.targets.Target.{Target}
 use Rattle.client_core.specs.declared.parts.targets.Outstanding.{Outstanding}
@@ -93,7 +93,7 @@ last_silent : (line : Line) (printed : List Line) → gives_handle line ≡ fals
 last_silent line [] h k = h
 last_silent line (next ∷ others) h k = last_silent next others k.0 k.1
 
-turn_silent : (number : ℕ) (former standing : Standing) → AreSilent (option_to_list (turn_line number former standing))
+turn_silent : (number : ℕ) (former standing : SessionTrust) → AreSilent (option_to_list (turn_line number former standing))
 turn_silent number standings.Safe standings.Safe = tt
 turn_silent number standings.Safe (standings.Jeopardy since) = (refl, tt)
 turn_silent number standings.Safe standings.Lost = (refl, tt)
@@ -102,7 +102,7 @@ turn_silent number (standings.Jeopardy since) (standings.Jeopardy later) = tt
 turn_silent number (standings.Jeopardy since) standings.Lost = (refl, tt)
 turn_silent number standings.Lost standing = tt
 
-note_silent : (s : ClientState) (session : Session) (moment : ℕ) → AreSilent (note_lines_in session s moment)
+note_silent : (s : ClientState) (session : ClientStanding) (moment : ℕ) → AreSilent (note_lines_in session s moment)
 note_silent s sessions.Unstarted moment = tt
 note_silent s sessions.Live moment = turn_silent s.number s.standing (standing_then s moment)
 note_silent s sessions.Lost moment = tt
@@ -190,11 +190,11 @@ handle_numbers_rise s new now client call handle out before h =
     rises_in s new now client call handle out given.0 (ap (λ p. p.0) e) (ap (λ p. last_line lines.Recovered (lines_of p.1)) e ∙ last_is lines.Recovered (lines.Done client call (answers.Opened handle)) before)
 
 -- what came of it
-abbrev outcome_of : Result Asked Fault → Option Outcome
+abbrev outcome_of : Result AskOutcome Fault → Option Outcome
 outcome_of (Ok asked) = Some asked.outcome
 outcome_of (Err fault) = None
 
-abbrev Comes : Result Asked Fault → Outcome → Type 0
+abbrev Comes : Result AskOutcome Fault → Outcome → Type 0
 Comes asked outcome = outcome_of asked ≡ Some outcome
 
 -- no handle is given
@@ -322,7 +322,7 @@ IsStale s reply = (out_client (outs.Reply reply) ≢ s.number) ⊎ ((moment : �
 none_awaited : (s : ClientState) (message : Reply) → s.outstanding ≡ None → IsStale s message
 none_awaited s message h = inr (λ moment. no_target (is_live (session_then s moment) && message.epoch == s.epoch) message.number s.outstanding h)
 
-lives : (session : Session) → is_live session ≡ true → session ≡ sessions.Live
+lives : (session : ClientStanding) → is_live session ≡ true → session ≡ sessions.Live
 lives sessions.Unstarted h = cc
 lives sessions.Live h = refl
 lives sessions.Lost h = cc
@@ -422,7 +422,7 @@ repeated_reply_is_dropped s new now later reply given h k =
 
 -- ---- what the client refuses by itself
 
-abbrev printed_of : Result Asked Fault → List Line
+abbrev printed_of : Result AskOutcome Fault → List Line
 printed_of (Ok asked) = asked.lines
 printed_of (Err fault) = []
 

@@ -12,8 +12,8 @@ use Rattle.tags_cell.specs.declared.messages.outs.Out.{Out}
 use Rattle.tags_cell.specs.declared.messages.outs.Out.TheVariants as outs
 use Rattle.tags_cell.specs.declared.messages.outs.Reply.{Reply}
 use Rattle.client_core.specs.declared.parts.asks.Ask.{Ask}
-use Rattle.client_core.specs.declared.parts.sessions.Session.{Session}
-use Rattle.client_core.specs.declared.parts.sessions.Session.TheVariants as sessions
+use Rattle.client_core.specs.declared.parts.sessions.ClientStanding.{ClientStanding}
+use Rattle.client_core.specs.declared.parts.sessions.ClientStanding.TheVariants as sessions
 use Rattle.client_core.specs.declared.parts.targets.Outstanding.{Outstanding}
 use Rattle.client_core.specs.State.{ClientState, note_in, note, note_live}
 use Rattle.client_core.specs.Asks.{ask_step}
@@ -131,7 +131,7 @@ flushed_stays processed entries all name h = record { entry = all_stay_or_go pro
 
 -- ---- the noting of the time
 
-note_in_stays : (s : ClientState) (session : Session) (moment : ℕ) (name : List ℕ) → AreCacheEntries s.cache.entries → CacheStays s.cache.entries (note_in session s moment).cache.entries name
+note_in_stays : (s : ClientState) (session : ClientStanding) (moment : ℕ) (name : List ℕ) → AreCacheEntries s.cache.entries → CacheStays s.cache.entries (note_in session s moment).cache.entries name
 note_in_stays s sessions.Unstarted moment name h = same_cache s.cache.entries s.cache.entries name h refl
 note_in_stays s sessions.Live moment name h = noted_stays s.cache moment name h
 note_in_stays s sessions.Lost moment name h = same_cache s.cache.entries s.cache.entries name h refl

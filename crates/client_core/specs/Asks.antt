@@ -17,7 +17,7 @@ use Rattle.tags_cell.specs.declared.messages.requests.Request.TheVariants as req
 use Rattle.client_core.specs.declared.parts.asks.Ask.{Ask}
 use Rattle.client_core.specs.declared.parts.asks.Ask.TheVariants as asks
 use Rattle.client_core.specs.declared.parts.asks.NodeCall.{NodeCall}
-use Rattle.client_core.specs.declared.parts.asks.Asked.{Asked}
+use Rattle.client_core.specs.declared.parts.asks.AskOutcome.{AskOutcome}
 use Rattle.client_core.specs.declared.parts.asks.Outcome.{Outcome}
 use Rattle.client_core.specs.declared.parts.asks.Outcome.TheVariants.{Sent, Served, Answered, Refused}
 use Rattle.client_core.specs.declared.parts.handles.ClientHandle.{ClientHandle}
@@ -25,8 +25,8 @@ use Rattle.client_core.specs.declared.parts.targets.Target.{Target}
 use Rattle.client_core.specs.declared.parts.targets.Target.TheVariants as targets
 use Rattle.client_core.specs.Calls.{call_on}
 use Rattle.client_core.specs.Sessions.{session_fault}
-use Rattle.client_core.specs.declared.plans.Plan.{Plan}
-use Rattle.client_core.specs.declared.plans.Plan.TheVariants as plans
+use Rattle.client_core.specs.declared.plans.AskPlan.{AskPlan}
+use Rattle.client_core.specs.declared.plans.AskPlan.TheVariants as plans
 use Rattle.client_core.specs.Moments.{moment}
 use Rattle.client_core.specs.Leased.{shut_if}
 use Rattle.client_core.specs.Gives.{is_live}
@@ -54,39 +54,39 @@ fault_for s moment ask = if has_given_up s moment ask then Some faults.NoSession
 -- ---- what is done, or the first reason why it may not be
 
 -- one call at a time, perhaps under a sequencer
-abbrev pub send_plan : ClientState → Call → Option (List ℕ) → Target → Result Plan Fault
+abbrev pub send_plan : ClientState → Call → Option (List ℕ) → Target → Result AskPlan Fault
 send_plan s call sequencer target = if is_some s.outstanding then Err faults.CallOutstanding else Ok (plans.Send call sequencer target)
 
 -- what the cache answers is answered, and all else is sent
-abbrev pub served_or : Option Plan → Result Plan Fault → Result Plan Fault
+abbrev pub served_or : Option AskPlan → Result AskPlan Fault → Result AskPlan Fault
 served_or (Some plan) sent = Ok plan
 served_or None sent = sent
 
-abbrev pub open_plan : ClientState → ℕ → Open → Result Plan Fault
+abbrev pub open_plan : ClientState → ℕ → Open → Result AskPlan Fault
 open_plan s moment opening = served_or (open_served s moment opening) (send_plan s (calls.Open opening) None targets.NewHandle)
 
 -- a shared handle stays open at the master, so that the client closes it by itself; a Close is under no sequencer
-abbrev pub close_plan : ClientState → ℕ → Option ClientHandle → Result Plan Fault
+abbrev pub close_plan : ClientState → ℕ → Option ClientHandle → Result AskPlan Fault
 close_plan s number None = Err faults.BadHandle
 close_plan s number (Some handle) = if handle.shared then Ok (plans.Release number) else send_plan s (calls.Close handle.bytes) None (targets.Closing number)
 
 -- a Poison waits for no call
-abbrev pub poison_plan : ℕ → Result ClientHandle Fault → Result Plan Fault
+abbrev pub poison_plan : ℕ → Result ClientHandle Fault → Result AskPlan Fault
 poison_plan number (Err fault) = Err fault
 poison_plan number (Ok handle) = Ok (plans.Poison number handle)
 
 -- under the sequencer of its handle
-abbrev pub node_plan : ClientState → ℕ → ℕ → NodeCall → Result ClientHandle Fault → Result Plan Fault
+abbrev pub node_plan : ClientState → ℕ → ℕ → NodeCall → Result ClientHandle Fault → Result AskPlan Fault
 node_plan s moment number call (Err fault) = Err fault
 node_plan s moment number call (Ok handle) = served_or (read_served s moment handle call) (send_plan s (call_on handle.bytes call) handle.sequencer (targets.Handle number))
 
 -- under the sequencer that is to be set
-abbrev pub sequencer_plan : ClientState → ℕ → List ℕ → Result ClientHandle Fault → Result Plan Fault
+abbrev pub sequencer_plan : ClientState → ℕ → List ℕ → Result ClientHandle Fault → Result AskPlan Fault
 sequencer_plan s number sequencer (Err fault) = Err fault
 sequencer_plan s number sequencer (Ok handle) = send_plan s (calls.SetSequencer handle.bytes) (Some sequencer) (targets.Sequencing number)
 
 -- first the handle, then the cache, then the outstanding call
-abbrev pub plan_of : ClientState → ℕ → Ask → Result Plan Fault
+abbrev pub plan_of : ClientState → ℕ → Ask → Result AskPlan Fault
 plan_of s moment (asks.Open opening) = open_plan s moment opening
 plan_of s moment (asks.Close number) = close_plan s number (handle_of s.handles number)
 plan_of s moment (asks.Poison number) = poison_plan number (usable_handle (handle_of s.handles number))
@@ -102,7 +102,7 @@ leaves s moment ask = (asks_to_leave ask && is_none (fault_for s moment ask)) &&
 -- ---- one step
 
 -- what comes of it, and the lines that are printed
-abbrev pub asked_for : List Line → Outcome → Asked
+abbrev pub asked_for : List Line → Outcome → AskOutcome
 asked_for lines outcome = record { lines = lines; outcome = outcome }
 
 abbrev pub message_of : ClientState → Call → Option (List ℕ) → Request
@@ -119,7 +119,7 @@ with_call s moment call sequencer target = record s {
 }
 
 -- it is sent under the next number; behind the last number nothing changes
-abbrev pub send_step : ClientState → ℕ → Call → Option (List ℕ) → Target → ClientState × Result Asked Fault
+abbrev pub send_step : ClientState → ℕ → Call → Option (List ℕ) → Target → ClientState × Result AskOutcome Fault
 send_step s moment call sequencer target =
     if nat_lt (s.calls + 1) number_end then (with_call s moment call sequencer target, Ok (asked_for [] (Sent (message_of s call sequencer)))) else (s, Err faults.Exhausted)
 
@@ -128,7 +128,7 @@ abbrev pub with_shared : ClientState → ℕ → ClientHandle → ClientState
 with_shared s moment handle = record s { clock = moment; handles = insert_entry nat_cmp s.handles (s.opened + 1) handle; opened = s.opened + 1 }
 
 -- it is told as an Open that ended; behind the last number nothing changes
-abbrev pub share_step : ClientState → ℕ → Line → ClientHandle → ClientState × Result Asked Fault
+abbrev pub share_step : ClientState → ℕ → Line → ClientHandle → ClientState × Result AskOutcome Fault
 share_step s moment line handle =
     if nat_lt (s.opened + 1) number_end
     then (with_shared s moment handle, Ok (asked_for (line ∷ lines.Done s.number 0 (answers.Opened (s.opened + 1)) ∷ []) (Served (answers.Opened (s.opened + 1)))))
@@ -138,25 +138,25 @@ share_step s moment line handle =
 abbrev pub without_handle : ClientState → ℕ → ℕ → ClientState
 without_handle s moment number = record s { clock = moment; handles = remove_entry (is_at (nat_cmp number)) s.handles }
 
-abbrev pub carried_out : ClientState → ℕ → Plan → ClientState × Result Asked Fault
+abbrev pub carried_out : ClientState → ℕ → AskPlan → ClientState × Result AskOutcome Fault
 carried_out s moment (plans.Send call sequencer target) = send_step s moment call sequencer target
 carried_out s moment (plans.Poison number handle) = (with_poisoned s moment number handle, Ok (asked_for (poison_lines s number) Answered))
 carried_out s moment (plans.Serve line answer) = (at_moment s moment, Ok (asked_for (line ∷ []) (Served answer)))
 carried_out s moment (plans.Share line handle) = share_step s moment line handle
 carried_out s moment (plans.Release number) = (without_handle s moment number, Ok (asked_for (lines.Done s.number 0 answers.Closed ∷ []) Answered))
 
-abbrev pub ask_by : ClientState → ℕ → Result Plan Fault → ClientState × Result Asked Fault
+abbrev pub ask_by : ClientState → ℕ → Result AskPlan Fault → ClientState × Result AskOutcome Fault
 ask_by s moment (Ok plan) = carried_out s moment plan
 ask_by s moment (Err fault) = (at_moment s moment, Ok (asked_for [] (Refused fault)))
 
 -- first the time is noted. Where the client may rely on its session, its clock alone changes by that, and nothing is printed
-abbrev pub ask_in : ClientState → ℕ → Ask → Option Fault → ClientState × Result Asked Fault
+abbrev pub ask_in : ClientState → ℕ → Ask → Option Fault → ClientState × Result AskOutcome Fault
 ask_in s moment ask (Some fault) = (note s moment, Ok (asked_for (note_lines s moment) (Refused fault)))
 ask_in s moment ask None = ask_by s moment (plan_of s moment ask)
 
-abbrev pub ask_at : ClientState → Ask → Result ℕ Fault → ClientState × Result Asked Fault
+abbrev pub ask_at : ClientState → Ask → Result ℕ Fault → ClientState × Result AskOutcome Fault
 ask_at s ask (Ok moment) = ask_in s moment ask (fault_for s moment ask)
 ask_at s ask (Err fault) = (s, Err fault)
 
-unfoldable pub ask_step : ClientState → ℕ → Ask → ClientState × Result Asked Fault
+unfoldable pub ask_step : ClientState → ℕ → Ask → ClientState × Result AskOutcome Fault
 ask_step s now ask = ask_at s ask (moment s.clock now)

@@ -6,8 +6,8 @@ use Rattle.node_core.specs.declared.refusals.Fault.TheVariants as faults
 use Rattle.node_core.specs.declared.lines.Line.{Line}
 use Rattle.tags_cell.specs.declared.messages.requests.Request.{Request}
 use Rattle.tags_cell.specs.declared.messages.requests.Request.TheVariants as requests
-use Rattle.client_core.specs.declared.parts.sessions.Session.{Session}
-use Rattle.client_core.specs.declared.parts.sessions.Session.TheVariants as sessions
+use Rattle.client_core.specs.declared.parts.sessions.ClientStanding.{ClientStanding}
+use Rattle.client_core.specs.declared.parts.sessions.ClientStanding.TheVariants as sessions
 use Rattle.client_core.specs.declared.parts.steps.Beaten.{Beaten}
 use Rattle.client_core.specs.Moments.{moment}
 use Rattle.client_core.specs.State.{ClientState, session_then, note, note_lines}
@@ -32,7 +32,7 @@ sends s moment message =
     if nat_lt (s.beats + 1) number_end then (with_beat (note s moment) moment, Ok (beaten (note_lines s moment) (Some message))) else (s, Err faults.Exhausted)
 
 -- a client asks for a session until it has one, and then for its being kept, or is told that it gets none
-abbrev pub beat_by : ClientState → ℕ → Session → ClientState × Result Beaten Fault
+abbrev pub beat_by : ClientState → ℕ → ClientStanding → ClientState × Result Beaten Fault
 beat_by s moment sessions.Unstarted = sends s moment (start_message s)
 beat_by s moment sessions.Live = sends s moment (beat_message s)
 beat_by s moment sessions.Lost = (note s moment, Ok (beaten (note_lines s moment) None))

@@ -3,7 +3,7 @@ use Rattle.std.specs.Prelude.{◌≡◌, ◌≢◌, ◌⊎◌, ℕ, ◌+◌, ◌
 use Rattle.lease_core.specs.Lease.{moment_limit}
 use Rattle.cache_core.specs.Caches.{is_leased, takes_lease, answer}
 use Rattle.cache_core.specs.Kept.{serving}
-use Rattle.cache_core.specs.declared.standings.Standing.TheVariants as standings
+use Rattle.cache_core.specs.declared.standings.SessionTrust.TheVariants as standings
 use Rattle.node_core.specs.Limits.{number_end}
 use Rattle.node_core.specs.declared.refusals.Fault.{Fault}
 use Rattle.node_core.specs.declared.refusals.Fault.TheVariants as faults
@@ -25,11 +25,11 @@ use Rattle.tags_cell.specs.Messages.{request_number, out_client, is_leave}
 use Rattle.client_core.specs.declared.parts.asks.Ask.{Ask}
 use Rattle.client_core.specs.declared.parts.asks.Ask.TheVariants as asks
 use Rattle.client_core.specs.declared.parts.asks.NodeCall.{NodeCall}
-use Rattle.client_core.specs.declared.parts.asks.Asked.{Asked}
+use Rattle.client_core.specs.declared.parts.asks.AskOutcome.{AskOutcome}
 use Rattle.client_core.specs.declared.parts.asks.Outcome.TheVariants as outcomes
 use Rattle.client_core.specs.declared.parts.handles.ClientHandle.{ClientHandle}
-use Rattle.client_core.specs.declared.plans.Plan.TheVariants as plans
-use Rattle.client_core.specs.declared.parts.sessions.Session.TheVariants as sessions
+use Rattle.client_core.specs.declared.plans.AskPlan.TheVariants as plans
+use Rattle.client_core.specs.declared.parts.sessions.ClientStanding.TheVariants as sessions
 use Rattle.client_core.specs.declared.parts.steps.Given.{Given}
 use Rattle.client_core.specs.declared.parts.steps.Beaten.{Beaten}
 use Rattle.client_core.specs.declared.parts.targets.Target.{Target}
@@ -117,7 +117,7 @@ pub data AskCase (s : ClientState) (now : ℕ) (ask : Ask) : Type 0 where
   Poisoned : (number : ℕ) (handle : ClientHandle) → IsSafe s now → ask ≡ asks.Poison number → IsUsable s number handle → AskCase s now ask
 
 -- what the client is then, and answers
-abbrev pub asked_in : (s : ClientState) (now : ℕ) (ask : Ask) → AskCase s now ask → ClientState × Result Asked Fault
+abbrev pub asked_in : (s : ClientState) (now : ℕ) (ask : Ask) → AskCase s now ask → ClientState × Result AskOutcome Fault
 asked_in s now ask (AskedTooLate late) = (s, Err faults.Exhausted)
 asked_in s now ask (Unsafe fault early is) = (noted s now, Ok (asked_for (note_lines s (noted_moment s now)) (outcomes.Refused fault)))
 asked_in s now ask (Refused fault safe is) = (at_moment s (noted_moment s now), Ok (asked_for [] (outcomes.Refused fault)))

@@ -6,8 +6,8 @@ use Rattle.node_core.specs.declared.lines.Line.{Line}
 use Rattle.node_core.specs.declared.refusals.Fault.{Fault}
 use Rattle.cache_core.specs.Caches.{is_leased}
 use Rattle.cache_core.specs.Standings.{grace_period}
-use Rattle.cache_core.specs.declared.standings.Standing.{Standing}
-use Rattle.cache_core.specs.declared.standings.Standing.TheVariants as standings
+use Rattle.cache_core.specs.declared.standings.SessionTrust.{SessionTrust}
+use Rattle.cache_core.specs.declared.standings.SessionTrust.TheVariants as standings
 use Rattle.client_core.specs.declared.parts.steps.Beaten.{Beaten}
 use Rattle.client_core.specs.State.{ClientState, note_lines}
 use Rattle.client_core.specs.Beats.{beat_step}
@@ -74,7 +74,7 @@ abbrev pub now_or_never : Bool → ℕ → Option ℕ
 now_or_never numbered clock = if numbered then until clock else None
 
 -- in a session
-abbrev pub in_session : Standing → Bool → ℕ → Option ℕ
+abbrev pub in_session : SessionTrust → Bool → ℕ → Option ℕ
 in_session standings.Safe numbered clock = now_or_never numbered clock
 in_session (standings.Jeopardy since) numbered clock = if numbered then until clock else until (loss_at clock since)
 in_session standings.Lost numbered clock = None

@@ -6,8 +6,8 @@ use Rattle.std.specs.Ordering.{nat_cmp}
 use Rattle.lease_core.specs.Lease.{LeaseTerms, moment_limit, is_unexpired}
 use Rattle.cache_core.specs.Caches.{installed, takes_lease}
 use Rattle.cache_core.specs.Standings.{reprieved}
-use Rattle.cache_core.specs.declared.standings.Standing.{Standing}
-use Rattle.cache_core.specs.declared.standings.Standing.TheVariants as standings
+use Rattle.cache_core.specs.declared.standings.SessionTrust.{SessionTrust}
+use Rattle.cache_core.specs.declared.standings.SessionTrust.TheVariants as standings
 use Rattle.node_core.specs.Limits.{number_end}
 use Rattle.node_core.specs.declared.refusals.Fault.{Fault}
 use Rattle.node_core.specs.declared.refusals.Fault.TheVariants as faults
@@ -26,8 +26,8 @@ use Rattle.tags_cell.specs.declared.messages.outs.CallResult.TheVariants as resu
 use Rattle.tags_cell.specs.declared.messages.outs.NewHandle.{NewHandle}
 use Rattle.tags_cell.specs.declared.messages.calls.Open.{Open}
 use Rattle.tags_cell.specs.Messages.{request_number, out_client}
-use Rattle.client_core.specs.declared.parts.sessions.Session.{Session}
-use Rattle.client_core.specs.declared.parts.sessions.Session.TheVariants as sessions
+use Rattle.client_core.specs.declared.parts.sessions.ClientStanding.{ClientStanding}
+use Rattle.client_core.specs.declared.parts.sessions.ClientStanding.TheVariants as sessions
 use Rattle.client_core.specs.declared.parts.handles.ClientHandle.{ClientHandle}
 use Rattle.client_core.specs.declared.parts.steps.Given.{Given}
 use Rattle.client_core.specs.declared.parts.targets.Target.{Target}
@@ -44,13 +44,13 @@ use Rattle.client_core.specs.Opens.{Lesson}
 use Rattle.client_core.specs.Leased.{under, shut, shut_if}
 use Rattle.client_core.specs.Lessons.{lesson}
 
-abbrev pub is_unstarted : Session → Bool
+abbrev pub is_unstarted : ClientStanding → Bool
 is_unstarted sessions.Unstarted = true
 is_unstarted sessions.Live = false
 is_unstarted sessions.Lost = false
 is_unstarted sessions.TurnedAway = false
 
-abbrev pub is_live : Session → Bool
+abbrev pub is_live : ClientStanding → Bool
 is_live sessions.Unstarted = false
 is_live sessions.Live = true
 is_live sessions.Lost = false
@@ -110,7 +110,7 @@ abbrev pub takes_offer : ClientState → Alive → Bool
 takes_offer s message = message.number == s.beats && takes_lease s.cache.lease (offered s message.span)
 
 -- a lease that runs ends a jeopardy
-abbrev pub standing_under : Standing → LeaseTerms → ℕ → Standing
+abbrev pub standing_under : SessionTrust → LeaseTerms → ℕ → SessionTrust
 standing_under standing lease moment = if is_unexpired lease.sent lease.span moment then reprieved standing else standing
 
 -- the cache of a client that ends its session stays empty and turned off
@@ -120,7 +120,7 @@ bettered s moment lease = record s { cache = shut_if s.leaving (under s.cache le
 abbrev pub with_lease : ClientState → ℕ → Alive → ClientState
 with_lease s moment message = if takes_offer s message then bettered s moment (offered s message.span) else s
 
-abbrev pub is_jeopardy : Standing → Bool
+abbrev pub is_jeopardy : SessionTrust → Bool
 is_jeopardy standings.Safe = false
 is_jeopardy (standings.Jeopardy since) = true
 is_jeopardy standings.Lost = false
@@ -147,7 +147,7 @@ alive_step s moment message =
 -- ---- a session that is over
 
 -- a client without a session holds nothing
-abbrev pub lost : ClientState → Session → ClientState
+abbrev pub lost : ClientState → ClientStanding → ClientState
 lost s session = record s { session = session; cache = shut s.cache; standing = standings.Lost }
 
 -- the client has ended it, and is told so
@@ -235,7 +235,7 @@ reply_step s moment message = reply_for s moment message (awaited s moment messa
 
 -- ---- Refused
 
-abbrev pub lose_step : ClientState → ℕ → Option Session → ClientState × Result Given Fault
+abbrev pub lose_step : ClientState → ℕ → Option ClientStanding → ClientState × Result Given Fault
 lose_step s moment None = passed_over s moment
 lose_step s moment (Some session) = (lost (note s moment) session, Ok (told s moment (lines.Lost s.number ∷ []) None))
 
@@ -250,7 +250,7 @@ abbrev pub learned : ClientState → ℕ → ClientState
 learned s epoch = record s { epoch = epoch; processed = 0; heard = 0; cache = record s.cache { entries = [] }; outstanding = None }
 
 -- else the session may be lost
-abbrev pub learn_step : ClientState → ℕ → Option Session → Option ℕ → ClientState × Result Given Fault
+abbrev pub learn_step : ClientState → ℕ → Option ClientStanding → Option ℕ → ClientState × Result Given Fault
 learn_step s moment after None = lose_step s moment after
 learn_step s moment after (Some present) = (learned (note s moment) present, Ok (told s moment (unknown_lines s.number s.outstanding) None))
 

@@ -4,7 +4,7 @@ use Rattle.std.specs.Map.{lookup, set_value}
 use Rattle.std.specs.BTreeMap.{is_at, insert_entry}
 use Rattle.std.specs.Ordering.{nat_cmp}
 use Rattle.cache_core.specs.Kept.{with_kept}
-use Rattle.cache_core.specs.declared.kept.Kept.{Kept}
+use Rattle.cache_core.specs.declared.kept.SharedHandle.{SharedHandle}
 use Rattle.node_core.specs.Limits.{number_end}
 use Rattle.node_core.specs.declared.refusals.Fault.{Fault}
 use Rattle.node_core.specs.declared.refusals.Fault.TheVariants as faults
@@ -40,7 +40,7 @@ handles_behind handles number handle None = handles
 handles_behind handles number handle (Some opening) = insert_entry nat_cmp handles number (kept_handle handle opening (is_shareable handle opening))
 
 -- a handle that may be shared is kept
-abbrev pub kept_behind : List (Kept NewHandle) → NewHandle → Option Open → List (Kept NewHandle)
+abbrev pub kept_behind : List (SharedHandle NewHandle) → NewHandle → Option Open → List (SharedHandle NewHandle)
 kept_behind kept handle None = kept
 kept_behind kept handle (Some opening) =
     if is_shareable handle opening then with_kept kept (record { name = opening.name; instance = handle.instance; handle = handle }) else kept

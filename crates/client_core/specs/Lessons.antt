@@ -1,7 +1,7 @@
 -- What a reply teaches a client of a name.
 use Rattle.std.specs.Prelude.{ℕ, ◌&&◌, nat_le, Bool, true, false, Option, Some, None, if◌then◌else◌}
-use Rattle.cache_core.specs.declared.standings.Standing.{Standing}
-use Rattle.cache_core.specs.declared.standings.Standing.TheVariants as standings
+use Rattle.cache_core.specs.declared.standings.SessionTrust.{SessionTrust}
+use Rattle.cache_core.specs.declared.standings.SessionTrust.TheVariants as standings
 use Rattle.node_core.specs.declared.refusals.Fault.{Fault}
 use Rattle.node_core.specs.declared.refusals.Fault.TheVariants as faults
 use Rattle.node_core.specs.declared.views.View.{View}
@@ -18,7 +18,7 @@ use Rattle.client_core.specs.Opens.{Lesson, absent}
 
 -- ---- whether the cache takes it
 
-abbrev pub is_safe : Standing → Bool
+abbrev pub is_safe : SessionTrust → Bool
 is_safe standings.Safe = true
 is_safe (standings.Jeopardy since) = false
 is_safe standings.Lost = false

@@ -4,9 +4,9 @@ use Rattle.std.specs.Option.{option_to_list}
 use Rattle.lease_core.specs.Lease.{LeaseTerms, IsMoment}
 use Rattle.cache_core.specs.Caches.{CacheState, new_cache, is_leased, noted}
 use Rattle.cache_core.specs.Standings.{standing_at, turn_line}
-use Rattle.cache_core.specs.declared.kept.Kept.{Kept}
-use Rattle.cache_core.specs.declared.standings.Standing.{Standing}
-use Rattle.cache_core.specs.declared.standings.Standing.TheVariants as standings
+use Rattle.cache_core.specs.declared.kept.SharedHandle.{SharedHandle}
+use Rattle.cache_core.specs.declared.standings.SessionTrust.{SessionTrust}
+use Rattle.cache_core.specs.declared.standings.SessionTrust.TheVariants as standings
 use Rattle.node_core.specs.Limits.{number_end}
 use Rattle.node_core.specs.declared.refusals.Fault.{Fault}
 use Rattle.node_core.specs.declared.refusals.Fault.TheVariants as faults
@@ -14,8 +14,8 @@ use Rattle.node_core.specs.declared.lines.Line.{Line}
 use Rattle.tags_cell.specs.declared.messages.outs.NewHandle.{NewHandle}
 use Rattle.client_core.specs.declared.parts.handles.ClientHandle.{ClientHandle}
 use Rattle.client_core.specs.declared.parts.targets.Outstanding.{Outstanding}
-use Rattle.client_core.specs.declared.parts.sessions.Session.{Session}
-use Rattle.client_core.specs.declared.parts.sessions.Session.TheVariants as sessions
+use Rattle.client_core.specs.declared.parts.sessions.ClientStanding.{ClientStanding}
+use Rattle.client_core.specs.declared.parts.sessions.ClientStanding.TheVariants as sessions
 
 pub record ClientState : Type 0 where
   pub number : ℕ
@@ -26,7 +26,7 @@ pub record ClientState : Type 0 where
   pub beats : ℕ
   -- the moment that it noted when it sent that one
   pub sent : ℕ
-  pub session : Session
+  pub session : ClientStanding
   -- the epoch of the master that gave it its session, also once that is lost; 0 before
   pub epoch : ℕ
   -- the number of the last invalidation that it has processed in its epoch, 0 before the first
@@ -36,7 +36,7 @@ pub record ClientState : Type 0 where
   -- what it holds of nodes, under the lease on its session
   pub cache : CacheState
   -- whether it may rely on its session
-  pub standing : Standing
+  pub standing : SessionTrust
   -- the number of its newest call, 0 before the first
   pub calls : ℕ
   -- the call that has no reply yet
@@ -44,7 +44,7 @@ pub record ClientState : Type 0 where
   -- its open handles by its own numbers for them
   pub handles : List (ℕ × ClientHandle)
   -- the handles that its Opens share, as the master gave them
-  pub kept : List (Kept NewHandle)
+  pub kept : List (SharedHandle NewHandle)
   -- the newest of its handle numbers, 0 before the first
   pub opened : ℕ
   -- it has asked for the end of its session, and asks for nothing else any more
@@ -80,20 +80,20 @@ at_moment s noted = record s { clock = noted }
 -- ---- the time is noted
 
 -- in a session: how the client stands at a moment, by the lease that it has
-abbrev pub standing_then : ClientState → ℕ → Standing
+abbrev pub standing_then : ClientState → ℕ → SessionTrust
 standing_then s moment = standing_at s.standing (is_leased s.cache.lease moment) moment
 
 -- a session that is given up is lost
-abbrev pub session_behind : Standing → Session
+abbrev pub session_behind : SessionTrust → ClientStanding
 session_behind standings.Safe = sessions.Live
 session_behind (standings.Jeopardy since) = sessions.Live
 session_behind standings.Lost = sessions.Lost
 
-abbrev pub session_in : Session → ClientState → ℕ → Session
+abbrev pub session_in : ClientStanding → ClientState → ℕ → ClientStanding
 session_in sessions.Live s moment = session_behind (standing_then s moment)
 session_in session s moment = session
 
-abbrev pub session_then : ClientState → ℕ → Session
+abbrev pub session_then : ClientState → ℕ → ClientStanding
 session_then s moment = session_in s.session s moment
 
 -- in a session a client looks at its lease: where that has ended it empties its cache, and is in jeopardy, until it gives the session up
@@ -101,7 +101,7 @@ abbrev pub note_live : ClientState → ℕ → ClientState
 note_live s moment =
     record s { clock = moment; session = session_behind (standing_then s moment); cache = noted s.cache moment; standing = standing_then s moment }
 
-abbrev pub note_in : Session → ClientState → ℕ → ClientState
+abbrev pub note_in : ClientStanding → ClientState → ℕ → ClientState
 note_in sessions.Live s moment = note_live s moment
 note_in session s moment = at_moment s moment
 
@@ -109,7 +109,7 @@ abbrev pub note : ClientState → ℕ → ClientState
 note s moment = note_in s.session s moment
 
 -- what is printed then
-abbrev pub note_lines_in : Session → ClientState → ℕ → List Line
+abbrev pub note_lines_in : ClientStanding → ClientState → ℕ → List Line
 note_lines_in sessions.Live s moment = option_to_list (turn_line s.number s.standing (standing_then s moment))
 note_lines_in session s moment = []
 

@@ -6,13 +6,13 @@ ghost use Rattle.client_core.specs.State.{Does};
 ghost use Rattle.client_core.specs.Leased.{shut, shut_if};
 ghost use Rattle.client_core.specs.Targets.{is_leaving};
 ghost use Rattle.client_core.specs.Asks.{ask_step, ask_by, plan_of, carried_out, send_step, share_step};
-ghost use Rattle.client_core.specs.declared.plans.Plan.TheVariants as plans;
+ghost use Rattle.client_core.specs.declared.plans.AskPlan.TheVariants as plans;
 
 use crate::client::Client;
 use crate::parts::{
-    Ask, Asked, ClientHandle, Outcome, Outstanding, Target, moment_by, one_line, opened_lines,
+    Ask, AskOutcome, ClientHandle, Outcome, Outstanding, Target, moment_by, one_line, opened_lines,
 };
-use crate::plans::Plan;
+use crate::plans::AskPlan;
 use collections::{Bytes, Items};
 use node_core::{Answer, Fault, Line, NUMBER_LIMIT};
 use std::alloc::AllocError;
@@ -45,7 +45,7 @@ impl Client {
     /// Err for want of memory, and as Exhausted for a moment of 2^53 or more, behind the last call number and behind the
     /// last handle number, 2^63-1: nothing is noted then.
     #[tactic(auto, unfolding(crate::specs::Asks::ask_step))]
-    pub fn ask(&mut self, now: u64, asked: &Ask) -> Result<Asked, Fault>
+    pub fn ask(&mut self, now: u64, asked: &Ask) -> Result<AskOutcome, Fault>
         ensures { Does self.old self.new result (ask_step self.old now asked.now) }
     {
         let moment = moment_by(self.clock, now)?;
@@ -54,14 +54,14 @@ impl Client {
         };
         let lines = self.note_lines(moment)?;
         self.note(moment);
-        Ok(Asked {
+        Ok(AskOutcome {
             lines,
             outcome: Outcome::Refused(fault),
         })
     }
 
     // The client may rely on its session, so that to note the time is to set the clock.
-    fn ask_safe(&mut self, moment: u64, asked: &Ask) -> Result<Asked, Fault>
+    fn ask_safe(&mut self, moment: u64, asked: &Ask) -> Result<AskOutcome, Fault>
         requires { IsMoment moment }
         ensures { Does self.old self.new result (ask_by self.old moment (plan_of self.old moment asked.now)) }
     {
@@ -70,7 +70,7 @@ impl Client {
             Err(Fault::NoMemory) => Err(Fault::NoMemory),
             Err(fault) => {
                 self.clock = moment;
-                Ok(Asked {
+                Ok(AskOutcome {
                     lines: Items::new(self.alloc),
                     outcome: Outcome::Refused(fault),
                 })
@@ -78,16 +78,16 @@ impl Client {
         }
     }
 
-    fn carry_out(&mut self, moment: u64, plan: Plan) -> Result<Asked, Fault>
+    fn carry_out(&mut self, moment: u64, plan: AskPlan) -> Result<AskOutcome, Fault>
         requires { IsMoment moment }
         ensures { Does self.old self.new result (carried_out self.old moment plan) }
     {
         match plan {
-            Plan::Send(call, sequencer, target) => self.send(moment, call, sequencer, target),
-            Plan::Poison(number, handle) => self.poison_at(moment, number, handle),
-            Plan::Serve(line, answer) => self.serve(moment, line, answer),
-            Plan::Share(line, handle) => self.share(moment, line, handle),
-            Plan::Release(number) => self.release(moment, number),
+            AskPlan::Send(call, sequencer, target) => self.send(moment, call, sequencer, target),
+            AskPlan::Poison(number, handle) => self.poison_at(moment, number, handle),
+            AskPlan::Serve(line, answer) => self.serve(moment, line, answer),
+            AskPlan::Share(line, handle) => self.share(moment, line, handle),
+            AskPlan::Release(number) => self.release(moment, number),
         }
     }
 
@@ -98,7 +98,7 @@ impl Client {
         call: Call,
         sequencer: Option<Bytes>,
         target: Target,
-    ) -> Result<Asked, Fault>
+    ) -> Result<AskOutcome, Fault>
         requires { IsMoment moment }
         ensures { Does self.old self.new result (send_step self.old moment call sequencer target) }
     {
@@ -119,7 +119,7 @@ impl Client {
         match request.clone() {
             Ok(kept) => {
                 self.keep(moment, kept, target);
-                Ok(Asked {
+                Ok(AskOutcome {
                     lines: Items::new(self.alloc),
                     outcome: Outcome::Sent(request),
                 })
@@ -163,14 +163,14 @@ impl Client {
     }
 
     // Answers out of the cache.
-    fn serve(&mut self, moment: u64, line: Line, answer: Answer) -> Result<Asked, Fault>
+    fn serve(&mut self, moment: u64, line: Line, answer: Answer) -> Result<AskOutcome, Fault>
         requires { IsMoment moment }
         ensures { Does self.old self.new result (carried_out self.old moment (plans.Serve line answer)) }
     {
         match one_line(self.alloc, line) {
             Ok(lines) => {
                 self.clock = moment;
-                Ok(Asked {
+                Ok(AskOutcome {
                     lines,
                     outcome: Outcome::Served(answer),
                 })
@@ -183,7 +183,7 @@ impl Client {
     }
 
     // Gives a handle that is shared the next number.
-    fn share(&mut self, moment: u64, line: Line, handle: ClientHandle) -> Result<Asked, Fault>
+    fn share(&mut self, moment: u64, line: Line, handle: ClientHandle) -> Result<AskOutcome, Fault>
         requires { IsMoment moment }
         ensures { Does self.old self.new result (share_step self.old moment line handle) }
     {
@@ -198,7 +198,7 @@ impl Client {
                 drop(self.handles.put(opened, handle)?);
                 self.clock = moment;
                 self.opened = opened;
-                Ok(Asked {
+                Ok(AskOutcome {
                     lines,
                     outcome: Outcome::Served(Answer::Opened(opened)),
                 })
@@ -211,14 +211,14 @@ impl Client {
     }
 
     // Closes a handle that is shared, which stays open at the master.
-    fn release(&mut self, moment: u64, number: u64) -> Result<Asked, Fault>
+    fn release(&mut self, moment: u64, number: u64) -> Result<AskOutcome, Fault>
         requires { IsMoment moment }
         ensures { Does self.old self.new result (carried_out self.old moment (plans.Release number)) }
     {
         let lines = one_line(self.alloc, Line::Done(self.number.get(), 0, Answer::Closed))?;
         self.clock = moment;
         drop(self.handles.remove(&number));
-        Ok(Asked {
+        Ok(AskOutcome {
             lines,
             outcome: Outcome::Answered,
         })

@@ -6,8 +6,8 @@ ghost use Rattle.client_core.specs.State.{new_client, note, note_lines, Does};
 ghost use Rattle.client_core.specs.Beats.{beat_step, sends, start_message, beat_message, with_beat};
 ghost use Rattle.client_core.specs.Gives.{give_step, taken_own, told};
 
-use crate::parts::{Beaten, ClientHandle, Given, Outstanding, Session, moment_by};
-use cache_core::{Cache, KeptHandles, Standing};
+use crate::parts::{Beaten, ClientHandle, ClientStanding, Given, Outstanding, moment_by};
+use cache_core::{Cache, KeptHandles, SessionTrust};
 use collections::Table;
 use names_cell::Principal;
 use node_core::Fault;
@@ -46,12 +46,12 @@ pub struct Client {
     pub(crate) clock: u64,
     pub(crate) beats: u64,
     pub(crate) sent: u64,
-    pub(crate) session: Session,
+    pub(crate) session: ClientStanding,
     pub(crate) epoch: u64,
     pub(crate) processed: u64,
     pub(crate) heard: u64,
     pub(crate) cache: Cache,
-    pub(crate) standing: Standing,
+    pub(crate) standing: SessionTrust,
     pub(crate) calls: u64,
     pub(crate) outstanding: Option<Outstanding>,
     pub(crate) handles: Table<u64, ClientHandle>,
@@ -101,12 +101,12 @@ impl Client {
             clock: 0,
             beats: 0,
             sent: 0,
-            session: Session::Unstarted,
+            session: ClientStanding::Unstarted,
             epoch: 0,
             processed: 0,
             heard: 0,
             cache: Cache::new(alloc),
-            standing: Standing::Safe,
+            standing: SessionTrust::Safe,
             calls: 0,
             outstanding: None,
             handles: Table::new(alloc),
@@ -127,9 +127,9 @@ impl Client {
     {
         let moment = moment_by(self.clock, now)?;
         match self.session_then(moment) {
-            Session::Unstarted => self.start(moment),
-            Session::Live => self.prolong(moment),
-            Session::Lost | Session::TurnedAway => {
+            ClientStanding::Unstarted => self.start(moment),
+            ClientStanding::Live => self.prolong(moment),
+            ClientStanding::Lost | ClientStanding::TurnedAway => {
                 let lines = self.note_lines(moment)?;
                 self.note(moment);
                 Ok(Beaten {

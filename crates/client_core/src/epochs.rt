@@ -6,7 +6,7 @@ ghost use Rattle.client_core.specs.Targets.{unknown_lines};
 ghost use Rattle.client_core.specs.Gives.{told, later_epoch, learned};
 
 use crate::client::Client;
-use crate::parts::{Given, Session, with_unknown};
+use crate::parts::{ClientStanding, Given, with_unknown};
 use node_core::Fault;
 use std::alloc::AllocError;
 use tags_cell::Refused;
@@ -23,7 +23,7 @@ impl Client {
         if refused.epoch < self.epoch {
             return None;
         }
-        if self.session_then(moment) == Session::Live && self.epoch < present {
+        if self.session_then(moment) == ClientStanding::Live && self.epoch < present {
             Some(present)
         } else {
             None

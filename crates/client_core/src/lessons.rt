@@ -5,7 +5,7 @@ ghost use Rattle.client_core.specs.Lessons.{is_fresh, may_install, viewed, view_
 
 use crate::client::Client;
 use crate::parts::{Target, absence_taught, standing_by};
-use cache_core::{Shared, Standing};
+use cache_core::{SessionTrust, Shared};
 use names_cell::Name;
 use node_core::{Fault, View};
 use std::alloc::AllocError;
@@ -38,7 +38,7 @@ impl Client {
         ensures { result ≡ may_install self.now moment stamp }
     {
         if !self.cache.is_enabled()
-            || standing_by(self.standing, &self.cache, moment) != Standing::Safe
+            || standing_by(self.standing, &self.cache, moment) != SessionTrust::Safe
         {
             return false;
         }

@@ -28,12 +28,12 @@ pub use laws::{
     repeated_reply_is_dropped, safe_note_sets_the_clock, shared_numbers_rise,
 };
 pub use parts::{
-    Ask, Asked, Beaten, ClientHandle, Given, NodeCall, Outcome, Outstanding, Session, Target,
-    absence_taught, are_events_in_order, drop_reply, flush_all, has_number, is_in_order,
+    Ask, AskOutcome, Beaten, ClientHandle, ClientStanding, Given, NodeCall, Outcome, Outstanding,
+    Target, absence_taught, are_events_in_order, drop_reply, flush_all, has_number, is_in_order,
     is_numbered, is_plain, is_read_only, is_shareable, keep_handle, last_event, last_number,
     moment_by, noted_ops, one_line, only_reads, opened_lines, pushed, put_sequencer, put_under,
     sent_sequencer, served_line, share_of, standing_by, turn_lines, usable_handle, with_events,
     with_flushes, with_lease, with_losses, with_op, with_unknown,
 };
-pub use plans::Plan;
-pub use seen::Seen;
+pub use plans::AskPlan;
+pub use seen::ClientFields;

@@ -5,22 +5,22 @@ ghost use Rattle.client_core.specs.State.{session_then, note, note_lines};
 ghost use Rattle.client_core.specs.Asks.{fault_then, fault_for, has_given_up};
 
 use crate::client::Client;
-use crate::parts::{Ask, Session, standing_by, turn_lines};
-use cache_core::Standing;
+use crate::parts::{Ask, ClientStanding, standing_by, turn_lines};
+use cache_core::SessionTrust;
 use collections::Items;
 use node_core::{Fault, Line};
 use std::alloc::AllocError;
 
 impl Client {
     // What has become of its session by then.
-    pub(crate) fn session_then(&self, moment: u64) -> Session
+    pub(crate) fn session_then(&self, moment: u64) -> ClientStanding
         ensures { result ≡ session_then self.now moment }
     {
         match (
             self.session,
             standing_by(self.standing, &self.cache, moment),
         ) {
-            (Session::Live, Standing::Lost) => Session::Lost,
+            (ClientStanding::Live, SessionTrust::Lost) => ClientStanding::Lost,
             (session, _) => session,
         }
     }
@@ -48,7 +48,8 @@ impl Client {
     fn has_given_up(&self, moment: u64, asked: &Ask) -> bool
         ensures { result ≡ has_given_up self.now moment asked.now }
     {
-        self.leaving && !(asked.asks_to_leave() && self.session_then(moment) == Session::Live)
+        self.leaving
+            && !(asked.asks_to_leave() && self.session_then(moment) == ClientStanding::Live)
     }
 
     // The lines that the noting of the time prints.
@@ -56,13 +57,15 @@ impl Client {
         ensures { IfOk result (λ lines. lines ≡ note_lines self.now moment) }
     {
         match self.session {
-            Session::Live => turn_lines(
+            ClientStanding::Live => turn_lines(
                 self.alloc,
                 self.number.get(),
                 self.standing,
                 standing_by(self.standing, &self.cache, moment),
             ),
-            Session::Unstarted | Session::Lost | Session::TurnedAway => Ok(Items::new(self.alloc)),
+            ClientStanding::Unstarted | ClientStanding::Lost | ClientStanding::TurnedAway => Ok(
+                Items::new(self.alloc),
+            ),
         }
     }
 
@@ -73,11 +76,11 @@ impl Client {
         ensures { self.new ≡ note self.old moment }
     {
         self.clock = moment;
-        if self.session == Session::Live {
+        if self.session == ClientStanding::Live {
             let leased = self.cache.note(moment);
             self.standing = self.standing.at(leased, moment);
-            if self.standing == Standing::Lost {
-                self.session = Session::Lost;
+            if self.standing == SessionTrust::Lost {
+                self.session = ClientStanding::Lost;
             }
         }
     }

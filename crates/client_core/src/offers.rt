@@ -10,9 +10,9 @@ ghost use Rattle.client_core.specs.Gives.{is_span, offered, started_step, is_num
 
 use crate::client::Client;
 use crate::parts::{
-    Given, Session, flush_all, is_numbered, last_event, last_number, put_under, with_events,
+    ClientStanding, Given, flush_all, is_numbered, last_event, last_number, put_under, with_events,
 };
-use cache_core::{CacheOp, Standing};
+use cache_core::{CacheOp, SessionTrust};
 use lease_core::Lease;
 use node_core::{Fault, Line};
 use tags_cell::{Alive, Started};
@@ -23,7 +23,7 @@ impl Client {
         requires { IsMoment moment }
         ensures { Does self.old self.new result (started_step self.old moment started.now) }
     {
-        if self.session != Session::Unstarted || started.number.get() != self.beats {
+        if self.session != ClientStanding::Unstarted || started.number.get() != self.beats {
             return Ok(self.pass_over(moment, None)?);
         }
         let Some(lease) = self.offered(started.span) else {
@@ -31,7 +31,7 @@ impl Client {
         };
         let lines = self.note_lines(moment)?;
         self.clock = moment;
-        self.session = Session::Live;
+        self.session = ClientStanding::Live;
         self.epoch = started.epoch;
         put_under(&mut self.cache, lease, moment);
         Ok(Given {
@@ -46,7 +46,7 @@ impl Client {
         requires { IsMoment moment }
         ensures { Does self.old self.new result (alive_step self.old moment alive.now) }
     {
-        if self.session_then(moment) != Session::Live || alive.epoch != self.epoch {
+        if self.session_then(moment) != ClientStanding::Live || alive.epoch != self.epoch {
             return Ok(self.pass_over(moment, None)?);
         }
         let Some(lease) = self.offered(alive.span) else {
@@ -108,7 +108,7 @@ impl Client {
         }
         let former = self.standing;
         self.standing = former.reprieved();
-        matches!(former, Standing::Jeopardy(_))
+        matches!(former, SessionTrust::Jeopardy(_))
     }
 
     // The cache of a client that ends its session stays empty and turned off.

@@ -6,7 +6,7 @@ ghost use Rattle.cache_core.specs.Changes.{applied_all};
 ghost use Rattle.tags_cell.specs.Messages.{out_client};
 ghost use Rattle.client_core.specs.Leased.{shut};
 ghost use Rattle.client_core.specs.Sessions.{session_after};
-ghost use Rattle.client_core.specs.declared.parts.asks.Asked.{Asked};
+ghost use Rattle.client_core.specs.declared.parts.asks.AskOutcome.{AskOutcome};
 ghost use Rattle.client_core.specs.declared.parts.steps.Beaten.{Beaten};
 ghost use Rattle.client_core.specs.State.{note, session_then};
 ghost use Rattle.client_core.specs.Asks.{ask_step, leaves};
@@ -16,8 +16,8 @@ ghost use Rattle.client_core.specs.Ops.{LeadTo};
 
 use crate::client::Client;
 use crate::parts::{
-    Ask, Session, Target, is_numbered, moment_by, noted_ops, with_flushes, with_lease, with_losses,
-    with_op,
+    Ask, ClientStanding, Target, is_numbered, moment_by, noted_ops, with_flushes, with_lease,
+    with_losses, with_op,
 };
 use cache_core::CacheOp;
 use lease_core::Lease;
@@ -99,8 +99,8 @@ impl Client {
         ensures { IfOk result (λ ops. applied_all self.now.cache ops.items ≡ (note self.now moment).cache) }
     {
         match self.session {
-            Session::Live => noted_ops(self.alloc, &self.cache, moment),
-            Session::Unstarted | Session::Lost | Session::TurnedAway => {
+            ClientStanding::Live => noted_ops(self.alloc, &self.cache, moment),
+            ClientStanding::Unstarted | ClientStanding::Lost | ClientStanding::TurnedAway => {
                 Ok(VecDeque::new(self.alloc))
             }
         }
@@ -110,7 +110,7 @@ impl Client {
         requires { IsMoment moment }
         ensures { IfOk result (λ ops. LeadTo self.now.cache ops.items (started_step self.now moment started.now)) }
     {
-        if self.session != Session::Unstarted || started.number.get() != self.beats {
+        if self.session != ClientStanding::Unstarted || started.number.get() != self.beats {
             return self.ops_noted(moment);
         }
         let Some(lease) = self.offered(started.span) else {
@@ -123,7 +123,7 @@ impl Client {
         requires { IsMoment moment }
         ensures { IfOk result (λ ops. LeadTo self.now.cache ops.items (alive_step self.now moment alive.now)) }
     {
-        if self.session_then(moment) != Session::Live || alive.epoch != self.epoch {
+        if self.session_then(moment) != ClientStanding::Live || alive.epoch != self.epoch {
             return self.ops_noted(moment);
         }
         let Some(lease) = self.offered(alive.span) else {

@@ -17,7 +17,7 @@ mod steps;
 mod targets;
 
 pub use alives::is_numbered;
-pub use asks::{Ask, Asked, NodeCall, Outcome};
+pub use asks::{Ask, AskOutcome, NodeCall, Outcome};
 pub use events::{are_events_in_order, last_event, with_events};
 pub use handles::{ClientHandle, is_plain, is_read_only, is_shareable, only_reads, share_of};
 pub use held::{has_number, keep_handle, put_sequencer, usable_handle};
@@ -27,6 +27,6 @@ pub use lines::{one_line, opened_lines, pushed, served_line, turn_lines};
 pub use moments::moment_by;
 pub use ops::{noted_ops, with_flushes, with_lease, with_losses, with_op};
 pub use outstanding::{absence_taught, drop_reply, sent_sequencer, with_unknown};
-pub use sessions::Session;
+pub use sessions::ClientStanding;
 pub use steps::{Beaten, Given};
 pub use targets::{Outstanding, Target};

@@ -13,7 +13,7 @@ use tags_cell::{Call, Open};
 
 /// What a client does next.
 #[derive(Drop)]
-pub enum Plan {
+pub enum AskPlan {
     /// It sends a call, under the sequencer of these bytes if there is one.
     Send(Call, Option<Bytes>, Target),
     /// It poisons this handle of this number.
@@ -28,13 +28,13 @@ pub enum Plan {
 
 impl Client {
     // What is done now, before anything changes.
-    pub(crate) fn plan(&self, moment: u64, asked: &Ask) -> Result<Plan, Fault>
+    pub(crate) fn plan(&self, moment: u64, asked: &Ask) -> Result<AskPlan, Fault>
         ensures { Gives Fault.NoMemory result (plan_of self.now moment asked.now) }
     {
         match asked {
             Ask::Open(opening) => self.open_plan(moment, opening),
             Ask::Close(number) => self.close_plan(*number),
-            Ask::Poison(number) => Ok(Plan::Poison(
+            Ask::Poison(number) => Ok(AskPlan::Poison(
                 *number,
                 usable_handle(&self.handles, *number)?,
             )),
@@ -48,7 +48,12 @@ impl Client {
     }
 
     // One call at a time.
-    fn send_plan(&self, call: Call, sequencer: Option<Bytes>, target: Target) -> Result<Plan, Fault>
+    fn send_plan(
+        &self,
+        call: Call,
+        sequencer: Option<Bytes>,
+        target: Target,
+    ) -> Result<AskPlan, Fault>
         ensures { result ≡ send_plan self.now call sequencer target }
     {
         if self.outstanding.is_some() {
@@ -56,10 +61,10 @@ impl Client {
             drop(sequencer);
             return Err(Fault::CallOutstanding);
         }
-        Ok(Plan::Send(call, sequencer, target))
+        Ok(AskPlan::Send(call, sequencer, target))
     }
 
-    fn open_plan(&self, moment: u64, opening: &Open) -> Result<Plan, Fault>
+    fn open_plan(&self, moment: u64, opening: &Open) -> Result<AskPlan, Fault>
         ensures { Gives Fault.NoMemory result (open_plan self.now moment opening.now) }
     {
         if let Some(plan) = self.open_served(moment, opening)? {
@@ -68,14 +73,14 @@ impl Client {
         self.send_plan(Call::Open(opening.clone()?), None, Target::NewHandle)
     }
 
-    fn close_plan(&self, number: u64) -> Result<Plan, Fault>
+    fn close_plan(&self, number: u64) -> Result<AskPlan, Fault>
         ensures { Gives Fault.NoMemory result (close_plan self.now number (handle_of self.now.handles number)) }
     {
         let Some(handle) = self.handles.get(&number) else {
             return Err(Fault::BadHandle);
         };
         if handle.shared {
-            return Ok(Plan::Release(number));
+            return Ok(AskPlan::Release(number));
         }
         self.send_plan(
             Call::Close(handle.bytes.clone()?),
@@ -84,7 +89,7 @@ impl Client {
         )
     }
 
-    fn node_plan(&self, moment: u64, number: u64, call: &NodeCall) -> Result<Plan, Fault>
+    fn node_plan(&self, moment: u64, number: u64, call: &NodeCall) -> Result<AskPlan, Fault>
         ensures { Gives Fault.NoMemory result (node_plan self.now moment number call.now (usable_handle (handle_of self.now.handles number))) }
     {
         let handle = usable_handle(&self.handles, number)?;
@@ -95,7 +100,7 @@ impl Client {
         self.send_plan(call, handle.sequencer, Target::Handle(number))
     }
 
-    fn sequencer_plan(&self, number: u64, sequencer: &Bytes) -> Result<Plan, Fault>
+    fn sequencer_plan(&self, number: u64, sequencer: &Bytes) -> Result<AskPlan, Fault>
         ensures { Gives Fault.NoMemory result (sequencer_plan self.now number sequencer.now (usable_handle (handle_of self.now.handles number))) }
     {
         let handle = usable_handle(&self.handles, number)?;

@@ -3,19 +3,19 @@ ghost use Rattle.std.specs.Prelude.{◌≡◌, IfOk, Ok};
 ghost use Rattle.lease_core.specs.Lease.{IsMoment};
 ghost use Rattle.client_core.specs.State.{Does};
 ghost use Rattle.client_core.specs.declared.parts.asks.Ask.TheVariants as asks;
-ghost use Rattle.client_core.specs.declared.plans.Plan.TheVariants as plans;
+ghost use Rattle.client_core.specs.declared.plans.AskPlan.TheVariants as plans;
 ghost use Rattle.client_core.specs.Asks.{ask_step, carried_out};
 ghost use Rattle.client_core.specs.Poisons.{poison_lines, poisoned};
 
 use crate::client::Client;
-use crate::parts::{Ask, Asked, ClientHandle, Outcome, drop_reply};
+use crate::parts::{Ask, AskOutcome, ClientHandle, Outcome, drop_reply};
 use collections::Items;
 use node_core::{Answer, Fault, Line};
 use std::alloc::AllocError;
 
 impl Client {
     /// Poisons the handle of this number (Burrows 2006, section 2.6): to `ask` for an `Ask::Poison`, by a name of its own.
-    pub fn poison(&mut self, now: u64, number: u64) -> Result<Asked, Fault>
+    pub fn poison(&mut self, now: u64, number: u64) -> Result<AskOutcome, Fault>
         ensures { Does self.old self.new result (ask_step self.old now (asks.Poison number)) }
     {
         self.ask(now, &Ask::Poison(number))
@@ -27,7 +27,7 @@ impl Client {
         moment: u64,
         number: u64,
         handle: ClientHandle,
-    ) -> Result<Asked, Fault>
+    ) -> Result<AskOutcome, Fault>
         requires { IsMoment moment }
         ensures { Does self.old self.new result (carried_out self.old moment (plans.Poison number handle)) }
     {
@@ -35,7 +35,7 @@ impl Client {
         self.clock = moment;
         self.mark_poisoned(number, handle);
         drop_reply(&mut self.outstanding, number);
-        Ok(Asked {
+        Ok(AskOutcome {
             lines,
             outcome: Outcome::Answered,
         })

@@ -6,8 +6,8 @@ ghost use Rattle.client_core.specs.State.{session_then};
 ghost use Rattle.client_core.specs.Gives.{lost, lose_step, refused_step};
 
 use crate::client::Client;
-use crate::parts::{Given, Session, pushed};
-use cache_core::Standing;
+use crate::parts::{ClientStanding, Given, pushed};
+use cache_core::SessionTrust;
 use node_core::Line;
 use std::alloc::AllocError;
 use tags_cell::Refused;
@@ -49,12 +49,12 @@ impl Client {
     }
 
     // A client without a session holds nothing.
-    pub(crate) fn lose(&mut self, session: Session)
+    pub(crate) fn lose(&mut self, session: ClientStanding)
         ensures { self.new ≡ lost self.old session }
     {
         self.session = session;
         self.cache.clear();
         self.cache.disable();
-        self.standing = Standing::Lost;
+        self.standing = SessionTrust::Lost;
     }
 }

@@ -10,7 +10,7 @@ ghost use Rattle.client_core.specs.Gives.{awaited, answer_of, ended_plainly, end
 
 use crate::client::Client;
 use crate::parts::{
-    Given, Session, Target, has_number, keep_handle, pushed, put_sequencer, sent_sequencer,
+    ClientStanding, Given, Target, has_number, keep_handle, pushed, put_sequencer, sent_sequencer,
 };
 use collections::Items;
 use node_core::{Answer, Fault, Line};
@@ -102,7 +102,7 @@ impl Client {
     pub(crate) fn awaited(&self, moment: u64, reply: &Reply) -> Option<Target>
         ensures { result ≡ awaited self.now moment reply.now }
     {
-        if self.session_then(moment) != Session::Live || reply.epoch != self.epoch {
+        if self.session_then(moment) != ClientStanding::Live || reply.epoch != self.epoch {
             return None;
         }
         match &self.outstanding {
@@ -197,7 +197,7 @@ impl Client {
         ensures { self.new ≡ departed (note self.old moment) }
     {
         self.note(moment);
-        self.lose(Session::Lost);
+        self.lose(ClientStanding::Lost);
         self.end();
     }
 

@@ -3,21 +3,21 @@ ghost use Rattle.std.specs.Prelude.{◌≡◌};
 ghost use Rattle.std.specs.Option.{option_copied};
 
 use crate::client::Client;
-use crate::parts::{ClientHandle, Outstanding, Session};
-use cache_core::{Cache, KeptHandles, Standing};
+use crate::parts::{ClientHandle, ClientStanding, Outstanding};
+use cache_core::{Cache, KeptHandles, SessionTrust};
 use collections::Table;
 use tags_cell::NewHandle;
 
 /// All that a client is, but for its number and its principal, to be looked at.
 #[derive(Clone, Copy)]
-pub struct Seen<'a> {
+pub struct ClientFields<'a> {
     /// The moment that it noted last, in milliseconds.
     pub clock: u64,
     /// The number of its newest Start or Beat, 0 before the first.
     pub beats: u64,
     /// The moment that it noted when it sent that one.
     pub sent: u64,
-    pub session: Session,
+    pub session: ClientStanding,
     /// The epoch of the master that gave it its session, 0 before.
     pub epoch: u64,
     /// The number of the last invalidation that it has processed in its epoch.
@@ -25,7 +25,7 @@ pub struct Seen<'a> {
     /// The number of the last event that it has processed in its epoch.
     pub heard: u64,
     pub cache: &'a Cache,
-    pub standing: Standing,
+    pub standing: SessionTrust,
     /// The number of its newest call, 0 before the first.
     pub calls: u64,
     /// The call that has no reply yet.
@@ -40,7 +40,7 @@ pub struct Seen<'a> {
 
 impl Client {
     /// How it stands, as it was noted last. Takes no memory.
-    pub fn seen(&self) -> Seen<'_>
+    pub fn seen(&self) -> ClientFields<'_>
         ensures clock { result.clock ≡ self.now.clock }
         ensures beats { result.beats ≡ self.now.beats }
         ensures sent { result.sent ≡ self.now.sent }
@@ -56,7 +56,7 @@ impl Client {
         ensures kept { result.kept.now ≡ self.now.kept }
         ensures opened { result.opened ≡ self.now.opened }
     {
-        Seen {
+        ClientFields {
             clock: self.clock,
             beats: self.beats,
             sent: self.sent,

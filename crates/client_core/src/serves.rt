@@ -1,12 +1,12 @@
 //! What a client answers out of its cache (Burrows 2006, section 2.7).
 ghost use Rattle.std.specs.Prelude.{◌≡◌, IfOk, Some, None};
-ghost use Rattle.client_core.specs.declared.plans.Plan.TheVariants as plans;
+ghost use Rattle.client_core.specs.declared.plans.AskPlan.TheVariants as plans;
 ghost use Rattle.node_core.specs.declared.lines.Line.TheVariants as lines;
 ghost use Rattle.client_core.specs.Serves.{read_served, cached_served, open_served, entry_served, handle_shared};
 
 use crate::client::Client;
 use crate::parts::{ClientHandle, NodeCall, is_plain, only_reads, served_line};
-use crate::plans::Plan;
+use crate::plans::AskPlan;
 use cache_core::Shared;
 use names_cell::Name;
 use node_core::{Answer, Fault, Line, Right, View};
@@ -21,7 +21,7 @@ impl Client {
         moment: u64,
         handle: &ClientHandle,
         call: &NodeCall,
-    ) -> Result<Option<Plan>, AllocError>
+    ) -> Result<Option<AskPlan>, AllocError>
         ensures { IfOk result (λ plan. plan ≡ read_served self.now moment handle.now call.now) }
     {
         if !handle.mode.has(Right::Read) || handle.sequencer.is_some() {
@@ -38,7 +38,7 @@ impl Client {
         handle: &ClientHandle,
         call: &NodeCall,
         entry: &Option<Shared<View>>,
-    ) -> Result<Option<Plan>, AllocError>
+    ) -> Result<Option<AskPlan>, AllocError>
         ensures { IfOk result (λ plan. plan ≡ cached_served self.now handle.now call.now (Some entry.now)) }
     {
         match handle.cached_answer(call, entry)? {
@@ -53,11 +53,11 @@ impl Client {
         name: &Name,
         entry: &Option<Shared<View>>,
         answer: Answer,
-    ) -> Result<Plan, AllocError>
+    ) -> Result<AskPlan, AllocError>
         ensures { IfOk result (λ plan. plan ≡ plans.Serve (lines.Served self.now.number name.now entry.now) answer) }
     {
         match served_line(self.number.get(), name, entry) {
-            Ok(line) => Ok(Plan::Serve(line, answer)),
+            Ok(line) => Ok(AskPlan::Serve(line, answer)),
             Err(_) => {
                 drop(answer);
                 Err(AllocError)
@@ -70,7 +70,7 @@ impl Client {
         &self,
         moment: u64,
         opening: &Open,
-    ) -> Result<Option<Plan>, AllocError>
+    ) -> Result<Option<AskPlan>, AllocError>
         ensures { IfOk result (λ plan. plan ≡ open_served self.now moment opening.now) }
     {
         if !is_plain(opening) {
@@ -86,7 +86,7 @@ impl Client {
         &self,
         opening: &Open,
         entry: &Option<Shared<View>>,
-    ) -> Result<Option<Plan>, AllocError>
+    ) -> Result<Option<AskPlan>, AllocError>
         ensures { IfOk result (λ plan. plan ≡ entry_served self.now opening.now (Some entry.now)) }
     {
         match entry {
@@ -101,7 +101,7 @@ impl Client {
         opening: &Open,
         view: &View,
         entry: &Option<Shared<View>>,
-    ) -> Result<Option<Plan>, AllocError>
+    ) -> Result<Option<AskPlan>, AllocError>
         requires { entry.now ≡ Some view.now }
         ensures { IfOk result (λ plan. plan ≡ handle_shared self.now opening.now view.now) }
     {
@@ -123,11 +123,11 @@ impl Client {
         name: &Name,
         entry: &Option<Shared<View>>,
         shared: ClientHandle,
-    ) -> Result<Plan, AllocError>
+    ) -> Result<AskPlan, AllocError>
         ensures { IfOk result (λ plan. plan ≡ plans.Share (lines.Served self.now.number name.now entry.now) shared) }
     {
         match served_line(self.number.get(), name, entry) {
-            Ok(line) => Ok(Plan::Share(line, shared)),
+            Ok(line) => Ok(AskPlan::Share(line, shared)),
             Err(_) => {
                 drop(shared);
                 Err(AllocError)

@@ -3,7 +3,7 @@ use Rattle.std.proofs.Common.{ℕ, Result, Ok, Err, sym, subst}
 use Rattle.node_core.specs.declared.refusals.Fault.{Fault}
 use Rattle.tags_cell.specs.declared.messages.outs.Out.{Out}
 use Rattle.client_core.specs.declared.parts.asks.Ask.{Ask}
-use Rattle.client_core.specs.declared.parts.asks.Asked.{Asked}
+use Rattle.client_core.specs.declared.parts.asks.AskOutcome.{AskOutcome}
 use Rattle.client_core.specs.declared.parts.steps.Beaten.{Beaten}
 use Rattle.client_core.specs.declared.parts.steps.Given.{Given}
 use Rattle.client_core.specs.State.{ClientState, IsOff, Does}
@@ -20,7 +20,7 @@ off_behind : {X : Type 0} (old new : ClientState) (result : Result X Fault) (ste
 off_behind old new (Ok x) step before after does = subst (λ r. IsOff r.0) does after
 off_behind old new (Err fault) step before after does = by_fault fault (IsOff new) (λ other. subst (λ r. IsOff r.0) (does.0 other) after) (λ want. subst IsOff (sym (does.1 want)) before)
 
-pub ask_off : (old new : ClientState) (now : ℕ) (ask : Ask) (result : Result Asked Fault) → IsOff old → Does old new result (ask_step old now ask) → IsOff new
+pub ask_off : (old new : ClientState) (now : ℕ) (ask : Ask) (result : Result AskOutcome Fault) → IsOff old → Does old new result (ask_step old now ask) → IsOff new
 ask_off old new now ask result before does =
     let c = ask_case old now ask in
     off_behind old new result (ask_step old now ask) before (subst (λ r. IsOff r.0) (sym c.1) (asked_off old now ask c.0 before)) does

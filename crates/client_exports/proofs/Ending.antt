@@ -8,7 +8,7 @@ use Rattle.node_core.specs.declared.answers.Answer.TheVariants as answers
 use Rattle.tags_cell.specs.declared.messages.requests.Request.{Request}
 use Rattle.tags_cell.specs.declared.messages.outs.Out.{Out}
 use Rattle.client_core.specs.declared.parts.asks.Ask.{Ask}
-use Rattle.client_core.specs.declared.parts.asks.Asked.{Asked}
+use Rattle.client_core.specs.declared.parts.asks.AskOutcome.{AskOutcome}
 use Rattle.client_core.specs.declared.parts.asks.Outcome.{Outcome}
 use Rattle.client_core.specs.declared.parts.asks.Outcome.TheVariants as outcomes
 use Rattle.client_core.specs.declared.parts.steps.Beaten.{Beaten}
@@ -63,14 +63,14 @@ as_told old new told status step e h = subst (λ s. Ends old new s step) (sym e)
 abbrev state : ClientState → Option Request → List Line → HeldState
 state client request lines = record { client = client; request = request; lines = lines }
 
-ask_ends : (old new : HeldState) (client : ClientState) (now : ℕ) (ask : Ask) (did : Asked) (request : Option Request) (status : Status)
+ask_ends : (old new : HeldState) (client : ClientState) (now : ℕ) (ask : Ask) (did : AskOutcome) (request : Option Request) (status : Status)
     → ask_step old.client now ask ≡ (client, Ok did) → request ≡ sent_by did.outcome → new ≡ state client request did.lines → status ≡ ask_status did.outcome → Ends old new status (ask_held old now ask)
 ask_ends old new client now ask did request status made sends keeps ends =
     let keeps_so : new ≡ state client (sent_by did.outcome) did.lines = keeps ∙ ap (λ r. state client r did.lines) sends in
     as_told old new (ask_status did.outcome) status (ask_held old now ask) ends
     (by_outcome old new did.outcome (ask_held old now ask) (ask_own old.client client now ask did made) (ap (asked old) made ∙ ap (λ n. (n, ask_status did.outcome)) (sym keeps_so)))
 
-pub asks : (told old new : HeldState) (client : ClientState) (now : ℕ) (ask : Ask) (did : Asked) (request : Option Request) (status : Status) → told ≡ old
+pub asks : (told old new : HeldState) (client : ClientState) (now : ℕ) (ask : Ask) (did : AskOutcome) (request : Option Request) (status : Status) → told ≡ old
     → ask_step told.client now ask ≡ (client, Ok did) → request ≡ sent_by did.outcome → new ≡ state client request did.lines → status ≡ ask_status did.outcome → Ends old new status (ask_held old now ask)
 asks told old new client now ask did request status same made sends keeps ends =
     subst (λ h. Ends h new status (ask_held h now ask)) same (ask_ends told new client now ask did request status made sends keeps ends)

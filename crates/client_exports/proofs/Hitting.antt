@@ -5,10 +5,10 @@ use Rattle.std.proofs.lemmas.Bool.{lt-ltb}
 use Rattle.lease_core.specs.Lease.{IsMoment, moment_limit}
 use Rattle.cache_core.specs.Caches.{CacheState, is_leased, entry_of}
 use Rattle.cache_core.specs.Standings.{standing_at}
-use Rattle.cache_core.specs.declared.standings.Standing.{Standing}
-use Rattle.cache_core.specs.declared.standings.Standing.TheVariants as standings
-use Rattle.client_core.specs.declared.parts.sessions.Session.{Session}
-use Rattle.client_core.specs.declared.parts.sessions.Session.TheVariants as sessions
+use Rattle.cache_core.specs.declared.standings.SessionTrust.{SessionTrust}
+use Rattle.cache_core.specs.declared.standings.SessionTrust.TheVariants as standings
+use Rattle.client_core.specs.declared.parts.sessions.ClientStanding.{ClientStanding}
+use Rattle.client_core.specs.declared.parts.sessions.ClientStanding.TheVariants as sessions
 use Rattle.client_core.specs.Sessions.{session_fault}
 use Rattle.node_core.specs.declared.refusals.Fault.{Fault}
 use Rattle.node_core.specs.declared.refusals.Fault.TheVariants as faults
@@ -64,7 +64,7 @@ same_found : (cache : CacheState) (m later : ℕ) (o : Option ClientHandle) → 
 same_found cache m later None is also = refl
 same_found cache m later (Some h) is also = ap (λ b. shown h (cond (cache.enabled && b) (entry_of cache.entries h.name) None)) (also ∙ sym is)
 
-relies : (session : Session) (standing : Standing) → session_fault session standing ≡ None → (session ≡ sessions.Live) × (standing ≡ standings.Safe)
+relies : (session : ClientStanding) (standing : SessionTrust) → session_fault session standing ≡ None → (session ≡ sessions.Live) × (standing ≡ standings.Safe)
 relies sessions.Unstarted standing h = cc
 relies sessions.Live standings.Safe h = (refl, refl)
 relies sessions.Live (standings.Jeopardy since) h = cc

@@ -12,14 +12,14 @@ use Rattle.node_core.specs.declared.views.View.{View}
 use Rattle.tags_cell.specs.declared.messages.calls.Call.{Call}
 use Rattle.client_core.specs.declared.parts.asks.Ask.{Ask}
 use Rattle.client_core.specs.declared.parts.asks.Ask.TheVariants as asks
-use Rattle.client_core.specs.declared.parts.asks.Asked.{Asked}
+use Rattle.client_core.specs.declared.parts.asks.AskOutcome.{AskOutcome}
 use Rattle.client_core.specs.declared.parts.asks.NodeCall.TheVariants as nodes
 use Rattle.client_core.specs.declared.parts.asks.Outcome.TheVariants as outcomes
 use Rattle.client_core.specs.declared.parts.handles.ClientHandle.{ClientHandle}
 use Rattle.client_core.specs.declared.parts.targets.Target.{Target}
 use Rattle.client_core.specs.declared.parts.targets.Target.TheVariants as targets
-use Rattle.client_core.specs.declared.plans.Plan.{Plan}
-use Rattle.client_core.specs.declared.plans.Plan.TheVariants as plans
+use Rattle.client_core.specs.declared.plans.AskPlan.{AskPlan}
+use Rattle.client_core.specs.declared.plans.AskPlan.TheVariants as plans
 use Rattle.client_core.specs.Calls.{call_on}
 use Rattle.client_core.specs.State.{ClientState, IsOff}
 use Rattle.client_core.specs.Handles.{handle_of, usable_handle}
@@ -30,12 +30,12 @@ use Rattle.client_exports.specs.Steps.{asked}
 use Rattle.client_exports.specs.Hits.{served_content, hit, readable, shown, found}
 
 -- what the holder is served with by a step of its client
-abbrev pub told : HeldState → ClientState × Result Asked Fault → Option (List ℕ)
+abbrev pub told : HeldState → ClientState × Result AskOutcome Fault → Option (List ℕ)
 told held step = served_content (asked held step)
 
 -- ---- behind a plan
 
-abbrev sent_read : ClientState → ℕ → ClientHandle → Result Plan Fault
+abbrev sent_read : ClientState → ℕ → ClientHandle → Result AskPlan Fault
 sent_read s n h = send_plan s (call_on h.bytes nodes.Read) h.sequencer (targets.Handle n)
 
 unserved : (held : HeldState) (s : ClientState) (m : ℕ) (call : Call) (sequencer : Option (List ℕ)) (target : Target) → told held (ask_by s m (send_plan s call sequencer target)) ≡ None

@@ -1,8 +1,8 @@
 -- Which refusals a client's step ends with.
 use Rattle.std.proofs.Common.{◌≡◌, ℕ, Bool, true, false, cond, List, Option, Some, None, Result, Ok, Err, sym, ◌∙◌, subst}
 use Rattle.std.specs.Prelude.{is_some}
-use Rattle.cache_core.specs.declared.standings.Standing.{Standing}
-use Rattle.cache_core.specs.declared.standings.Standing.TheVariants as standings
+use Rattle.cache_core.specs.declared.standings.SessionTrust.{SessionTrust}
+use Rattle.cache_core.specs.declared.standings.SessionTrust.TheVariants as standings
 use Rattle.node_core.specs.declared.refusals.Fault.{Fault}
 use Rattle.node_core.specs.declared.refusals.Fault.TheVariants as faults
 use Rattle.node_core.specs.declared.answers.Answer.{Answer}
@@ -12,21 +12,21 @@ use Rattle.tags_cell.specs.declared.messages.calls.Call.TheVariants as calls
 use Rattle.tags_cell.specs.declared.messages.outs.Out.{Out}
 use Rattle.client_core.specs.declared.parts.asks.Ask.{Ask}
 use Rattle.client_core.specs.declared.parts.asks.Ask.TheVariants as asks
-use Rattle.client_core.specs.declared.parts.asks.Asked.{Asked}
+use Rattle.client_core.specs.declared.parts.asks.AskOutcome.{AskOutcome}
 use Rattle.client_core.specs.declared.parts.asks.NodeCall.{NodeCall}
 use Rattle.client_core.specs.declared.parts.asks.Outcome.{Outcome}
 use Rattle.client_core.specs.declared.parts.asks.Outcome.TheVariants as outcomes
 use Rattle.client_core.specs.declared.parts.handles.ClientHandle.{ClientHandle}
-use Rattle.client_core.specs.declared.parts.sessions.Session.{Session}
-use Rattle.client_core.specs.declared.parts.sessions.Session.TheVariants as sessions
+use Rattle.client_core.specs.declared.parts.sessions.ClientStanding.{ClientStanding}
+use Rattle.client_core.specs.declared.parts.sessions.ClientStanding.TheVariants as sessions
 use Rattle.client_core.specs.declared.parts.steps.Given.{Given}
 use Rattle.client_core.specs.declared.parts.targets.Target.{Target}
 use Rattle.client_core.specs.declared.parts.targets.Target.TheVariants as targets
 use Rattle.client_core.specs.Calls.{call_on}
 use Rattle.client_core.specs.Handles.{handle_of, usable_handle}
 use Rattle.client_core.specs.Sessions.{session_fault}
-use Rattle.client_core.specs.declared.plans.Plan.{Plan}
-use Rattle.client_core.specs.declared.plans.Plan.TheVariants as plans
+use Rattle.client_core.specs.declared.plans.AskPlan.{AskPlan}
+use Rattle.client_core.specs.declared.plans.AskPlan.TheVariants as plans
 use Rattle.client_core.specs.State.{ClientState, standing_then}
 use Rattle.client_core.specs.Serves.{open_served, read_served}
 use Rattle.client_core.specs.Asks.{fault_then, has_given_up, send_plan, served_or, close_plan, poison_plan, node_plan, sequencer_plan, plan_of, ask_step}
@@ -86,7 +86,7 @@ refused_if false x fault own = tt
 sent_own : (s : ClientState) (call : Call) (sequencer : Option (List ℕ)) (target : Target) → OwnErr (send_plan s call sequencer target)
 sent_own s call sequencer target = refused_if (is_some s.outstanding) (plans.Send call sequencer target) faults.CallOutstanding outstanding_own
 
-served_own : (served : Option Plan) (sent : Result Plan Fault) → OwnErr sent → OwnErr (served_or served sent)
+served_own : (served : Option AskPlan) (sent : Result AskPlan Fault) → OwnErr sent → OwnErr (served_or served sent)
 served_own None sent own = own
 served_own (Some plan) sent own = tt
 
@@ -94,7 +94,7 @@ usable_own : (handle : Option ClientHandle) → OwnErr (usable_handle handle)
 usable_own None = bad_own
 usable_own (Some handle) = refused_if handle.poisoned handle faults.Poisoned poisoned_own
 
-shared_own : (b : Bool) (plan : Plan) (sent : Result Plan Fault) → OwnErr sent → OwnErr (cond b (Ok plan) sent)
+shared_own : (b : Bool) (plan : AskPlan) (sent : Result AskPlan Fault) → OwnErr sent → OwnErr (cond b (Ok plan) sent)
 shared_own true plan sent own = tt
 shared_own false plan sent own = own
 
@@ -128,12 +128,12 @@ plan_own s moment asks.Leave = sent_own s calls.Leave None targets.Leaving
 
 -- ---- an ask
 
-standing_own : (standing : Standing) → OwnSome (session_fault sessions.Live standing)
+standing_own : (standing : SessionTrust) → OwnSome (session_fault sessions.Live standing)
 standing_own standings.Safe = tt
 standing_own (standings.Jeopardy since) = record { no_want = λ e. cc; no_end = λ e. cc }
 standing_own standings.Lost = record { no_want = λ e. cc; no_end = λ e. cc }
 
-session_own : (session : Session) (standing : Standing) → OwnSome (session_fault session standing)
+session_own : (session : ClientStanding) (standing : SessionTrust) → OwnSome (session_fault session standing)
 session_own sessions.Unstarted standing = record { no_want = λ e. cc; no_end = λ e. cc }
 session_own sessions.Live standing = standing_own standing
 session_own sessions.Lost standing = record { no_want = λ e. cc; no_end = λ e. cc }
@@ -145,7 +145,7 @@ given_up_own true o h = record { no_want = λ e. cc; no_end = λ e. cc }
 given_up_own false o h = h
 
 -- the refusal by which an answered ask ends
-abbrev OwnAsked : ClientState × Result Asked Fault → Type 0
+abbrev OwnAsked : ClientState × Result AskOutcome Fault → Type 0
 OwnAsked (new, Ok asked) = OwnOutcome asked.outcome
 OwnAsked (new, Err fault) = Unit {0}
 
@@ -164,7 +164,7 @@ asked_own s now ask (OutOfCalls call sequencer target sendable last) = tt
 asked_own s now ask (Sent call sequencer target sendable room) = tt
 asked_own s now ask (Poisoned number handle safe is usable) = tt
 
-pub ask_own : (s new : ClientState) (now : ℕ) (ask : Ask) (asked : Asked) → ask_step s now ask ≡ (new, Ok asked) → OwnOutcome asked.outcome
+pub ask_own : (s new : ClientState) (now : ℕ) (ask : Ask) (asked : AskOutcome) → ask_step s now ask ≡ (new, Ok asked) → OwnOutcome asked.outcome
 ask_own s new now ask asked e = let c = ask_case s now ask in subst OwnAsked (sym c.1 ∙ e) (asked_own s now ask c.0)
 
 -- ---- a give

@@ -7,7 +7,7 @@ use Rattle.node_core.specs.declared.answers.Answer.TheVariants as answers
 use Rattle.tags_cell.specs.declared.messages.requests.Request.{Request}
 use Rattle.tags_cell.specs.declared.messages.outs.Out.{Out}
 use Rattle.client_core.specs.declared.parts.asks.Ask.{Ask}
-use Rattle.client_core.specs.declared.parts.asks.Asked.{Asked}
+use Rattle.client_core.specs.declared.parts.asks.AskOutcome.{AskOutcome}
 use Rattle.client_core.specs.declared.parts.asks.Outcome.{Outcome}
 use Rattle.client_core.specs.declared.parts.asks.Outcome.TheVariants as outcomes
 use Rattle.client_core.specs.declared.parts.steps.Beaten.{Beaten}
@@ -55,7 +55,7 @@ give_status (Some fault) = statuses.Refused fault
 
 -- ---- the steps. Where the client makes none, all stays
 
-abbrev pub asked : HeldState → ClientState × Result Asked Fault → HeldState × Status
+abbrev pub asked : HeldState → ClientState × Result AskOutcome Fault → HeldState × Status
 asked old (client, Ok did) = (record { client = client; request = sent_by did.outcome; lines = did.lines }, ask_status did.outcome)
 asked old (client, Err fault) = (old, statuses.Failed fault)
 

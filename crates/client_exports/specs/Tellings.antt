@@ -20,7 +20,7 @@ use Rattle.node_core.specs.declared.refusals.Fault.TheVariants as faults
 use Rattle.node_core.specs.declared.stats.Stat.{Stat}
 use Rattle.node_core.specs.declared.views.View.{View}
 use Rattle.node_core.specs.Refusals.{fault_number}
-use Rattle.client_exports.specs.declared.tellings.Telling.{Telling}
+use Rattle.client_exports.specs.declared.tellings.LineParts.{LineParts}
 use Rattle.client_exports.specs.Shows.{seen_content}
 
 -- ---- numbers, those by which calls have them
@@ -59,7 +59,7 @@ fault_argument fault = 0
 -- ---- lines in plain numbers
 
 -- of this kind, and nothing else
-abbrev pub bare : ℕ → Telling
+abbrev pub bare : ℕ → LineParts
 bare what =
     record {
       what = what;
@@ -79,7 +79,7 @@ bare what =
       event = 0;
     }
 
-abbrev pub viewed : ℕ → ℕ → View → Telling
+abbrev pub viewed : ℕ → ℕ → View → LineParts
 viewed what call view = record (bare what) {
   call = call;
   instance = view.node.instance;
@@ -91,7 +91,7 @@ viewed what call view = record (bare what) {
   children = length view.children;
 }
 
-abbrev pub stated : ℕ → Stat → Telling
+abbrev pub stated : ℕ → Stat → LineParts
 stated call stat = record (bare 5) {
   call = call;
   instance = stat.instance;
@@ -103,7 +103,7 @@ stated call stat = record (bare 5) {
   life = life_number stat.life;
 }
 
-abbrev pub answer_telling : ℕ → Answer → Telling
+abbrev pub answer_telling : ℕ → Answer → LineParts
 answer_telling call (answers.Opened handle) = record (bare 1) { call = call; handle = handle }
 answer_telling call answers.Closed = record (bare 2) { call = call }
 answer_telling call answers.Poisoned = record (bare 3) { call = call }
@@ -114,15 +114,15 @@ answer_telling call (answers.Sequencer bytes) = record (bare 7) { call = call; l
 answer_telling call answers.Okay = record (bare 8) { call = call }
 answer_telling call (answers.Refused fault) = record (bare 9) { call = call; fault = fault_number fault; argument = fault_argument fault }
 
-abbrev pub seen_telling : Option View → Telling
+abbrev pub seen_telling : Option View → LineParts
 seen_telling None = bare 11
 seen_telling (Some view) = viewed 10 0 view
 
 -- an event of this kind, of the handle that this call opened
-abbrev pub happened : ℕ → ℕ → Telling
+abbrev pub happened : ℕ → ℕ → LineParts
 happened event opened = record (bare 12) { event = event; opened = opened }
 
-abbrev pub event_telling : Event → Telling
+abbrev pub event_telling : Event → LineParts
 event_telling events.FailOver = happened 1 0
 event_telling (events.Contents opened instance generation) = record (happened 2 opened) { instance = instance; content_generation = generation }
 event_telling (events.ChildAdded opened name) = happened 3 opened
@@ -134,7 +134,7 @@ event_telling (events.Conflict opened) = happened 8 opened
 event_telling events.Lost = happened 9 0
 
 -- a line that no client prints is of kind 16
-abbrev pub line_telling : Line → Telling
+abbrev pub line_telling : Line → LineParts
 line_telling (lines.Done client call answer) = answer_telling call answer
 line_telling (lines.Served client name seen) = seen_telling seen
 line_telling (lines.Told client event) = event_telling event
@@ -144,11 +144,11 @@ line_telling (lines.Lost client) = bare 15
 line_telling _ = bare 16
 
 -- 0 where there is no such line
-abbrev pub telling_in : Option Line → Telling
+abbrev pub telling_in : Option Line → LineParts
 telling_in None = bare 0
 telling_in (Some line) = line_telling line
 
-abbrev pub telling_at : List Line → ℕ → Telling
+abbrev pub telling_at : List Line → ℕ → LineParts
 telling_at printed place = telling_in (slice_get printed place)
 
 -- ---- its bytes

@@ -5,7 +5,7 @@ ghost use Rattle.client_exports.specs.Steps.{Makes, Stays};
 ghost use Rattle.client_exports.specs.Parts.{component_in, acls_in, made_under, opening_under, under, open_under_ask, set_acl_ask, ask_parts};
 
 use crate::calls::{OpenParts, generation_in, open_ask};
-use crate::held::Held;
+use crate::held::HeldClient;
 use crate::statuses::Status;
 use client_core::{Ask, NodeCall};
 use codec::WireFault;
@@ -14,7 +14,7 @@ use std::alloc::Global;
 use std::str;
 use tags_cell::{AclNames, Create, Open};
 
-impl Held {
+impl HeldClient {
     /// Opens the node of this name as `open_node`; where it is made, under these ACL names: to read, to write, and to change the
     /// ACL names.
     pub fn open_under(

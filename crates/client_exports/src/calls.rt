@@ -6,7 +6,7 @@ ghost use Rattle.client_core.specs.declared.parts.asks.NodeCall.TheVariants as n
 ghost use Rattle.client_exports.specs.Steps.{ask_held, Makes, Stays};
 ghost use Rattle.client_exports.specs.Parts.{mode_in, events_in, lock_mode_in, life_in, node_in, disposition_in, generation_in, made_as, create_in, name_in, opening_of, open_ask, acquire_ask, try_acquire_ask, set_ask, ask_parts};
 
-use crate::held::Held;
+use crate::held::HeldClient;
 use crate::statuses::Status;
 use client_core::{Ask, NodeCall};
 use codec::WireFault;
@@ -35,7 +35,7 @@ pub struct OpenParts {
     pub life: u8,
 }
 
-impl Held {
+impl HeldClient {
     /// Opens the node of this name, or makes it, then with this content.
     pub fn open_node(
         &mut self,

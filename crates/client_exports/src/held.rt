@@ -24,14 +24,14 @@ use tags_cell::{ClientNumber, Out, Request};
 /// Each step is the client's own (Burrows 2006, section 2.7), and ends with a `Status`. Where that is Failed, Bad or NoCall,
 /// nothing has changed. Moments are milliseconds by the client's clock.
 #[derive(Drop)]
-pub struct Held {
+pub struct HeldClient {
     pub(crate) alloc: Global,
     pub(crate) client: Orderly,
     pub(crate) request: Option<Request>,
     pub(crate) lines: Items<Line>,
 }
 
-impl Model for Held {
+impl Model for HeldClient {
     ghost use Rattle.client_exports.specs.States.{HeldState};
 
     ghost Value = { HeldState };
@@ -39,12 +39,12 @@ impl Model for Held {
     ghost view = { λ h. record { client = h.client; request = h.request; lines = h.lines } };
 }
 
-impl Held {
+impl HeldClient {
     /// Holds a client of this number for this principal, which made no step yet. Takes no memory.
-    pub fn new(alloc: Global, number: ClientNumber, principal: Principal) -> Held
+    pub fn new(alloc: Global, number: ClientNumber, principal: Principal) -> HeldClient
         ensures { result ≡ new_held (new_client number principal) }
     {
-        Held {
+        HeldClient {
             alloc,
             client: Orderly::new(alloc, number, principal),
             request: None,

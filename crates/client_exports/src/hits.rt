@@ -7,14 +7,14 @@ ghost use Rattle.client_core.specs.Handles.{handle_of};
 ghost use Rattle.client_core.specs.Asks.{fault_then};
 ghost use Rattle.client_exports.specs.Hits.{hit, is_readable, readable, own_content, shown, found};
 
-use crate::held::Held;
+use crate::held::HeldClient;
 use cache_core::{Cache, Shared};
 use client_core::{Client, ClientHandle, standing_by};
 use collections::Table;
 use lease_core::MOMENT_LIMIT;
 use node_core::{Right, View};
 
-impl Held {
+impl HeldClient {
     /// The content that a read of this handle would be served with, were it asked for at this moment; None where the cache wouldn't
     /// serve it. Changes nothing, notes no time and takes no memory: a look-up of the handle's number and one of its name.
     pub fn hit(&self, now: u64, number: u64) -> Option<&[u8]>

@@ -3,11 +3,11 @@ ghost use Rattle.std.specs.Prelude.{◌≡◌, ◌≤◌, true};
 ghost use Rattle.cache_core.specs.Caches.{is_leased};
 ghost use Rattle.client_exports.specs.Leases.{EndsAt};
 
-use crate::held::Held;
+use crate::held::HeldClient;
 use cache_core::Cache;
 use lease_core::MOMENT_LIMIT;
 
-impl Held {
+impl HeldClient {
     /// The moment, in milliseconds by the client's clock, before which its lease is unexpired, and from which on it isn't, if it
     /// gets no better one; 0 where it has none. Takes no memory. It is found by halving, which takes 53 looks at the lease.
     pub fn leased_until(&self) -> u64

@@ -36,14 +36,14 @@ ghost use Rattle.client_exports.specs.Tellings.{telling_at, bytes_at, child_at, 
 pub use calls::OpenParts;
 use client_core::{Ask, NodeCall};
 use codec::WireFault;
-use handles::{Handle, HandlePlace};
-pub use held::Held;
+use handles::{HandlePlace, OwnedClient};
+pub use held::HeldClient;
 pub use laws::{hit_is_asked, hit_lasts};
-use parts::Parts;
+use parts::BoxParts;
 use rooms::{fill, put, put_hit};
 pub use statuses::Status;
 use std::alloc::Global;
-pub use tellings::Telling;
+pub use tellings::LineParts;
 
 /// Opens a client of this number, 1 to 2^53-1, for this principal: 0, and the address that is written owns it. Else 1 for want of
 /// memory, 85 for another number and 86 for a text that is no principal; then nothing is written.
@@ -57,19 +57,19 @@ pub extern "C" fn cell_client_open(
     ensures opened { Opens (opened number principal.now) out.new.value result }
     ensures refused { result ≢ 0 → out.new ≡ out.old }
 {
-    match Held::open(alloc, number, principal) {
+    match HeldClient::open(alloc, number, principal) {
         Ok(held) => place(alloc, held, out),
         Err(fault) => Status::Bad(fault).code(),
     }
 }
 
-fn place(alloc: Global, held: Held, out: &mut HandlePlace) -> u32
+fn place(alloc: Global, held: HeldClient, out: &mut HandlePlace) -> u32
     ensures opened { Opens (Ok held) out.new.value result }
     ensures refused { result ≢ 0 → out.new ≡ out.old }
 {
     match Box::new(alloc, held) {
         Ok(held) => {
-            *out = HandlePlace::of_parts(Parts::of(held));
+            *out = HandlePlace::of_parts(BoxParts::of(held));
             Status::Done.code()
         }
         Err(_) => Status::Bad(WireFault::NoMemory).code(),
@@ -78,7 +78,7 @@ fn place(alloc: Global, held: Held, out: &mut HandlePlace) -> u32
 
 /// Asks for what keeps the session: a Start until there is one, and then a Beat. Moments are milliseconds by the client's clock.
 #[unsafe(no_mangle)]
-pub extern "C" fn cell_client_beat(handle: &mut Handle, now: u64) -> u32
+pub extern "C" fn cell_client_beat(handle: &mut OwnedClient, now: u64) -> u32
     ensures { Answers handle.old.value handle.new.value result (beat_held handle.old.value now) }
 {
     handle.as_mut().beat(now).code()
@@ -86,7 +86,7 @@ pub extern "C" fn cell_client_beat(handle: &mut Handle, now: u64) -> u32
 
 /// Asks for the call of these bytes: those of a Call's message, with the client's own numbers for handles.
 #[unsafe(no_mangle)]
-pub extern "C" fn cell_client_ask(handle: &mut Handle, now: u64, call: &[u8]) -> u32
+pub extern "C" fn cell_client_ask(handle: &mut OwnedClient, now: u64, call: &[u8]) -> u32
     ensures { Answers handle.old.value handle.new.value result (ask_bytes handle.old.value now call.now) }
 {
     handle.as_mut().ask_bytes(now, call).code()
@@ -96,7 +96,7 @@ pub extern "C" fn cell_client_ask(handle: &mut Handle, now: u64, call: &[u8]) ->
 /// goes into the room, if it fits, and `length` is how long it is.
 #[unsafe(no_mangle)]
 pub extern "C" fn cell_client_read(
-    handle: &mut Handle,
+    handle: &mut OwnedClient,
     now: u64,
     number: u64,
     room: &mut [u8],
@@ -117,7 +117,7 @@ pub extern "C" fn cell_client_read(
 /// fits, and `length` is how long it is; or 0, where the cache wouldn't serve it. Nothing changes, and no time is noted.
 #[unsafe(no_mangle)]
 pub extern "C" fn cell_client_hit(
-    handle: &mut Handle,
+    handle: &mut OwnedClient,
     now: u64,
     number: u64,
     room: &mut [u8],
@@ -131,7 +131,7 @@ pub extern "C" fn cell_client_hit(
 
 /// Poisons a handle, by the client's own number.
 #[unsafe(no_mangle)]
-pub extern "C" fn cell_client_poison(handle: &mut Handle, now: u64, number: u64) -> u32
+pub extern "C" fn cell_client_poison(handle: &mut OwnedClient, now: u64, number: u64) -> u32
     ensures { Answers handle.old.value handle.new.value result (ask_held handle.old.value now (asks.Poison number)) }
 {
     handle.as_mut().poison(now, number).code()
@@ -140,7 +140,7 @@ pub extern "C" fn cell_client_poison(handle: &mut Handle, now: u64, number: u64)
 /// Opens the node of this name, as these parts say; where it is made, with this content.
 #[unsafe(no_mangle)]
 pub extern "C" fn cell_client_open_node(
-    handle: &mut Handle,
+    handle: &mut OwnedClient,
     now: u64,
     name: &[u8],
     opening: &OpenParts,
@@ -157,7 +157,7 @@ pub extern "C" fn cell_client_open_node(
 /// The same, and where the node is made, under these ACL names: to read, to write, and to change the ACL names.
 #[unsafe(no_mangle)]
 pub extern "C" fn cell_client_open_under(
-    handle: &mut Handle,
+    handle: &mut OwnedClient,
     now: u64,
     name: &[u8],
     opening: &OpenParts,
@@ -176,7 +176,7 @@ pub extern "C" fn cell_client_open_under(
 
 /// Closes a handle.
 #[unsafe(no_mangle)]
-pub extern "C" fn cell_client_close_handle(handle: &mut Handle, now: u64, number: u64) -> u32
+pub extern "C" fn cell_client_close_handle(handle: &mut OwnedClient, now: u64, number: u64) -> u32
     ensures { Answers handle.old.value handle.new.value result (ask_held handle.old.value now (asks.Close number)) }
 {
     handle.as_mut().call(now, Ask::Close(number)).code()
@@ -184,7 +184,7 @@ pub extern "C" fn cell_client_close_handle(handle: &mut Handle, now: u64, number
 
 /// Asks for the numbers of a handle's node.
 #[unsafe(no_mangle)]
-pub extern "C" fn cell_client_stat(handle: &mut Handle, now: u64, number: u64) -> u32
+pub extern "C" fn cell_client_stat(handle: &mut OwnedClient, now: u64, number: u64) -> u32
     ensures { Answers handle.old.value handle.new.value result (ask_held handle.old.value now (asks.Node number node_calls.Stat)) }
 {
     handle.as_mut().call_on(now, number, NodeCall::Stat).code()
@@ -192,7 +192,7 @@ pub extern "C" fn cell_client_stat(handle: &mut Handle, now: u64, number: u64) -
 
 /// Asks for the names of the children of a handle's directory.
 #[unsafe(no_mangle)]
-pub extern "C" fn cell_client_list(handle: &mut Handle, now: u64, number: u64) -> u32
+pub extern "C" fn cell_client_list(handle: &mut OwnedClient, now: u64, number: u64) -> u32
     ensures { Answers handle.old.value handle.new.value result (ask_held handle.old.value now (asks.Node number node_calls.List)) }
 {
     handle.as_mut().call_on(now, number, NodeCall::List).code()
@@ -200,7 +200,7 @@ pub extern "C" fn cell_client_list(handle: &mut Handle, now: u64, number: u64) -
 
 /// Deletes a handle's node.
 #[unsafe(no_mangle)]
-pub extern "C" fn cell_client_delete(handle: &mut Handle, now: u64, number: u64) -> u32
+pub extern "C" fn cell_client_delete(handle: &mut OwnedClient, now: u64, number: u64) -> u32
     ensures { Answers handle.old.value handle.new.value result (ask_held handle.old.value now (asks.Node number node_calls.Delete)) }
 {
     handle
@@ -211,7 +211,7 @@ pub extern "C" fn cell_client_delete(handle: &mut Handle, now: u64, number: u64)
 
 /// Gives the lock of a handle's node back.
 #[unsafe(no_mangle)]
-pub extern "C" fn cell_client_release(handle: &mut Handle, now: u64, number: u64) -> u32
+pub extern "C" fn cell_client_release(handle: &mut OwnedClient, now: u64, number: u64) -> u32
     ensures { Answers handle.old.value handle.new.value result (ask_held handle.old.value now (asks.Node number node_calls.Release)) }
 {
     handle
@@ -222,7 +222,7 @@ pub extern "C" fn cell_client_release(handle: &mut Handle, now: u64, number: u64
 
 /// Asks for what describes the lock that a handle holds.
 #[unsafe(no_mangle)]
-pub extern "C" fn cell_client_get_sequencer(handle: &mut Handle, now: u64, number: u64) -> u32
+pub extern "C" fn cell_client_get_sequencer(handle: &mut OwnedClient, now: u64, number: u64) -> u32
     ensures { Answers handle.old.value handle.new.value result (ask_held handle.old.value now (asks.Node number node_calls.GetSequencer)) }
 {
     handle
@@ -233,7 +233,12 @@ pub extern "C" fn cell_client_get_sequencer(handle: &mut Handle, now: u64, numbe
 
 /// Waits for the lock of a handle's node: 0 exclusive, 1 shared.
 #[unsafe(no_mangle)]
-pub extern "C" fn cell_client_acquire(handle: &mut Handle, now: u64, number: u64, mode: u32) -> u32
+pub extern "C" fn cell_client_acquire(
+    handle: &mut OwnedClient,
+    now: u64,
+    number: u64,
+    mode: u32,
+) -> u32
     ensures { Answers handle.old.value handle.new.value result (ask_parts handle.old.value now (acquire_ask number mode)) }
 {
     handle.as_mut().acquire(now, number, mode).code()
@@ -242,7 +247,7 @@ pub extern "C" fn cell_client_acquire(handle: &mut Handle, now: u64, number: u64
 /// The same, and is refused where it would have to wait.
 #[unsafe(no_mangle)]
 pub extern "C" fn cell_client_try_acquire(
-    handle: &mut Handle,
+    handle: &mut OwnedClient,
     now: u64,
     number: u64,
     mode: u32,
@@ -255,7 +260,7 @@ pub extern "C" fn cell_client_try_acquire(
 /// Sets the whole content of a handle's file; where the generation isn't 0, only where that is the present one.
 #[unsafe(no_mangle)]
 pub extern "C" fn cell_client_set(
-    handle: &mut Handle,
+    handle: &mut OwnedClient,
     now: u64,
     number: u64,
     content: &[u8],
@@ -270,7 +275,7 @@ pub extern "C" fn cell_client_set(
 /// is the present one of the ACL names.
 #[unsafe(no_mangle)]
 pub extern "C" fn cell_client_set_acl(
-    handle: &mut Handle,
+    handle: &mut OwnedClient,
     now: u64,
     number: u64,
     read: &[u8],
@@ -289,7 +294,7 @@ pub extern "C" fn cell_client_set_acl(
 /// Sets a sequencer on a handle.
 #[unsafe(no_mangle)]
 pub extern "C" fn cell_client_set_sequencer(
-    handle: &mut Handle,
+    handle: &mut OwnedClient,
     now: u64,
     number: u64,
     sequencer: &[u8],
@@ -302,7 +307,7 @@ pub extern "C" fn cell_client_set_sequencer(
 /// Asks whether a sequencer is valid.
 #[unsafe(no_mangle)]
 pub extern "C" fn cell_client_check_sequencer(
-    handle: &mut Handle,
+    handle: &mut OwnedClient,
     now: u64,
     sequencer: &[u8],
 ) -> u32
@@ -313,7 +318,7 @@ pub extern "C" fn cell_client_check_sequencer(
 
 /// Ends the session.
 #[unsafe(no_mangle)]
-pub extern "C" fn cell_client_leave(handle: &mut Handle, now: u64) -> u32
+pub extern "C" fn cell_client_leave(handle: &mut OwnedClient, now: u64) -> u32
     ensures { Answers handle.old.value handle.new.value result (ask_held handle.old.value now asks.Leave) }
 {
     handle.as_mut().call(now, Ask::Leave).code()
@@ -321,7 +326,7 @@ pub extern "C" fn cell_client_leave(handle: &mut Handle, now: u64) -> u32
 
 /// Gives the client the master's message of these bytes.
 #[unsafe(no_mangle)]
-pub extern "C" fn cell_client_give(handle: &mut Handle, now: u64, message: &[u8]) -> u32
+pub extern "C" fn cell_client_give(handle: &mut OwnedClient, now: u64, message: &[u8]) -> u32
     ensures { Answers handle.old.value handle.new.value result (give_bytes handle.old.value now message.now) }
 {
     handle.as_mut().give_bytes(now, message).code()
@@ -330,7 +335,7 @@ pub extern "C" fn cell_client_give(handle: &mut Handle, now: u64, message: &[u8]
 /// The bytes of the message that the last step gave to be sent, none where it gave none: 0, or why there are none.
 #[unsafe(no_mangle)]
 pub extern "C" fn cell_client_message(
-    handle: &mut Handle,
+    handle: &mut OwnedClient,
     room: &mut [u8],
     length: &mut usize,
 ) -> u32
@@ -342,7 +347,11 @@ pub extern "C" fn cell_client_message(
 
 /// The bytes of the outstanding call's message, none where no call is outstanding: 0, or why there are none.
 #[unsafe(no_mangle)]
-pub extern "C" fn cell_client_again(handle: &mut Handle, room: &mut [u8], length: &mut usize) -> u32
+pub extern "C" fn cell_client_again(
+    handle: &mut OwnedClient,
+    room: &mut [u8],
+    length: &mut usize,
+) -> u32
     ensures shown { Shows (message_bytes (option_map (λ call. call.request) handle.old.value.client.outstanding)) room.old room.new length.old length.new result }
     ensures kept { handle.new.value ≡ handle.old.value }
 {
@@ -351,7 +360,11 @@ pub extern "C" fn cell_client_again(handle: &mut Handle, room: &mut [u8], length
 
 /// The lines of the last step, each with an LF behind it: 0, or 1 for want of memory.
 #[unsafe(no_mangle)]
-pub extern "C" fn cell_client_lines(handle: &mut Handle, room: &mut [u8], length: &mut usize) -> u32
+pub extern "C" fn cell_client_lines(
+    handle: &mut OwnedClient,
+    room: &mut [u8],
+    length: &mut usize,
+) -> u32
     ensures shown { Shows (Ok (lines_bytes handle.old.value.lines)) room.old room.new length.old length.new result }
     ensures kept { handle.new.value ≡ handle.old.value }
 {
@@ -360,7 +373,7 @@ pub extern "C" fn cell_client_lines(handle: &mut Handle, room: &mut [u8], length
 
 /// The content of the view that the last line shows, empty where it shows none: how long it is.
 #[unsafe(no_mangle)]
-pub extern "C" fn cell_client_content(handle: &mut Handle, room: &mut [u8]) -> usize
+pub extern "C" fn cell_client_content(handle: &mut OwnedClient, room: &mut [u8]) -> usize
     ensures shown { Fills (last_content handle.old.value.lines) room.old room.new result }
     ensures kept { handle.new.value ≡ handle.old.value }
 {
@@ -369,7 +382,7 @@ pub extern "C" fn cell_client_content(handle: &mut Handle, room: &mut [u8]) -> u
 
 /// The line of the last step that stands at this place, the first at 0, in parts.
 #[unsafe(no_mangle)]
-pub extern "C" fn cell_client_line(handle: &mut Handle, place: usize, out: &mut Telling)
+pub extern "C" fn cell_client_line(handle: &mut OwnedClient, place: usize, out: &mut LineParts)
     ensures shown { out.new ≡ telling_at handle.old.value.lines place }
     ensures kept { handle.new.value ≡ handle.old.value }
 {
@@ -379,7 +392,7 @@ pub extern "C" fn cell_client_line(handle: &mut Handle, place: usize, out: &mut 
 /// The content, or the sequencer, that the line at this place shows, empty where it shows none: how long it is.
 #[unsafe(no_mangle)]
 pub extern "C" fn cell_client_line_bytes(
-    handle: &mut Handle,
+    handle: &mut OwnedClient,
     place: usize,
     room: &mut [u8],
 ) -> usize
@@ -393,7 +406,7 @@ pub extern "C" fn cell_client_line_bytes(
 /// long it is.
 #[unsafe(no_mangle)]
 pub extern "C" fn cell_client_line_child(
-    handle: &mut Handle,
+    handle: &mut OwnedClient,
     place: usize,
     index: usize,
     room: &mut [u8],
@@ -408,7 +421,7 @@ pub extern "C" fn cell_client_line_child(
 /// shows none: how long it is.
 #[unsafe(no_mangle)]
 pub extern "C" fn cell_client_line_acl(
-    handle: &mut Handle,
+    handle: &mut OwnedClient,
     place: usize,
     right: u32,
     room: &mut [u8],
@@ -422,7 +435,11 @@ pub extern "C" fn cell_client_line_acl(
 /// The whole name of the child that the event at this place tells of, or of the node that the cache served there, empty where it is
 /// another line: how long it is.
 #[unsafe(no_mangle)]
-pub extern "C" fn cell_client_line_name(handle: &mut Handle, place: usize, room: &mut [u8]) -> usize
+pub extern "C" fn cell_client_line_name(
+    handle: &mut OwnedClient,
+    place: usize,
+    room: &mut [u8],
+) -> usize
     ensures shown { Fills (name_at handle.old.value.lines place) room.old room.new result }
     ensures kept { handle.new.value ≡ handle.old.value }
 {
@@ -431,7 +448,7 @@ pub extern "C" fn cell_client_line_name(handle: &mut Handle, place: usize, room:
 
 /// The moment from which on the client trusts its lease no more, if it gets no better one; 0 where it has none.
 #[unsafe(no_mangle)]
-pub extern "C" fn cell_client_leased_until(handle: &mut Handle) -> u64
+pub extern "C" fn cell_client_leased_until(handle: &mut OwnedClient) -> u64
     ensures end { EndsAt handle.old.value.client.cache.lease result }
     ensures kept { handle.new.value ≡ handle.old.value }
 {
@@ -440,7 +457,7 @@ pub extern "C" fn cell_client_leased_until(handle: &mut Handle) -> u64
 
 /// Frees the client.
 #[unsafe(no_mangle)]
-pub extern "C" fn cell_client_close(handle: Handle) {
+pub extern "C" fn cell_client_close(handle: OwnedClient) {
     let held = handle.into_parts().into_box();
     goes_to_any_thread(&held);
     drop(held);

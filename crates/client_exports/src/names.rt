@@ -2,11 +2,11 @@
 ghost use Rattle.std.specs.Prelude.{◌≡◌, slice_get};
 ghost use Rattle.client_exports.specs.Tellings.{text_in, answer_children, seen_children, told_children, child_at, acl_of, node_acl, stat_acl, answer_acl, seen_acl, told_acl, acl_at, event_name, told_name, name_at};
 
-use crate::held::Held;
+use crate::held::HeldClient;
 use names_cell::Component;
 use node_core::{Answer, Event, Line, Node, Stat, View};
 
-impl Held {
+impl HeldClient {
     /// The last component of the name of a child, the first at 0, in order of bytes, that the line at this place shows; empty where it
     /// shows none there. Copies nothing.
     pub fn told_child(&self, place: usize, index: usize) -> &[u8]

@@ -3,7 +3,7 @@ ghost use Rattle.std.specs.Prelude.{◌≡◌};
 ghost use Rattle.collections.specs.Results.{Gives};
 ghost use Rattle.client_exports.specs.Opens.{opened};
 
-use crate::held::Held;
+use crate::held::HeldClient;
 use crate::statuses::Status;
 use codec::WireFault;
 use names_cell::{NameFault, Principal};
@@ -12,10 +12,10 @@ use std::alloc::Global;
 use std::str;
 use tags_cell::ClientNumber;
 
-impl Held {
+impl HeldClient {
     /// Holds a new client of this number, 1 to 2^53-1, for this principal. Bad as BadNumber for another number, and as BadText
     /// for a text that isn't a principal.
-    pub fn open(alloc: Global, number: u64, principal: &[u8]) -> Result<Held, WireFault>
+    pub fn open(alloc: Global, number: u64, principal: &[u8]) -> Result<HeldClient, WireFault>
         ensures { Gives WireFault.NoMemory result (opened number principal.now) }
     {
         let number = ClientNumber::new(number).ok_or(WireFault::BadNumber)?;
@@ -23,6 +23,6 @@ impl Held {
             return Err(WireFault::BadText);
         };
         let principal = Principal::parse(alloc, text)?;
-        Ok(Held::new(alloc, number, principal))
+        Ok(HeldClient::new(alloc, number, principal))
     }
 }

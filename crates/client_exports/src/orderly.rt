@@ -5,7 +5,7 @@ ghost use Rattle.client_core.specs.Asks.{ask_step};
 ghost use Rattle.client_core.specs.Beats.{beat_step};
 ghost use Rattle.client_core.specs.Gives.{give_step};
 
-use client_core::{Ask, Asked, Beaten, Client, Given};
+use client_core::{Ask, AskOutcome, Beaten, Client, Given};
 use names_cell::Principal;
 use node_core::Fault;
 use std::alloc::Global;
@@ -44,7 +44,7 @@ impl Orderly {
         self.client.beat(now)
     }
 
-    pub(crate) fn ask(&mut self, now: u64, asked: &Ask) -> Result<Asked, Fault>
+    pub(crate) fn ask(&mut self, now: u64, asked: &Ask) -> Result<AskOutcome, Fault>
         ensures { Does self.old self.new result (ask_step self.old now asked.now) }
     {
         self.client.ask(now, asked)

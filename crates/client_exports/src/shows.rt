@@ -4,14 +4,14 @@ ghost use Rattle.std.specs.Option.{option_copied, option_map};
 ghost use Rattle.collections.specs.Results.{Gives};
 ghost use Rattle.client_exports.specs.Shows.{message_bytes, lines_bytes, answer_content, seen_content, line_content, content_in, last_content};
 
-use crate::held::Held;
+use crate::held::HeldClient;
 use codec::{WireFault, write_request};
 use collections::Bytes;
 use node_core::{Answer, Line, View};
 use std::alloc::{AllocError, Global};
 use tags_cell::Request;
 
-impl Held {
+impl HeldClient {
     /// The bytes of the message that the last step gave to be sent; none where it gave none. Refused is a message of 2^32 bytes
     /// or more.
     pub fn message(&self) -> Result<Bytes, WireFault>

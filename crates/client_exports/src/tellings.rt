@@ -2,14 +2,14 @@
 ghost use Rattle.std.specs.Prelude.{◌≡◌, length};
 ghost use Rattle.client_exports.specs.Tellings.{life_number, kind_number, lock_number, right_number, fault_argument, bare, viewed, stated, answer_telling, seen_telling, happened, event_telling, line_telling, telling_at, answer_bytes, told_bytes, bytes_at};
 
-use crate::held::Held;
+use crate::held::HeldClient;
 use crate::shows::seen_content;
 use node_core::{Answer, Event, Fault, Kind, Life, Line, LockMode, Right, Stat, View};
 
 /// A line of the last step, in plain numbers; what doesn't belong to its kind is 0. In C a struct.
 #[repr(C)]
 #[derive(Clone, Copy)]
-pub struct Telling {
+pub struct LineParts {
     /// 1 to 9: a call ended, and gave a handle; closed one; poisoned one; a node with its content; its numbers; the names of children;
     /// a sequencer; nothing; or was refused. 10 and 11: the cache served a node, or that there is none. 12 an event. 13 to 15: the
     /// session is in jeopardy, safe, lost. 16 another line, 0 none.
@@ -43,9 +43,9 @@ pub struct Telling {
     pub event: u64,
 }
 
-impl Held {
+impl HeldClient {
     /// The line of the last step that stands at this place, the first at 0.
-    pub fn telling(&self, place: usize) -> Telling
+    pub fn telling(&self, place: usize) -> LineParts
         ensures { result ≡ telling_at self.now.lines place }
     {
         match self.lines.as_slice().get(place) {
@@ -65,10 +65,10 @@ impl Held {
     }
 }
 
-fn bare(what: u32) -> Telling
+fn bare(what: u32) -> LineParts
     ensures { result ≡ bare what }
 {
-    Telling {
+    LineParts {
         what,
         fault: 0,
         call: 0,
@@ -87,10 +87,10 @@ fn bare(what: u32) -> Telling
     }
 }
 
-fn viewed(what: u32, call: u64, view: &View) -> Telling
+fn viewed(what: u32, call: u64, view: &View) -> LineParts
     ensures { result ≡ viewed what call view.now }
 {
-    Telling {
+    LineParts {
         call,
         instance: view.node.instance,
         content_generation: view.node.content_generation,
@@ -103,10 +103,10 @@ fn viewed(what: u32, call: u64, view: &View) -> Telling
     }
 }
 
-fn stated(call: u64, stat: &Stat) -> Telling
+fn stated(call: u64, stat: &Stat) -> LineParts
     ensures { result ≡ stated call stat.now }
 {
-    Telling {
+    LineParts {
         call,
         instance: stat.instance,
         content_generation: stat.content_generation,
@@ -174,31 +174,31 @@ fn fault_argument(fault: Fault) -> u64
     }
 }
 
-fn answer_telling(call: u64, answer: &Answer) -> Telling
+fn answer_telling(call: u64, answer: &Answer) -> LineParts
     ensures { result ≡ answer_telling call answer.now }
 {
     match answer {
-        Answer::Opened(handle) => Telling {
+        Answer::Opened(handle) => LineParts {
             call,
             handle: *handle,
             ..bare(1)
         },
-        Answer::Closed => Telling { call, ..bare(2) },
-        Answer::Poisoned => Telling { call, ..bare(3) },
+        Answer::Closed => LineParts { call, ..bare(2) },
+        Answer::Poisoned => LineParts { call, ..bare(3) },
         Answer::Viewed(view) => viewed(4, call, view),
         Answer::Stated(stat) => stated(call, stat),
-        Answer::Names(names) => Telling {
+        Answer::Names(names) => LineParts {
             call,
             children: names.as_slice().len() as u64,
             ..bare(6)
         },
-        Answer::Sequencer(bytes) => Telling {
+        Answer::Sequencer(bytes) => LineParts {
             call,
             length: bytes.len() as u64,
             ..bare(7)
         },
-        Answer::Okay => Telling { call, ..bare(8) },
-        Answer::Refused(fault) => Telling {
+        Answer::Okay => LineParts { call, ..bare(8) },
+        Answer::Refused(fault) => LineParts {
             call,
             fault: fault.number() as u32,
             argument: fault_argument(*fault),
@@ -207,7 +207,7 @@ fn answer_telling(call: u64, answer: &Answer) -> Telling
     }
 }
 
-fn seen_telling(seen: &Option<View>) -> Telling
+fn seen_telling(seen: &Option<View>) -> LineParts
     ensures { result ≡ seen_telling seen.now }
 {
     match seen {
@@ -216,22 +216,22 @@ fn seen_telling(seen: &Option<View>) -> Telling
     }
 }
 
-fn happened(event: u64, opened: u64) -> Telling
+fn happened(event: u64, opened: u64) -> LineParts
     ensures { result ≡ happened event opened }
 {
-    Telling {
+    LineParts {
         event,
         opened,
         ..bare(12)
     }
 }
 
-fn event_telling(event: &Event) -> Telling
+fn event_telling(event: &Event) -> LineParts
     ensures { result ≡ event_telling event.now }
 {
     match event {
         Event::FailOver => happened(1, 0),
-        Event::Contents(opened, instance, generation) => Telling {
+        Event::Contents(opened, instance, generation) => LineParts {
             instance: *instance,
             content_generation: *generation,
             ..happened(2, *opened)
@@ -246,7 +246,7 @@ fn event_telling(event: &Event) -> Telling
     }
 }
 
-fn line_telling(line: &Line) -> Telling
+fn line_telling(line: &Line) -> LineParts
     ensures { result ≡ line_telling line.now }
 {
     match line {

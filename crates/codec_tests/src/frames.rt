@@ -11,7 +11,7 @@ use crate::sheets::Sheet;
 use crate::stops::Stop;
 use crate::tables::Part;
 use byteorder::{BigEndian, ByteOrder};
-use hosting::{Seat, read_frame, serve_on};
+use hosting::{HostedMaster, read_frame, serve_on};
 use rows_cell::{Limits, ListRecords, MasterTerms, Settings};
 use std::alloc::{AllocError, Global};
 
@@ -26,12 +26,12 @@ pub(crate) fn terms() -> MasterTerms
 }
 
 /// A store, and the master that is up over it, or none.
-type Host = Option<Seat<ListRecords>>;
+type Host = Option<HostedMaster<ListRecords>>;
 
 /// A new store, and no master.
-pub(crate) fn new_seat(alloc: Global) -> Result<Seat<ListRecords>, Stop> {
+pub(crate) fn new_seat(alloc: Global) -> Result<HostedMaster<ListRecords>, Stop> {
     let settings = Settings::standard(alloc)?;
-    Ok(Seat::Down(ListRecords::new(alloc, &settings)?))
+    Ok(HostedMaster::Down(ListRecords::new(alloc, &settings)?))
 }
 
 // What is told of the frames of a stream; nothing where they weren't all answered.

@@ -4,7 +4,7 @@ use crate::frames::{hexadecimal, terms};
 use crate::reports::Report;
 use crate::stops::Stop;
 use crate::tables::Part;
-use hosting::{GroupLimits, GroupStop, GroupTerms, Seat, serve_groups, serve_on};
+use hosting::{GroupLimits, GroupStop, GroupTerms, HostedMaster, serve_groups, serve_on};
 use rows_cell::{FailAt, ListRecords, Settings};
 use std::alloc::Global;
 use std::io::{self, BufReader, Write};
@@ -63,7 +63,7 @@ fn serve_kept(
         master: terms(),
         limits,
     };
-    let (seat, end) = serve_groups(alloc, terms, Seat::Down(records), reader, paper);
+    let (seat, end) = serve_groups(alloc, terms, HostedMaster::Down(records), reader, paper);
     *ended = ended_word(&end);
     seat.close()
 }
@@ -72,7 +72,13 @@ fn serve_kept(
 fn told_again(alloc: Global, records: Kept, sent: &[u8]) -> Vec<u8> {
     let mut reader = sent;
     let mut told = Vec::new(alloc);
-    let (seat, _) = serve_on(alloc, terms(), Seat::Down(records), &mut reader, &mut told);
+    let (seat, _) = serve_on(
+        alloc,
+        terms(),
+        HostedMaster::Down(records),
+        &mut reader,
+        &mut told,
+    );
     drop(seat);
     told
 }

@@ -5,12 +5,12 @@ use collections::Bytes;
 use event_core::EventQueue;
 use gate_core::Waiting;
 use lock_core::Lock;
-use master_parts::{Asked, HandleKey, HandleState, Handles, Task, Work};
+use master_parts::{HandleKey, HandleState, Handles, Task, WaitingRequest, Work};
 use master_state::Master;
 use names_cell::Name;
 use node_core::{Listing, Node, View};
 use rights_core::Rights;
-use session_core::{Kept, Session};
+use session_core::{LastCall, Session};
 use std::alloc::{AllocError, Global};
 use tags_cell::{CallMessage, Ordinal, Out, Reply, Request, Start};
 
@@ -36,7 +36,7 @@ fn reply_bytes(alloc: Global, reply: &Reply) -> Result<Bytes, WireFault> {
     bytes
 }
 
-fn show_kept(sheet: &mut Sheet, kept: &Kept<Reply>) {
+fn show_kept(sheet: &mut Sheet, kept: &LastCall<Reply>) {
     sheet.word(kept.number.get());
     if let Some(reply) = &kept.reply {
         match reply_bytes(sheet.alloc, reply) {
@@ -191,7 +191,7 @@ fn show_rights(sheet: &mut Sheet, rights: &Rights, names: &[Name]) {
 }
 
 // What a client asked for, as a message.
-fn request_of(asked: &Asked) -> Result<Request, AllocError> {
+fn request_of(asked: &WaitingRequest) -> Result<Request, AllocError> {
     let client = asked.client;
     let number = asked.number;
     Ok(match asked.work.clone()? {
@@ -210,7 +210,7 @@ fn request_of(asked: &Asked) -> Result<Request, AllocError> {
     })
 }
 
-fn show_asked(sheet: &mut Sheet, asked: &Asked) {
+fn show_asked(sheet: &mut Sheet, asked: &WaitingRequest) {
     if let Work::Starts(_, received) = asked.work {
         sheet.word(received);
     }

@@ -5,7 +5,7 @@ use crate::masters::show_master;
 use crate::sheets::Sheet;
 use crate::stops::Stop;
 use crate::tables::Part;
-use client_core::{Ask, Asked, Beaten, Client, Given, Outcome};
+use client_core::{Ask, AskOutcome, Beaten, Client, Given, Outcome};
 use collections::Items;
 use names_cell::Name;
 use node_core::{Fault, Line};
@@ -251,7 +251,7 @@ impl Stage {
         let Some(client) = client_of(&mut self.cast.clients, number) else {
             return Err(Stop::Bad("no such client"));
         };
-        let Asked { lines, outcome } = client.ask(own, ask)?;
+        let AskOutcome { lines, outcome } = client.ask(own, ask)?;
         drop(lines);
         match outcome {
             Outcome::Sent(request) => self.send(Some(request)),

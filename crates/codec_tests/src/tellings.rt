@@ -1,6 +1,6 @@
 //! What a master and a client tell, in a few words.
 use crate::stages;
-use hosting::{Counts, Told};
+use hosting::{MasterCounts, MasterFrame};
 use node_core::{Fault, Line};
 use std::alloc::{AllocError, Global};
 use std::str;
@@ -53,29 +53,29 @@ fn put_message(text: &mut String, message: &Out) -> Result<(), AllocError> {
 }
 
 /// Writes what a block tells.
-pub(crate) fn put_told(text: &mut String, told: &Told) -> Result<(), AllocError> {
+pub(crate) fn put_told(text: &mut String, told: &MasterFrame) -> Result<(), AllocError> {
     match told {
-        Told::Line(line) => write!(text, "line {line}"),
-        Told::Message(client, message) => {
+        MasterFrame::Line(line) => write!(text, "line {line}"),
+        MasterFrame::Message(client, message) => {
             let client = client.get();
             write!(text, "to {client} ")?;
             put_message(text, message)
         }
-        Told::Bad(fault) => write!(text, "bad: {fault}"),
-        Told::End(Some(moment)) => write!(text, "end {moment}"),
-        Told::End(None) => text.push_str("end"),
-        Told::Counts(counts) => put_counts(text, *counts),
-        Told::Recovers(until) => write!(text, "recovers until {until}"),
-        Told::Waits(number) => write!(text, "waits {number}"),
-        Told::Touches(name) => match str::from_utf8(name.as_slice()) {
+        MasterFrame::Bad(fault) => write!(text, "bad: {fault}"),
+        MasterFrame::End(Some(moment)) => write!(text, "end {moment}"),
+        MasterFrame::End(None) => text.push_str("end"),
+        MasterFrame::Counts(counts) => put_counts(text, *counts),
+        MasterFrame::Recovers(until) => write!(text, "recovers until {until}"),
+        MasterFrame::Waits(number) => write!(text, "waits {number}"),
+        MasterFrame::Touches(name) => match str::from_utf8(name.as_slice()) {
             Ok(name) => write!(text, "touches {name}"),
             Err(_) => text.push_str("touches what is no text"),
         },
-        Told::Awaited(client) => write!(text, "awaited {client}"),
+        MasterFrame::Awaited(client) => write!(text, "awaited {client}"),
     }
 }
 
-fn put_counts(text: &mut String, counts: Counts) -> Result<(), AllocError> {
+fn put_counts(text: &mut String, counts: MasterCounts) -> Result<(), AllocError> {
     let (epoch, sessions, nodes) = (counts.epoch, counts.sessions, counts.nodes);
     let (rights, changes) = (counts.rights, counts.changes);
     write!(text, "epoch {epoch} sessions {sessions} nodes {nodes} ")?;

@@ -6,7 +6,7 @@ use crate::stops::Stop;
 use crate::tables::{Line, Part, put_digits};
 use crate::tellings::said;
 use crate::words::put_request;
-use client_core::{Ask, Asked, Beaten, Client, Outcome, next_beat, next_turn};
+use client_core::{Ask, AskOutcome, Beaten, Client, Outcome, next_beat, next_turn};
 use scripts::{Parsed, read_step};
 use std::alloc::{AllocError, Global};
 use tags_cell::Request;
@@ -50,7 +50,7 @@ fn outcome_words(alloc: Global, client: &Client, outcome: &Outcome) -> Result<St
 }
 
 fn ask_words(alloc: Global, client: &mut Client, now: u64, ask: &Ask) -> Result<String, Stop> {
-    let Asked { lines, outcome } = client.ask(now, ask)?;
+    let AskOutcome { lines, outcome } = client.ask(now, ask)?;
     drop(lines);
     let words = outcome_words(alloc, client, &outcome);
     drop(outcome);

@@ -10,10 +10,10 @@ use std::alloc::{AllocError, Global};
 use tags_cell::{ClientNumber, Create, Disposition, Events, Mode, NewNode, Open};
 
 /// A master over rows in lists.
-pub(crate) type Master = Cell<ListRecords>;
+pub(crate) type ListMaster = Cell<ListRecords>;
 
 /// The first master of a new cell, at the moment 0, with a lease of twelve seconds.
-pub(crate) fn new_master(alloc: Global) -> Result<Master> {
+pub(crate) fn new_master(alloc: Global) -> Result<ListMaster> {
     let records = new_records(alloc)?;
     let terms = MasterTerms {
         lease: 12_000,

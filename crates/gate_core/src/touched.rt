@@ -10,11 +10,11 @@ use std::marker::Model;
 
 // By name, how often it is touched. A name that no change touches is taken out. To a contract, the entries.
 #[derive(Drop)]
-pub(crate) struct Touched {
+pub(crate) struct TouchCounts {
     map: IndexMap<Name, u64>,
 }
 
-impl Model for Touched {
+impl Model for TouchCounts {
     ghost use Rattle.std.specs.Prelude.{List, ℕ};
 
     ghost Value = { List (List ℕ × ℕ) };
@@ -22,11 +22,11 @@ impl Model for Touched {
     ghost view = { λ t. t.map.entries };
 }
 
-impl Touched {
-    pub(crate) fn new(alloc: Global) -> Touched
+impl TouchCounts {
+    pub(crate) fn new(alloc: Global) -> TouchCounts
         ensures { result ≡ [] }
     {
-        Touched {
+        TouchCounts {
             map: IndexMap::new(alloc),
         }
     }

@@ -34,13 +34,13 @@ use Rattle.hosting.specs.declared.settling.Round.{Round}
 use Rattle.hosting.specs.declared.settling.Settled.{Settled}
 use Rattle.hosting.specs.declared.answers.Answered.{Answered}
 use Rattle.hosting.specs.declared.answers.Answered.TheVariants as answers
-use Rattle.hosting.specs.declared.seats.Reply.{Reply}
-use Rattle.hosting.specs.declared.seats.Reply.TheVariants as replies
+use Rattle.hosting.specs.declared.seats.FrameReply.{FrameReply}
+use Rattle.hosting.specs.declared.seats.FrameReply.TheVariants as replies
 use Rattle.hosting.specs.Serving.{SweepsOnce, BeatsOnce, StepsTo, StopsAt, BeatStops, EndsBy, EndsIn, EndsBeats, BeatsBehind, Settles, Answers, is_shut}
 use Rattle.hosting.specs.Seats.{Hosted, with_master, without_master, cell_of, CameUp, Arrives, Listens, Ticks as TicksFrame, Leaves, Stands as StandsFrame, Does as DoesFrame}
 use Rattle.over_core.specs.Sweep.{swept_as}
-use Rattle.watch_cell.specs.declared.events.Event.{Event}
-use Rattle.watch_cell.specs.declared.events.Event.TheVariants as events
+use Rattle.watch_cell.specs.declared.events.WatchEvent.{WatchEvent}
+use Rattle.watch_cell.specs.declared.events.WatchEvent.TheVariants as events
 use Rattle.watch_cell.specs.Views.{WatchedState}
 use Rattle.watch_cell.specs.Trail.{step_of, after_take, after_sweep}
 use Rattle.history_laws.specs.Parts.{Parts, Deed, ComesUp, Takes, Sweeps, AnswersBeat, Goes}
@@ -223,7 +223,7 @@ settles_later now old new settled h =
 -- ---- each frame
 
 -- what a frame does: deeds, behind which what is hosted is the parts' again
-abbrev Is : Parts → Clocks → Hosted → Reply → Type 0
+abbrev Is : Parts → Clocks → Hosted → FrameReply → Type 0
 Is p clocks new reply = AreDeeds p clocks (reply_lines reply) (behind_frame p new (reply_outs reply)) × IsHostedIn (behind_frame p new (reply_outs reply)) new
 
 has_cell : (p : Parts) (master : MasterState) (store : Store) → p.master ≡ Some master → p.rows ≡ store.rows → HasCell p (cell_of master store)
@@ -337,11 +337,11 @@ module _ (p : Parts) (clocks : Clocks) (now : ℕ) (at : clocks.master ≡ now) 
 
 -- ---- a frame by its kind
 
-turned_away : (p : Parts) (clocks : Clocks) (old new : Hosted) (reply : Reply) → reply_lines reply ≡ [] → reply_outs reply ≡ [] → IsHostedIn p old → new ≡ old → Is p clocks new reply
+turned_away : (p : Parts) (clocks : Clocks) (old new : Hosted) (reply : FrameReply) → reply_lines reply ≡ [] → reply_outs reply ≡ [] → IsHostedIn p old → new ≡ old → Is p clocks new reply
 turned_away p clocks old new reply silent none in_it same =
     rw (silent, none) (nothing p clocks old new in_it same, stays_in p old new [] in_it (as_same old.store new.store (ap (λ (x : Hosted). x.store) same)))
 
-arrives : (p : Parts) (clocks : Clocks) (now : ℕ) → clocks.master ≡ now → (m : Option MasterState) (store : Store) (new : Hosted) (reply : Reply) → IsHostedIn p (record { master = m; store = store }) → AreInOrder p.rows → new.store.doubt ≡ 0 → Arrives p.terms now m store reply new → Is p clocks new reply
+arrives : (p : Parts) (clocks : Clocks) (now : ℕ) → clocks.master ≡ now → (m : Option MasterState) (store : Store) (new : Hosted) (reply : FrameReply) → IsHostedIn p (record { master = m; store = store }) → AreInOrder p.rows → new.store.doubt ≡ 0 → Arrives p.terms now m store reply new → Is p clocks new reply
 arrives p clocks now at None store new (replies.Came epoch settled) in_it ordered sure h = came_is p clocks now at store epoch settled new in_it ordered sure h
 arrives p clocks now at None store new (replies.Refused fault) in_it ordered sure h = down_is p clocks now at store fault new in_it sure h.0 h.1
 arrives p clocks now at None store new (replies.Bad fault) in_it ordered sure h = absurd h
@@ -352,7 +352,7 @@ arrives p clocks now at None store new (replies.Stands standing) in_it ordered s
 arrives p clocks now at (Some master) store new reply in_it ordered sure h =
     turned_away p clocks (with_master (cell_of master store)) new reply (ap reply_lines h.0) (ap reply_outs h.0) in_it h.1
 
-listens : (p : Parts) (clocks : Clocks) (now : ℕ) → clocks.master ≡ now → (message : Request) (place : ℕ) → request_at p.told place ≡ Some message → is_client_number (request_client message) ≡ true → (m : Option MasterState) (store : Store) (new : Hosted) (reply : Reply) → IsHostedIn p (record { master = m; store = store }) → Listens now message m store reply new → Is p clocks new reply
+listens : (p : Parts) (clocks : Clocks) (now : ℕ) → clocks.master ≡ now → (message : Request) (place : ℕ) → request_at p.told place ≡ Some message → is_client_number (request_client message) ≡ true → (m : Option MasterState) (store : Store) (new : Hosted) (reply : FrameReply) → IsHostedIn p (record { master = m; store = store }) → Listens now message m store reply new → Is p clocks new reply
 listens p clocks now at message place told numbered None store new reply in_it h = turned_away p clocks (without_master store) new reply (ap reply_lines h.0) (ap reply_outs h.0) in_it h.1
 listens p clocks now at message place told numbered (Some master) store new (replies.Answered answered) in_it h = rw h.2 (answer_is p clocks now at store master message place h.0 answered in_it told numbered h.1)
 listens p clocks now at message place told numbered (Some master) store new (replies.Came epoch settled) in_it h = absurd h
@@ -362,7 +362,7 @@ listens p clocks now at message place told numbered (Some master) store new (rep
 listens p clocks now at message place told numbered (Some master) store new replies.Gone in_it h = absurd h
 listens p clocks now at message place told numbered (Some master) store new (replies.Stands standing) in_it h = absurd h
 
-ticks : (p : Parts) (clocks : Clocks) (now : ℕ) → clocks.master ≡ now → (m : Option MasterState) (store : Store) (new : Hosted) (reply : Reply) → IsHostedIn p (record { master = m; store = store }) → TicksFrame now m store reply new → Is p clocks new reply
+ticks : (p : Parts) (clocks : Clocks) (now : ℕ) → clocks.master ≡ now → (m : Option MasterState) (store : Store) (new : Hosted) (reply : FrameReply) → IsHostedIn p (record { master = m; store = store }) → TicksFrame now m store reply new → Is p clocks new reply
 ticks p clocks now at None store new reply in_it h = turned_away p clocks (without_master store) new reply (ap reply_lines h.0) (ap reply_outs h.0) in_it h.1
 ticks p clocks now at (Some master) store new (replies.Swept settled) in_it h = rw h.2 (tick_is p clocks now at store master h.0 settled in_it h.1)
 ticks p clocks now at (Some master) store new (replies.Answered answered) in_it h = absurd h
@@ -372,7 +372,7 @@ ticks p clocks now at (Some master) store new (replies.Bad fault) in_it h = absu
 ticks p clocks now at (Some master) store new replies.Gone in_it h = absurd h
 ticks p clocks now at (Some master) store new (replies.Stands standing) in_it h = absurd h
 
-leaves : (p : Parts) (clocks : Clocks) (m : Option MasterState) (store : Store) (new : Hosted) (reply : Reply) → IsHostedIn p (record { master = m; store = store }) → Leaves m store reply new → Is p clocks new reply
+leaves : (p : Parts) (clocks : Clocks) (m : Option MasterState) (store : Store) (new : Hosted) (reply : FrameReply) → IsHostedIn p (record { master = m; store = store }) → Leaves m store reply new → Is p clocks new reply
 leaves p clocks None store new reply in_it h = turned_away p clocks (without_master store) new reply (ap reply_lines h.0) (ap reply_outs h.0) in_it h.1
 leaves p clocks (Some master) store new reply in_it h =
     rw (h.0, h.1) (
@@ -385,7 +385,7 @@ leaves p clocks (Some master) store new reply in_it h =
       record { master = refl; rows = refl; cell = in_it.cell },
     )
 
-stands : (p : Parts) (clocks : Clocks) (m : Option MasterState) (store : Store) (new : Hosted) (reply : Reply) → IsHostedIn p (record { master = m; store = store }) → StandsFrame m store reply new → Is p clocks new reply
+stands : (p : Parts) (clocks : Clocks) (m : Option MasterState) (store : Store) (new : Hosted) (reply : FrameReply) → IsHostedIn p (record { master = m; store = store }) → StandsFrame m store reply new → Is p clocks new reply
 stands p clocks None store new reply in_it h = turned_away p clocks (without_master store) new reply (ap reply_lines h.0) (ap reply_outs h.0) in_it h.1
 stands p clocks (Some master) store new (replies.Stands standing) in_it h = turned_away p clocks (with_master (cell_of master store)) new (replies.Stands standing) refl refl in_it h.1
 stands p clocks (Some master) store new (replies.Refused fault) in_it h = turned_away p clocks (with_master (cell_of master store)) new (replies.Refused fault) refl refl in_it h.1

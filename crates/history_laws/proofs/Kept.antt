@@ -20,7 +20,7 @@ use Rattle.tags_cell.specs.declared.messages.outs.Out.{Out}
 use Rattle.tags_cell.specs.Messages.{out_client}
 use Rattle.cache_core.specs.Caches.{CacheState, answer}
 use Rattle.client_core.specs.declared.parts.asks.Ask.{Ask}
-use Rattle.client_core.specs.declared.parts.asks.Asked.{Asked}
+use Rattle.client_core.specs.declared.parts.asks.AskOutcome.{AskOutcome}
 use Rattle.client_core.specs.declared.parts.steps.Beaten.{Beaten}
 use Rattle.client_core.specs.declared.parts.steps.Given.{Given}
 use Rattle.client_core.specs.declared.parts.targets.Outstanding.{Outstanding}
@@ -32,8 +32,8 @@ use Rattle.world_steps.specs.declared.mail.Message.{Message}
 use Rattle.world_steps.specs.declared.mail.Message.TheVariants.{ToMaster, ToClient}
 use Rattle.world_steps.specs.Messages.{message_at, as_request, as_out, request_at, out_at, put_call, call_of}
 use Rattle.world_steps.specs.World.{given_lines}
-use Rattle.share_cell.specs.declared.keeper.Kept.{Kept}
-use Rattle.share_cell.specs.declared.keeper.Kept.TheVariants as kepts
+use Rattle.share_cell.specs.declared.keeper.LateAnswer.{LateAnswer}
+use Rattle.share_cell.specs.declared.keeper.LateAnswer.TheVariants as kepts
 use Rattle.share_cell.specs.Keeping.{KeeperState, Publishes, FallsLate, unless_last, IsShown, Lends}
 use Rattle.share_cell.specs.Published.{EndsWith, Shows}
 use Rattle.share_cell.specs.Owed.{newest}
@@ -474,7 +474,7 @@ module _ (cell : List ℕ) (rows : Rows) (terms : MasterTerms) (number : ℕ) (d
         };
       }
 
-  asks_on : (client next : ClientState) (p : Parts) (y : Entry) (ask : Ask) (asked : Asked) → begins_life y.deed ≡ false → ask_step client (y.clocks.client number) ask ≡ (next, Ok asked)
+  asks_on : (client next : ClientState) (p : Parts) (y : Entry) (ask : Ask) (asked : AskOutcome) → begins_life y.deed ≡ false → ask_step client (y.clocks.client number) ask ≡ (next, Ok asked)
       → (out rest : List Message) → ((m : Message) → Among m (out ++ rest) → Among m (asked_tells asked)) → Shaded cell rows terms number done client [] p
       → Shaded cell rows terms number (done ++ y ∷ []) next rest (went p number next out)
   asks_on client next p y ask asked life step out rest fit s =
@@ -526,7 +526,7 @@ module _ (cell : List ℕ) (rows : Rows) (terms : MasterTerms) (number : ℕ) (d
       (next : ClientState) (answer : X) → step ≡ (next, Ok answer) → (out rest : List Message) → ((m : Message) → Among m (out ++ rest) → Among m (tells answer)) → Shaded cell rows terms number done client [] p
       → Shaded cell rows terms number (done ++ y ∷ []) next rest (went p number next out)
 
-  keeper_on : {X : Type 0} (keep : X → Kept) (tells : X → List Message) (old new : KeeperState) (result : Result X Fault) (step : ClientState × Result X Fault) (p : Parts) (y : Entry)
+  keeper_on : {X : Type 0} (keep : X → LateAnswer) (tells : X → List Message) (old new : KeeperState) (result : Result X Fault) (step : ClientState × Result X Fault) (p : Parts) (y : Entry)
       → begins_life y.deed ≡ false → ((answer : X) → late_tells (Some (keep answer)) ≡ tells answer) → old.late ≡ None → Publishes keep old new result (unless_last old.client old.views step) → Leads tells old.client step p y
       → Cast cell rows terms number done (record { parts = p; keeper = old }) → Cast cell rows terms number (done ++ y ∷ []) (record { parts = went p number new.client (handed tells result); keeper = new })
   keeper_on keep tells old new (Ok answer) step p y life late on_time (is, none, shows) leads c =
@@ -564,7 +564,7 @@ module _ (cell : List ℕ) (rows : Rows) (terms : MasterTerms) (number : ℕ) (d
           }
 
   -- what is shown once an answer that was kept is handed out
-  shown_then : (late : Option Kept) (views : List CacheState) (client before : ClientState) (p : Parts) (new : KeeperState) (y : Entry) → begins_life y.deed ≡ false → IsShown late views client.cache new.views → EndsWith views before.cache → Shaded cell rows terms number done before [] p
+  shown_then : (late : Option LateAnswer) (views : List CacheState) (client before : ClientState) (p : Parts) (new : KeeperState) (y : Entry) → begins_life y.deed ≡ false → IsShown late views client.cache new.views → EndsWith views before.cache → Shaded cell rows terms number done before [] p
       → Shaded cell rows terms number (done ++ y ∷ []) client [] (went p number client (late_tells late))
       → (b : ClientState) × EndsWith new.views b.cache × Shaded cell rows terms number (done ++ y ∷ []) b [] (went p number client (late_tells late))
   shown_then None views client before p new y life shown last seen ahead = (before, subst (λ v. EndsWith v before.cache) (sym shown) last, behind before client [] p y life seen)

@@ -21,14 +21,14 @@ use Rattle.hosting.specs.declared.frames.Frame.TheVariants as frames
 use Rattle.hosting.specs.declared.settling.Settled.{Settled}
 use Rattle.hosting.specs.declared.answers.Answered.{Answered}
 use Rattle.hosting.specs.declared.answers.Answered.TheVariants as answers
-use Rattle.hosting.specs.declared.seats.Reply.{Reply}
-use Rattle.hosting.specs.declared.seats.Reply.TheVariants as replies
+use Rattle.hosting.specs.declared.seats.FrameReply.{FrameReply}
+use Rattle.hosting.specs.declared.seats.FrameReply.TheVariants as replies
 use Rattle.hosting.specs.declared.pieces.GroupLimits.{GroupLimits}
 use Rattle.hosting.specs.Seats.{Hosted, Does as DoesFrame}
 use Rattle.hosting.specs.Streams.{Answer, Turns}
 use Rattle.hosting.specs.Groups.{KeptGroup}
-use Rattle.watch_cell.specs.declared.events.Event.{Event}
-use Rattle.watch_cell.specs.declared.events.Event.TheVariants as events
+use Rattle.watch_cell.specs.declared.events.WatchEvent.{WatchEvent}
+use Rattle.watch_cell.specs.declared.events.WatchEvent.TheVariants as events
 use Rattle.watch_cell.specs.Views.{WatchedState}
 use Rattle.watch_cell.specs.Trail.{step_of}
 use Rattle.history_laws.specs.Parts.{Parts, Deed}
@@ -54,7 +54,7 @@ abbrev pub settled_outs : Settled → List Out
 settled_outs settled = swept_outs settled.round.sweeps ++ swept_outs settled.beats.sweeps
 
 -- the lines of the steps that were made
-abbrev pub reply_lines : Reply → List Line
+abbrev pub reply_lines : FrameReply → List Line
 reply_lines (replies.Came epoch settled) = lines.Up epoch ∷ settled_lines settled
 reply_lines (replies.Answered (answers.Taken taken settled)) = taken.lines ++ settled_lines settled
 reply_lines (replies.Swept settled) = settled_lines settled
@@ -62,7 +62,7 @@ reply_lines replies.Gone = lines.Down ∷ []
 reply_lines _ = []
 
 -- the messages that are handed out
-abbrev pub reply_outs : Reply → List Out
+abbrev pub reply_outs : FrameReply → List Out
 reply_outs (replies.Came epoch settled) = settled_outs settled
 reply_outs (replies.Answered (answers.Taken taken settled)) = taken.outs ++ settled_outs settled
 reply_outs (replies.Swept settled) = settled_outs settled
@@ -100,7 +100,7 @@ behind_frame p host outs = record p { rows = host.store.rows; master = host.mast
 -- what a hosted master does by a frame are deeds at the frame's moment, which print and tell just what the frame is answered
 abbrev pub FramesAreDeeds : Type 0
 FramesAreDeeds =
-    (p : Parts) (clocks : Clocks) (sent : Result Frame WireFault) (old new : Hosted) (reply : Reply)
+    (p : Parts) (clocks : Clocks) (sent : Result Frame WireFault) (old new : Hosted) (reply : FrameReply)
     → IsHostedIn p old → IsPossibleFrame p sent → IsAtMoment clocks sent → new.store.doubt ≡ 0 → DoesFrame p.terms sent old reply new
     → ((deeds : List Deed) × History p (at_moment clocks deeds) (reply_lines reply) (behind_frame p new (reply_outs reply))) × IsHostedIn (behind_frame p new (reply_outs reply)) new
 
@@ -148,13 +148,13 @@ BytesCarryMessages =
 -- ---- a master that threads share
 
 -- a message that it is given was told before, by a client; and the moment is what the master's clock shows
-abbrev pub IsPossibleEvent : Parts → Clocks → Event → Type 0
+abbrev pub IsPossibleEvent : Parts → Clocks → WatchEvent → Type 0
 IsPossibleEvent p clocks (events.Take now message) = (clocks.master ≡ now) × (at : ℕ) × (request_at p.told at ≡ Some message) × (is_client_number (request_client message) ≡ true)
 IsPossibleEvent p clocks (events.Sweep now) = clocks.master ≡ now
 
 -- each entry of a watch's trail is a deed of its master
 abbrev pub TrailsAreDeeds : Type 0
 TrailsAreDeeds =
-    (p : Parts) (clocks : Clocks) (old new : WatchedState) (event : Event) (reply : Swept)
+    (p : Parts) (clocks : Clocks) (old new : WatchedState) (event : WatchEvent) (reply : Swept)
     → p.master ≡ Some old.master → p.rows ≡ old.rows → IsPossibleEvent p clocks event → step_of old event ≡ Ok (new, reply)
     → (deed : Deed) × Does p clocks deed (record p { rows = new.rows; master = Some new.master; told = p.told ++ map ToClient reply.outs }) reply.lines

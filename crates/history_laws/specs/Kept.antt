@@ -14,7 +14,7 @@ use Rattle.tags_cell.specs.declared.messages.outs.Out.{Out}
 use Rattle.tags_cell.specs.Messages.{out_client}
 use Rattle.cache_core.specs.Caches.{CacheState, new_cache, answer}
 use Rattle.client_core.specs.declared.parts.asks.Ask.{Ask}
-use Rattle.client_core.specs.declared.parts.asks.Asked.{Asked}
+use Rattle.client_core.specs.declared.parts.asks.AskOutcome.{AskOutcome}
 use Rattle.client_core.specs.declared.parts.steps.Beaten.{Beaten}
 use Rattle.client_core.specs.declared.parts.steps.Given.{Given}
 use Rattle.client_core.specs.State.{ClientState}
@@ -24,8 +24,8 @@ use Rattle.client_core.specs.Gives.{give_step}
 use Rattle.world_steps.specs.declared.mail.Message.{Message}
 use Rattle.world_steps.specs.declared.mail.Message.TheVariants.{ToMaster}
 use Rattle.world_steps.specs.Messages.{out_at}
-use Rattle.share_cell.specs.declared.keeper.Kept.{Kept}
-use Rattle.share_cell.specs.declared.keeper.Kept.TheVariants as kepts
+use Rattle.share_cell.specs.declared.keeper.LateAnswer.{LateAnswer}
+use Rattle.share_cell.specs.declared.keeper.LateAnswer.TheVariants as kepts
 use Rattle.share_cell.specs.Keeping.{KeeperState, Publishes, unless_last, IsShown, Lends}
 use Rattle.share_cell.specs.Published.{opening, EndsWith}
 use Rattle.history_laws.specs.Parts.{Parts, nothing_yet, Deed, ComesUp, FallsComingUp, Takes, Sweeps, FallsSweeping, AnswersBeat, Goes, Begins, Asks, Beats, Hears, with_client, sent_by, sent_as}
@@ -42,7 +42,7 @@ abbrev pub handed : {X : Type 0} → (X → List Message) → Result X Fault →
 handed tells (Ok answer) = tells answer
 handed tells (Err fault) = []
 
-abbrev pub asked_tells : Asked → List Message
+abbrev pub asked_tells : AskOutcome → List Message
 asked_tells asked = sent_by asked.outcome
 
 abbrev pub beaten_tells : Beaten → List Message
@@ -52,7 +52,7 @@ abbrev pub given_tells : Given → List Message
 given_tells given = []
 
 -- the message of an answer that is kept
-abbrev pub late_tells : Option Kept → List Message
+abbrev pub late_tells : Option LateAnswer → List Message
 late_tells None = []
 late_tells (Some (kepts.Asked asked)) = asked_tells asked
 late_tells (Some (kepts.Given given)) = given_tells given
@@ -100,7 +100,7 @@ pub record OthersBy (number : ℕ) (k : KeptParts) (clocks : Clocks) (deed : Dee
 
 -- each as the contract of the keeper's call says it
 pub record KeeperAsksBy (number : ℕ) (k : KeptParts) (now : ℕ) (ask : Ask) (new : KeptParts) : Type 0 where
-  pub result : Result Asked Fault
+  pub result : Result AskOutcome Fault
   pub keeper : KeeperState
   pub on_time : k.keeper.late ≡ None
   pub publishes : Publishes kepts.Asked k.keeper keeper result (unless_last k.keeper.client k.keeper.views (ask_step k.keeper.client now ask))

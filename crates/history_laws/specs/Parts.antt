@@ -16,7 +16,7 @@ use Rattle.over_core.specs.declared.swept.Swept.{Swept}
 use Rattle.over_core.specs.Sweep.{sweep_step, sweep_edits, beats_step}
 use Rattle.over_core.specs.Up.{up_step, up_edits}
 use Rattle.client_core.specs.declared.parts.asks.Ask.{Ask}
-use Rattle.client_core.specs.declared.parts.asks.Asked.{Asked}
+use Rattle.client_core.specs.declared.parts.asks.AskOutcome.{AskOutcome}
 use Rattle.client_core.specs.declared.parts.asks.Outcome.{Outcome}
 use Rattle.client_core.specs.declared.parts.asks.Outcome.TheVariants.{Sent, Served, Answered, Refused}
 use Rattle.client_core.specs.declared.parts.steps.Beaten.{Beaten}
@@ -161,7 +161,7 @@ ended_by told (Refused fault) = with_refusal told fault
 pub record AsksBy (p : Parts) (now number : ℕ) (ask : Ask) (new : Parts) (printed : List Line) : Type 0 where
   pub client : ClientState
   pub next : ClientState
-  pub asked : Asked
+  pub asked : AskOutcome
   pub there : p.clients number ≡ Some client
   pub step : ask_step client now ask ≡ (next, Ok asked)
   pub left : new ≡ record p { clients = with_client p.clients number next; told = p.told ++ sent_by asked.outcome }

@@ -17,9 +17,9 @@ use Rattle.hosting.specs.declared.settling.End.{End}
 use Rattle.hosting.specs.declared.settling.End.TheVariants as ends
 use Rattle.hosting.specs.declared.settling.Round.{Round}
 use Rattle.hosting.specs.declared.settling.Settled.{Settled}
-use Rattle.hosting.specs.declared.seats.Reply.{Reply}
-use Rattle.hosting.specs.declared.seats.Reply.TheVariants as replies
-use Rattle.hosting.specs.declared.stops.Stop.TheVariants.{Unread, Unwritten, NoMemory}
+use Rattle.hosting.specs.declared.seats.FrameReply.{FrameReply}
+use Rattle.hosting.specs.declared.seats.FrameReply.TheVariants as replies
+use Rattle.hosting.specs.declared.stops.StreamStop.TheVariants.{Unread, Unwritten, NoMemory}
 use Rattle.hosting.specs.declared.stops.GroupStop.{GroupStop}
 use Rattle.hosting.specs.declared.stops.GroupStop.TheVariants.{Stopped, Refused}
 use Rattle.hosting.specs.Serving.{SweepsOnce, BeatsOnce, StepsTo, StopsAt, BeatStops, EndsBy, BeatsBehind, Settles, Answers, is_shut}
@@ -100,7 +100,7 @@ down_grows terms now fault a b (inr (past, inl unread)) = unread.doubted
 down_grows terms now fault a b (inr (past, inr kept)) =
     chain a.doubt kept.read.doubt b.doubt kept.was_read.doubted (elim kept.why [ inl p ↦ stays kept.read b p.1 | inr r ↦ r.doubted ])
 
-comes_grow : (terms : MasterTerms) (now : ℕ) (a : Store) (reply : Reply) (b : Hosted) → ComesIn terms now a reply b → Grows a b.store
+comes_grow : (terms : MasterTerms) (now : ℕ) (a : Store) (reply : FrameReply) (b : Hosted) → ComesIn terms now a reply b → Grows a b.store
 comes_grow terms now a (replies.Came epoch settled) b p =
     host_at a b p.after p.up
     (chain a.doubt p.cell.store.doubt p.after.store.doubt (chain a.doubt p.came.read.doubt p.cell.store.doubt p.came.was_read.doubted p.came.committed.doubted)
@@ -112,11 +112,11 @@ comes_grow terms now a (replies.Swept settled) b p = absurd p
 comes_grow terms now a replies.Gone b p = absurd p
 comes_grow terms now a (replies.Stands standing) b p = absurd p
 
-arrives_grow : (terms : MasterTerms) (now : ℕ) (master : Option MasterState) (a : Store) (reply : Reply) (b : Hosted) → Arrives terms now master a reply b → Grows a b.store
+arrives_grow : (terms : MasterTerms) (now : ℕ) (master : Option MasterState) (a : Store) (reply : FrameReply) (b : Hosted) → Arrives terms now master a reply b → Grows a b.store
 arrives_grow terms now None a reply b p = comes_grow terms now a reply b p
 arrives_grow terms now (Some master) a reply b p = host_stays (with_master (cell_of master a)) b p.1
 
-listens_grow : (now : ℕ) (message : Request) (master : Option MasterState) (a : Store) (reply : Reply) (b : Hosted) → Listens now message master a reply b → Grows a b.store
+listens_grow : (now : ℕ) (message : Request) (master : Option MasterState) (a : Store) (reply : FrameReply) (b : Hosted) → Listens now message master a reply b → Grows a b.store
 listens_grow now message None a reply b p = host_stays (without_master a) b p.1
 listens_grow now message (Some master) a (replies.Answered answered) b p = host_at a b p.0 p.2 (answers_grow now message (cell_of master a) answered p.0 p.1)
 listens_grow now message (Some master) a (replies.Came epoch settled) b p = absurd p
@@ -126,7 +126,7 @@ listens_grow now message (Some master) a (replies.Swept settled) b p = absurd p
 listens_grow now message (Some master) a replies.Gone b p = absurd p
 listens_grow now message (Some master) a (replies.Stands standing) b p = absurd p
 
-ticks_grow : (now : ℕ) (master : Option MasterState) (a : Store) (reply : Reply) (b : Hosted) → Ticks now master a reply b → Grows a b.store
+ticks_grow : (now : ℕ) (master : Option MasterState) (a : Store) (reply : FrameReply) (b : Hosted) → Ticks now master a reply b → Grows a b.store
 ticks_grow now None a reply b p = host_stays (without_master a) b p.1
 ticks_grow now (Some master) a (replies.Swept settled) b p = host_at a b p.0 p.2 (settles_grow now (cell_of master a) settled p.0 p.1)
 ticks_grow now (Some master) a (replies.Answered answered) b p = absurd p
@@ -136,15 +136,15 @@ ticks_grow now (Some master) a (replies.Bad fault) b p = absurd p
 ticks_grow now (Some master) a replies.Gone b p = absurd p
 ticks_grow now (Some master) a (replies.Stands standing) b p = absurd p
 
-leaves_grow : (master : Option MasterState) (a : Store) (reply : Reply) (b : Hosted) → Leaves master a reply b → Grows a b.store
+leaves_grow : (master : Option MasterState) (a : Store) (reply : FrameReply) (b : Hosted) → Leaves master a reply b → Grows a b.store
 leaves_grow None a reply b p = host_stays (without_master a) b p.1
 leaves_grow (Some master) a reply b p = host_stays (without_master a) b p.1
 
-stands_grow : (master : Option MasterState) (a : Store) (reply : Reply) (b : Hosted) → Stands master a reply b → Grows a b.store
+stands_grow : (master : Option MasterState) (a : Store) (reply : FrameReply) (b : Hosted) → Stands master a reply b → Grows a b.store
 stands_grow None a reply b p = host_stays (without_master a) b p.1
 stands_grow (Some master) a reply b p = host_stays (with_master (cell_of master a)) b p.1
 
-pub does_grow : (terms : MasterTerms) (sent : Result Frame WireFault) (a : Hosted) (reply : Reply) (b : Hosted) → Does terms sent a reply b → Grows a.store b.store
+pub does_grow : (terms : MasterTerms) (sent : Result Frame WireFault) (a : Hosted) (reply : FrameReply) (b : Hosted) → Does terms sent a reply b → Grows a.store b.store
 does_grow terms (Ok (frames.Up now)) a reply b p = arrives_grow terms now a.master a.store reply b p
 does_grow terms (Ok (frames.Message now message)) a reply b p = listens_grow now message a.master a.store reply b p
 does_grow terms (Ok (frames.Tick now)) a reply b p = ticks_grow now a.master a.store reply b p

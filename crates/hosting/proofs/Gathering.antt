@@ -10,10 +10,10 @@ use Rattle.hosting.specs.declared.frames.Frame.{Frame}
 use Rattle.hosting.specs.declared.frames.Frame.TheVariants as frames
 use Rattle.hosting.specs.declared.answers.Answered.{Answered}
 use Rattle.hosting.specs.declared.settling.Settled.{Settled}
-use Rattle.hosting.specs.declared.seats.Reply.{Reply}
-use Rattle.hosting.specs.declared.seats.Reply.TheVariants as replies
+use Rattle.hosting.specs.declared.seats.FrameReply.{FrameReply}
+use Rattle.hosting.specs.declared.seats.FrameReply.TheVariants as replies
 use Rattle.hosting.specs.Serving.{Answers, Settles}
-use Rattle.hosting.specs.declared.stops.Stop.{Stop}
+use Rattle.hosting.specs.declared.stops.StreamStop.{StreamStop}
 use Rattle.hosting.specs.declared.gathers.Behind.{Behind}
 use Rattle.hosting.specs.declared.gathers.Behind.TheVariants as behinds
 use Rattle.hosting.specs.declared.gathers.Onward.{Onward}
@@ -111,7 +111,7 @@ alone_on tried sent here old new before after is t terms text f =
     let W : List ℕ → Type 0 = λ u. Gathered terms text old old text before u in
     (text, subst Q (sym same.0) (subst W (sym same.1) (gathered_none terms text old before)), f)
 
-pub stopped_on : (tried : Tried) (stop : Stop) (sent : Result Frame WireFault) (here : Known) (old new : GroupState) (before after : List ℕ) → tried ≡ tries.Stopped stop → Tries sent old tried new before after
+pub stopped_on : (tried : Tried) (stop : StreamStop) (sent : Result Frame WireFault) (here : Known) (old new : GroupState) (before after : List ℕ) → tried ≡ tries.Stopped stop → Tries sent old tried new before after
     → GathersOnBy sent here old (onwards.Ends (behinds.Lost stop)) new here before after
 stopped_on tried stop sent here old new before after is t terms text f =
     let P : Tried → Type 0 = λ u. Tries sent old u new before after in
@@ -167,14 +167,14 @@ does_tick frame now settled old new is settles store parted =
     let P : Frame → Type 0 = λ f. DoesHeld (Ok f) old (Some (replies.Swept settled)) new in
     subst P (sym is) ((λ terms. (seen new, settles, refl)), store, parted)
 
-pub does_sent : (sent : Result Frame WireFault) (frame : Frame) (done : Option Reply) (old new : GroupState) → sent ≡ Ok frame → DoesHeld (Ok frame) old done new → DoesHeld sent old done new
+pub does_sent : (sent : Result Frame WireFault) (frame : Frame) (done : Option FrameReply) (old new : GroupState) → sent ≡ Ok frame → DoesHeld (Ok frame) old done new → DoesHeld sent old done new
 does_sent sent frame done old new is does =
     let P : Result Frame WireFault → Type 0 = λ u. DoesHeld u old done new in
     subst P (sym is) does
 
 -- ---- what is told of a frame
 
-pub tries_by : (tried : Tried) (sent : Result Frame WireFault) (old mid new : GroupState) (reply : Reply) (before after : List ℕ) → DoesHeld sent old (Some reply) mid
+pub tries_by : (tried : Tried) (sent : Result Frame WireFault) (old mid new : GroupState) (reply : FrameReply) (before after : List ℕ) → DoesHeld sent old (Some reply) mid
     → PutsReply tried mid.master reply before after → new ≡ mid → Tries sent old tried new before after
 tries_by tries.Done sent old mid new reply before after d p same =
     let P : GroupState → Type 0 = λ g. HeldTurn sent old g before after in
@@ -191,18 +191,18 @@ tries_by tries.Done sent old mid new reply before after d p same =
 tries_by tries.Alone sent old mid new reply before after d p same = absurd p
 tries_by (tries.Stopped stop) sent old mid new reply before after d p same = (p, ap ground same ∙ d.1)
 
-pub tries_some : (done : Option Reply) (tried : Tried) (sent : Result Frame WireFault) (old mid new : GroupState) (reply : Reply) (before after : List ℕ) → done ≡ Some reply → DoesHeld sent old done mid
+pub tries_some : (done : Option FrameReply) (tried : Tried) (sent : Result Frame WireFault) (old mid new : GroupState) (reply : FrameReply) (before after : List ℕ) → done ≡ Some reply → DoesHeld sent old done mid
     → PutsReply tried mid.master reply before after → new ≡ mid → Tries sent old tried new before after
 tries_some done tried sent old mid new reply before after is d p same =
-    let P : Option Reply → Type 0 = λ u. DoesHeld sent old u mid in
+    let P : Option FrameReply → Type 0 = λ u. DoesHeld sent old u mid in
     tries_by tried sent old mid new reply before after (subst P is d) p same
 
-pub tries_none : (done : Option Reply) (sent : Result Frame WireFault) (old new : GroupState) (before : List ℕ) → done ≡ None → DoesHeld sent old done new → Tries sent old tries.Alone new before before
+pub tries_none : (done : Option FrameReply) (sent : Result Frame WireFault) (old new : GroupState) (before : List ℕ) → done ≡ None → DoesHeld sent old done new → Tries sent old tries.Alone new before before
 tries_none done sent old new before is d =
-    let P : Option Reply → Type 0 = λ u. DoesHeld sent old u new in
+    let P : Option FrameReply → Type 0 = λ u. DoesHeld sent old u new in
     (subst P is d, refl)
 
-pub puts_by : (tried : Tried) (master : MasterState) (reply : Reply) (deadline : Option ℕ) (before after : List ℕ) → IsDue (Some master) deadline → PutsTold tried reply deadline before after
+pub puts_by : (tried : Tried) (master : MasterState) (reply : FrameReply) (deadline : Option ℕ) (before after : List ℕ) → IsDue (Some master) deadline → PutsTold tried reply deadline before after
     → PutsReply tried master reply before after
 puts_by tries.Done master reply deadline before after due p = (deadline, due, p)
 puts_by tries.Alone master reply deadline before after due p = absurd p
@@ -237,7 +237,7 @@ together_found behind found kept course terms begun here rest before between aft
     behind_goes kept course terms found text done.0 rest before between after (together first) mid new
     (kept_goes kept terms text done.0 before between first group told mid none sure done.1 (subst Q same k)) (s rest) done.2
 
-pub together_lost : (behind : Behind) (stop : Stop) (terms : GroupTerms) (begun : Result Frame WireFault) (here rest before : Known) (first group : GroupState) (t0 told : List ℕ) (store : Store)
+pub together_lost : (behind : Behind) (stop : StreamStop) (terms : GroupTerms) (begun : Result Frame WireFault) (here rest before : Known) (first group : GroupState) (t0 told : List ℕ) (store : Store)
     → behind ≡ behinds.Lost stop → first.held ≡ no_pieces terms.limits → GathersBy begun here first behind group rest t0 told → store ≡ group.store
     → GoesBy terms (Some begun) here (together first) (courses.Ends (Stopped stop)) (without_master store) rest before before
 together_lost behind stop terms begun here rest before first group t0 told store is none g kept text f =

@@ -14,8 +14,8 @@ use Rattle.hosting.specs.declared.pieces.GroupTerms.{GroupTerms}
 use Rattle.hosting.proofs.HeldBack.{behind_none}
 use Rattle.hosting.proofs.PartedLaws.{parted_fronts}
 use Rattle.hosting.specs.declared.frames.Frame.{Frame}
-use Rattle.hosting.specs.declared.stops.Stop.{Stop}
-use Rattle.hosting.specs.declared.stops.Stop.TheVariants.{Unread, Unwritten, NoMemory}
+use Rattle.hosting.specs.declared.stops.StreamStop.{StreamStop}
+use Rattle.hosting.specs.declared.stops.StreamStop.TheVariants.{Unread, Unwritten, NoMemory}
 use Rattle.hosting.specs.declared.stops.GroupStop.{GroupStop}
 use Rattle.hosting.specs.declared.stops.GroupStop.TheVariants.{Stopped, Refused}
 use Rattle.hosting.specs.declared.streams.Turned.{Turned}
@@ -153,9 +153,9 @@ alone_goes terms found turned course here before after old new is does text f =
     let P : Course → Type 0 = λ u. Goes terms text old u new here before after in
     subst P (sym is) (turn_goes turned terms text here before after old new (found_turn found turned terms.master text here before after old new f does))
 
-pub unread_goes : (stop : Stop) (terms : GroupTerms) (text rest before : Known) (old : Hosted) → stop ≡ Unread → Goes terms text old (courses.Ends (Stopped stop)) old rest before before
+pub unread_goes : (stop : StreamStop) (terms : GroupTerms) (text rest before : Known) (old : Hosted) → stop ≡ Unread → Goes terms text old (courses.Ends (Stopped stop)) old rest before before
 unread_goes stop terms text rest before old is =
-    let P : Stop → Type 0 = λ u. Goes terms text old (courses.Ends (Stopped u)) old rest before before in
+    let P : StreamStop → Type 0 = λ u. Goes terms text old (courses.Ends (Stopped u)) old rest before before in
     subst P (sym is) (old, text, served_none terms text old before, inl refl)
 
 -- ---- a group
@@ -263,7 +263,7 @@ behind_goes (courses.Ends stop) course terms found text there here before betwee
     let W : Known → Type 0 = λ u. Goes terms text old (courses.Ends stop) mid here before u in
     subst P (sym s.0) (subst Q (sym s.1) (subst W (sym s.2) g))
 
-pub lost_goes : (stop : Stop) (terms : GroupTerms) (text here before : Known) (first group : GroupState) (store : Store) → first.held ≡ no_pieces terms.limits → IsLosing stop → ground group ≡ ground first → store ≡ group.store
+pub lost_goes : (stop : StreamStop) (terms : GroupTerms) (text here before : Known) (first group : GroupState) (store : Store) → first.held ≡ no_pieces terms.limits → IsLosing stop → ground group ≡ ground first → store ≡ group.store
     → Goes terms text (together first) (courses.Ends (Stopped stop)) (without_master store) here before before
 lost_goes Unread terms text here before first group store none losing same is =
     let old = together first in

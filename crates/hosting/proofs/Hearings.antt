@@ -14,8 +14,8 @@ use Rattle.codec.specs.Forms.{◌>>=◌, Form, version_at, next_at, known, lengt
 use Rattle.codec.specs.Fields.{word, client, block, optional_word}
 use Rattle.codec.specs.Outs.{out_message}
 use Rattle.codec.specs.Lines.{line}
-use Rattle.hosting.specs.declared.tellings.Told.{Told}
-use Rattle.hosting.specs.declared.tellings.Told.TheVariants as tells
+use Rattle.hosting.specs.declared.tellings.MasterFrame.{MasterFrame}
+use Rattle.hosting.specs.declared.tellings.MasterFrame.TheVariants as tells
 use Rattle.hosting.specs.declared.kinds.ToldKind.TheVariants as of
 use Rattle.hosting.specs.Frames.{all_of}
 use Rattle.hosting.specs.Told.{told_behind}
@@ -69,10 +69,10 @@ text_whole bytes front text count long f b n same =
     ∙ ap (λ (u : List ℕ). Ok u) (take_all count text (omega (arith, same)))
 
 -- what is made of a text is read where the text is
-pub text_made : (make : List ℕ → Told) (bytes text : List ℕ) → all_of (block.read bytes) ≡ Ok text → all_of (block.read bytes >>= wrapped make) ≡ Ok (make text)
+pub text_made : (make : List ℕ → MasterFrame) (bytes text : List ℕ) → all_of (block.read bytes) ≡ Ok text → all_of (block.read bytes >>= wrapped make) ≡ Ok (make text)
 text_made make bytes text e = wraps make (block.read bytes) ∙ ap (λ (s : Result (List ℕ) WireFault). s >>= λ y. Ok (make y)) e
 
-pub text_refused : (make : List ℕ → Told) (bytes : List ℕ) (fault : WireFault) → all_of (block.read bytes) ≡ Err fault → all_of (block.read bytes >>= wrapped make) ≡ Err fault
+pub text_refused : (make : List ℕ → MasterFrame) (bytes : List ℕ) (fault : WireFault) → all_of (block.read bytes) ≡ Err fault → all_of (block.read bytes >>= wrapped make) ≡ Err fault
 text_refused make bytes fault e = wraps make (block.read bytes) ∙ ap (λ (s : Result (List ℕ) WireFault). s >>= λ y. Ok (make y)) e
 
 -- ---- a line
@@ -120,7 +120,7 @@ client_known bytes front back number long f b n is =
     ∙ ap (λ (u : List ℕ). known_as number u) (sym b)
     ∙ ap (λ (t : Bool). cond t (Ok (number, back)) (Err BadNumber)) (is_client number is)
 
-abbrev told_after : Result (ℕ × List ℕ) WireFault → Result Told WireFault
+abbrev told_after : Result (ℕ × List ℕ) WireFault → Result MasterFrame WireFault
 told_after r = all_of ((r >>= both_of out_message) >>= joined tells.Message)
 
 pub told_stranger : (bytes front : List ℕ) (number : ℕ) → 8 ≤ length bytes → front ≡ take 8 bytes → number ≡ big_number 8 front → (IsClientNumber number → ⊥)
@@ -152,7 +152,7 @@ told_refuses bytes front back number fault short long f b n is e =
 abbrev moment_in : Bool × List ℕ → Result (Option ℕ × List ℕ) WireFault
 moment_in b = if b.0 then (word.read b.1 >>= λ x. Ok (Some x.0, x.1)) else Ok (None, b.1)
 
-abbrev marked : Option ℕ × List ℕ → Result (Told × List ℕ) WireFault
+abbrev marked : Option ℕ × List ℕ → Result (MasterFrame × List ℕ) WireFault
 marked a = Ok (tells.End a.0, a.1)
 
 mark_at : (place : ℕ) (rest : List ℕ) → all_of (told_behind of.End (place ∷ rest)) ≡ all_of ((known (slice_get (false ∷ true ∷ []) place) rest >>= moment_in) >>= marked)

@@ -6,7 +6,7 @@ use Rattle.rows_cell.specs.declared.tables.Rows.{Rows}
 use Rattle.rows_cell.specs.declared.tables.Edit.{Edit}
 use Rattle.rows_cell.specs.Rows.{changed_rows}
 use Rattle.rows_cell.specs.Stores.{Store, IsCommitted}
-use Rattle.master_parts.specs.declared.pending.Idle.{Idle}
+use Rattle.master_parts.specs.declared.pending.Orphan.{Orphan}
 use Rattle.master_state.specs.State.{MasterState}
 use Rattle.over_core.specs.Kept.{IsKept}
 use Rattle.over_core.specs.declared.actions.Action.{Action}
@@ -85,7 +85,7 @@ committed_kept old new edits s c k =
     subst P (sym c.cell) (subst Q (sym c.rows) k)
 
 -- what is queued holds nothing back
-pub tidied_nothing : (s : MasterState) (idle : Idle) (held new : HeldPieces) → Tidy idle ≡ first_action s → new ≡ held → new ≡ held_with held (action_edits s (first_action s))
+pub tidied_nothing : (s : MasterState) (idle : Orphan) (held new : HeldPieces) → Tidy idle ≡ first_action s → new ≡ held → new ≡ held_with held (action_edits s (first_action s))
 tidied_nothing s idle held new first same =
     let P : Action → Type 0 = λ a. new ≡ held_with held (action_edits s a) in
     subst P first same

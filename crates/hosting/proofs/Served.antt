@@ -5,9 +5,9 @@ use Rattle.std.specs.Io.KnownBytes.{Appends, Keeps}
 use Rattle.std.proofs.KnownBytes.{Appends-nil, Appends-trans}
 use Rattle.codec.specs.declared.faults.WireFault.{WireFault}
 use Rattle.hosting.specs.declared.frames.Frame.{Frame}
-use Rattle.hosting.specs.declared.seats.Reply.{Reply}
-use Rattle.hosting.specs.declared.stops.Stop.{Stop}
-use Rattle.hosting.specs.declared.stops.Stop.TheVariants.{Unread, Unwritten, NoMemory}
+use Rattle.hosting.specs.declared.seats.FrameReply.{FrameReply}
+use Rattle.hosting.specs.declared.stops.StreamStop.{StreamStop}
+use Rattle.hosting.specs.declared.stops.StreamStop.TheVariants.{Unread, Unwritten, NoMemory}
 use Rattle.hosting.specs.declared.streams.Turned.{Turned}
 use Rattle.hosting.specs.declared.streams.Turned.TheVariants.{On, Over, Stopped}
 use Rattle.master_state.specs.State.{MasterState}
@@ -66,7 +66,7 @@ pub ends_over : (terms : MasterTerms) (text there rest before between after : Kn
 ends_over terms text there rest before between after old mid new s t =
     (there, served_as terms text there before after old mid new (served_kept terms text there before between after old mid s t.2) t.1, t.0)
 
-pub ends_stopped : (stop : Stop) (terms : MasterTerms) (text there rest before between after : Known) (old mid new : Hosted) → Served terms text old mid there before between
+pub ends_stopped : (stop : StreamStop) (terms : MasterTerms) (text there rest before between after : Known) (old mid new : Hosted) → Served terms text old mid there before between
     → TakesTurn terms there mid (Stopped stop) new rest between after → Ends terms text old (Err stop) new before after
 ends_stopped Unread terms text there rest before between after old mid new s t =
     (there, served_as terms text there before after old mid new (served_kept terms text there before between after old mid s t.1) t.0)
@@ -83,11 +83,11 @@ ends_late terms text rest before after old new s = (rest, s)
 
 -- ---- one turn
 
-turn_of : (terms : MasterTerms) (text rest : Known) (old new : Hosted) (reply : Reply) (deadline : Option ℕ) → Done terms text old reply new rest → IsDue new.master deadline
+turn_of : (terms : MasterTerms) (text rest : Known) (old new : Hosted) (reply : FrameReply) (deadline : Option ℕ) → Done terms text old reply new rest → IsDue new.master deadline
     → Turn terms text old (record { reply = reply; deadline = deadline }) new rest
 turn_of terms text rest old new reply deadline done due = record { done = done; due = due }
 
-pub turn_told : (turned : Turned) (terms : MasterTerms) (text rest before after : Known) (old new : Hosted) (reply : Reply) → Done terms text old reply new rest → IsTold turned new.master reply before after
+pub turn_told : (turned : Turned) (terms : MasterTerms) (text rest before after : Known) (old new : Hosted) (reply : FrameReply) → Done terms text old reply new rest → IsTold turned new.master reply before after
     → TakesTurn terms text old turned new rest before after
 turn_told On terms text rest before after old new reply d told =
     (record { reply = reply; deadline = told.0 }, told.2.0, turn_of terms text rest old new reply told.0 d told.1, told.2.1, told.2.2)
@@ -98,7 +98,7 @@ turn_told (Stopped Unwritten) terms text rest before after old new reply d told 
     (record { reply = reply; deadline = told.0 }, told.2.0, turn_of terms text rest old new reply told.0 d told.1, told.2.1, told.2.2)
 
 -- with a deadline that there is
-pub told_due : (turned : Turned) (master : Option MasterState) (reply : Reply) (deadline : Option ℕ) (before after : Known) → IsDue master deadline → IsWritten turned reply deadline before after
+pub told_due : (turned : Turned) (master : Option MasterState) (reply : FrameReply) (deadline : Option ℕ) (before after : Known) → IsDue master deadline → IsWritten turned reply deadline before after
     → IsTold turned master reply before after
 told_due On master reply deadline before after due w = (deadline, due, w)
 told_due Over master reply deadline before after due w = absurd w
@@ -107,7 +107,7 @@ told_due (Stopped NoMemory) master reply deadline before after due w = w
 told_due (Stopped Unwritten) master reply deadline before after due w = (deadline, due, w)
 
 -- where the seat that was told of is the one that did the frame
-pub told_same : (turned : Turned) (done told : Hosted) (reply : Reply) (before after : Known) → told ≡ done → IsTold turned done.master reply before after → IsTold turned told.master reply before after
+pub told_same : (turned : Turned) (done told : Hosted) (reply : FrameReply) (before after : Known) → told ≡ done → IsTold turned done.master reply before after → IsTold turned told.master reply before after
 told_same turned done told reply before after e t = let P : Hosted → Type 0 = λ h. IsTold turned h.master reply before after in subst P (sym e) t
 
 -- ---- by what a turn answers
@@ -124,7 +124,7 @@ ends_at turned terms text there rest before between after old mid new e s t =
     let P : Turned → Type 0 = λ u. TakesTurn terms there mid u new rest between after in
     ends_over terms text there rest before between after old mid new s (subst P e t)
 
-pub stops_at : (turned : Turned) (stop : Stop) (terms : MasterTerms) (text there rest before between after : Known) (old mid new : Hosted) → turned ≡ Stopped stop
+pub stops_at : (turned : Turned) (stop : StreamStop) (terms : MasterTerms) (text there rest before between after : Known) (old mid new : Hosted) → turned ≡ Stopped stop
     → Served terms text old mid there before between → TakesTurn terms there mid turned new rest between after → Ends terms text old (Err stop) new before after
 stops_at turned stop terms text there rest before between after old mid new e s t =
     let P : Turned → Type 0 = λ u. TakesTurn terms there mid u new rest between after in
@@ -138,7 +138,7 @@ found_turn None turned terms text rest before after old new f d =
 found_turn (Some sent) turned terms text rest before after old new f d =
     turn_told turned terms text rest before after old new d.0 (record { sent = sent; next = f; does = d.1 }) d.2
 
-pub stopped_turn : (stop : Stop) (terms : MasterTerms) (text rest before : Known) (old : Hosted) → stop ≡ Unread → TakesTurn terms text old (Stopped stop) old rest before before
+pub stopped_turn : (stop : StreamStop) (terms : MasterTerms) (text rest before : Known) (old : Hosted) → stop ≡ Unread → TakesTurn terms text old (Stopped stop) old rest before before
 stopped_turn stop terms text rest before old e =
-    let P : Stop → Type 0 = λ u. TakesTurn terms text old (Stopped u) old rest before before in
+    let P : StreamStop → Type 0 = λ u. TakesTurn terms text old (Stopped u) old rest before before in
     subst P (sym e) (refl, refl)

@@ -6,14 +6,14 @@ use Rattle.std.proofs.Math.Seq.{take-suc}
 use Rattle.node_core.specs.declared.lines.Line.{Line}
 use Rattle.tags_cell.specs.declared.messages.outs.Out.{Out}
 use Rattle.over_core.specs.declared.swept.Swept.{Swept}
-use Rattle.hosting.specs.declared.tellings.Told.{Told}
+use Rattle.hosting.specs.declared.tellings.MasterFrame.{MasterFrame}
 use Rattle.hosting.specs.Blocks.{framed}
 use Rattle.hosting.specs.Told.{told}
 use Rattle.hosting.specs.declared.standing.Delay.{Delay}
 use Rattle.hosting.specs.declared.answers.Answered.{Answered}
 use Rattle.hosting.specs.Replies.{step_told, sweeps_told, delay_told, delays_told, answered_told, AreBlocks, Puts}
 
-blocks_behind : (front back : List Told) (xs ys : List ℕ) → AreBlocks front xs → AreBlocks back ys → AreBlocks (front ++ back) (xs ++ ys)
+blocks_behind : (front back : List MasterFrame) (xs ys : List ℕ) → AreBlocks front xs → AreBlocks back ys → AreBlocks (front ++ back) (xs ++ ys)
 blocks_behind [] back xs ys p q = let P : List ℕ → Type 0 = λ u. AreBlocks back (u ++ ys) in subst P (sym p) q
 blocks_behind (given ∷ front) back xs ys p q =
     (p.0, p.1 ++ ys, p.2, blocks_behind front back p.1 ys p.3 q, ap (λ (u : List ℕ). u ++ ys) p.4 ∙ append_assoc p.0 p.1 ys)
@@ -21,19 +21,19 @@ blocks_behind (given ∷ front) back xs ys p q =
 pub puts_none : (bytes : List ℕ) → Puts [] bytes bytes
 puts_none bytes = ([], refl, sym (append-nil bytes))
 
-pub puts_one : (given : Told) (block old new : List ℕ) → framed told given ≡ Ok block → new ≡ old ++ block → Puts (given ∷ []) old new
+pub puts_one : (given : MasterFrame) (block old new : List ℕ) → framed told given ≡ Ok block → new ≡ old ++ block → Puts (given ∷ []) old new
 puts_one given block old new is e = (block, (block, [], is, refl, sym (append-nil block)), e)
 
-pub puts_behind : (front back : List Told) (old mid new : List ℕ) → Puts front old mid → Puts back mid new → Puts (front ++ back) old new
+pub puts_behind : (front back : List MasterFrame) (old mid new : List ℕ) → Puts front old mid → Puts back mid new → Puts (front ++ back) old new
 puts_behind front back old mid new p q =
     (p.0 ++ q.0, blocks_behind front back p.0 q.0 p.1 q.1, q.2 ∙ ap (λ (u : List ℕ). u ++ q.0) p.2 ∙ append_assoc old p.0 q.0)
 
-pub then_puts : {X E : Type 0} (r : Result X E) (front back : List Told) (old mid new : List ℕ) → Puts front old mid → OnOk r (Puts back mid new) → OnOk r (Puts (front ++ back) old new)
+pub then_puts : {X E : Type 0} (r : Result X E) (front back : List MasterFrame) (old mid new : List ℕ) → Puts front old mid → OnOk r (Puts back mid new) → OnOk r (Puts (front ++ back) old new)
 then_puts (Ok x) front back old mid new p q = puts_behind front back old mid new p q
 then_puts (Err e) front back old mid new p q = tt
 
 -- all of a reply stands in a list that was empty
-pub all_put : (given : List Told) (old new : List ℕ) → old ≡ [] → Puts given old new → AreBlocks given new
+pub all_put : (given : List MasterFrame) (old new : List ℕ) → old ≡ [] → Puts given old new → AreBlocks given new
 all_put given old new empty p =
     let P : List ℕ → Type 0 = λ u. AreBlocks given u in
     subst P (sym (p.2 ∙ ap (λ (u : List ℕ). u ++ p.0) empty)) p.1
@@ -45,28 +45,28 @@ take_next {X = X} xs i x lt at =
     let next : i + 1 ≡ suc i = omega arith in
     ap (λ (n : ℕ). take n xs) next ∙ take-suc xs i x lt ∙ ap (λ (y : X). take i xs ++ y ∷ []) (sym at)
 
-map_next : {X : Type 0} (f : X → Told) (xs : List X) (x : X) → map f (xs ++ x ∷ []) ≡ map f xs ++ f x ∷ []
+map_next : {X : Type 0} (f : X → MasterFrame) (xs : List X) (x : X) → map f (xs ++ x ∷ []) ≡ map f xs ++ f x ∷ []
 map_next f [] x = refl
-map_next f (y ∷ xs) x = ap (λ (u : List Told). f y ∷ u) (map_next f xs x)
+map_next f (y ∷ xs) x = ap (λ (u : List MasterFrame). f y ∷ u) (map_next f xs x)
 
-pub puts_next : {X : Type 0} (f : X → Told) (xs : List X) (i : ℕ) (x : X) (old mid new : List ℕ) → i < length xs → x ≡ get_or xs i x → Puts (map f (take i xs)) old mid
+pub puts_next : {X : Type 0} (f : X → MasterFrame) (xs : List X) (i : ℕ) (x : X) (old mid new : List ℕ) → i < length xs → x ≡ get_or xs i x → Puts (map f (take i xs)) old mid
     → Puts (f x ∷ []) mid new → Puts (map f (take (i + 1) xs)) old new
 puts_next {X = X} f xs i x old mid new lt at p q =
-    let P : List Told → Type 0 = λ u. Puts u old new in
+    let P : List MasterFrame → Type 0 = λ u. Puts u old new in
     subst P (sym (ap (λ (u : List X). map f u) (take_next xs i x lt at) ∙ map_next f (take i xs) x)) (puts_behind (map f (take i xs)) (f x ∷ []) old mid new p q)
 
-pub puts_all : {X : Type 0} (f : X → Told) (xs : List X) (i : ℕ) (old new : List ℕ) → length xs ≤ i → Puts (map f (take i xs)) old new → Puts (map f xs) old new
+pub puts_all : {X : Type 0} (f : X → MasterFrame) (xs : List X) (i : ℕ) (old new : List ℕ) → length xs ≤ i → Puts (map f (take i xs)) old new → Puts (map f xs) old new
 puts_all {X = X} f xs i old new le p = let P : List X → Type 0 = λ u. Puts (map f u) old new in subst P (take_all i xs le) p
 
 sweeps_next : (xs : List Swept) (x : Swept) → sweeps_told (xs ++ x ∷ []) ≡ sweeps_told xs ++ step_told x.lines x.outs
 sweeps_next [] x = append-nil (step_told x.lines x.outs)
 sweeps_next (y ∷ xs) x =
-    ap (λ (u : List Told). step_told y.lines y.outs ++ u) (sweeps_next xs x) ∙ sym (append_assoc (step_told y.lines y.outs) (sweeps_told xs) (step_told x.lines x.outs))
+    ap (λ (u : List MasterFrame). step_told y.lines y.outs ++ u) (sweeps_next xs x) ∙ sym (append_assoc (step_told y.lines y.outs) (sweeps_told xs) (step_told x.lines x.outs))
 
 pub puts_sweep : (xs : List Swept) (i : ℕ) (x : Swept) (old mid new : List ℕ) → i < length xs → x ≡ get_or xs i x → Puts (sweeps_told (take i xs)) old mid
     → Puts (step_told x.lines x.outs) mid new → Puts (sweeps_told (take (i + 1) xs)) old new
 puts_sweep xs i x old mid new lt at p q =
-    let P : List Told → Type 0 = λ u. Puts u old new in
+    let P : List MasterFrame → Type 0 = λ u. Puts u old new in
     subst P (sym (ap (λ (u : List Swept). sweeps_told u) (take_next xs i x lt at) ∙ sweeps_next (take i xs) x))
     (puts_behind (sweeps_told (take i xs)) (step_told x.lines x.outs) old mid new p q)
 
@@ -75,12 +75,12 @@ puts_sweeps xs i old new le p = let P : List Swept → Type 0 = λ u. Puts (swee
 
 delays_next : (xs : List Delay) (x : Delay) → delays_told (xs ++ x ∷ []) ≡ delays_told xs ++ delay_told x
 delays_next [] x = append-nil (delay_told x)
-delays_next (y ∷ xs) x = ap (λ (u : List Told). delay_told y ++ u) (delays_next xs x) ∙ sym (append_assoc (delay_told y) (delays_told xs) (delay_told x))
+delays_next (y ∷ xs) x = ap (λ (u : List MasterFrame). delay_told y ++ u) (delays_next xs x) ∙ sym (append_assoc (delay_told y) (delays_told xs) (delay_told x))
 
 pub puts_delay : (xs : List Delay) (i : ℕ) (x : Delay) (old mid new : List ℕ) → i < length xs → x ≡ get_or xs i x → Puts (delays_told (take i xs)) old mid
     → Puts (delay_told x) mid new → Puts (delays_told (take (i + 1) xs)) old new
 puts_delay xs i x old mid new lt at p q =
-    let P : List Told → Type 0 = λ u. Puts u old new in
+    let P : List MasterFrame → Type 0 = λ u. Puts u old new in
     subst P (sym (ap (λ (u : List Delay). delays_told u) (take_next xs i x lt at) ∙ delays_next (take i xs) x))
     (puts_behind (delays_told (take i xs)) (delay_told x) old mid new p q)
 
@@ -89,10 +89,10 @@ puts_delays xs i old new le p = let P : List Delay → Type 0 = λ u. Puts (dela
 
 -- ---- the same lists
 
-pub puts_at : {X : Type 0} (f : X → Told) (xs ys : List X) (old new : List ℕ) → xs ≡ ys → Puts (map f xs) old new → Puts (map f ys) old new
+pub puts_at : {X : Type 0} (f : X → MasterFrame) (xs ys : List X) (old new : List ℕ) → xs ≡ ys → Puts (map f xs) old new → Puts (map f ys) old new
 puts_at {X = X} f xs ys old new e p = let P : List X → Type 0 = λ u. Puts (map f u) old new in subst P e p
 
-pub puts_if_at : {X Y E : Type 0} (r : Result Y E) (f : X → Told) (xs ys : List X) (old new : List ℕ) → xs ≡ ys → OnOk r (Puts (map f xs) old new) → OnOk r (Puts (map f ys) old new)
+pub puts_if_at : {X Y E : Type 0} (r : Result Y E) (f : X → MasterFrame) (xs ys : List X) (old new : List ℕ) → xs ≡ ys → OnOk r (Puts (map f xs) old new) → OnOk r (Puts (map f ys) old new)
 puts_if_at {X = X} r f xs ys old new e p = let P : List X → Type 0 = λ u. OnOk r (Puts (map f u) old new) in subst P e p
 
 pub delays_if_at : {Y E : Type 0} (r : Result Y E) (xs ys : List Delay) (old new : List ℕ) → xs ≡ ys → OnOk r (Puts (delays_told xs) old new) → OnOk r (Puts (delays_told ys) old new)

@@ -5,8 +5,8 @@ use Rattle.codec.proofs.FormLaws.{IsBytes, IsShort, IsForm, TakesKind, pair_form
 use Rattle.codec.proofs.FieldLaws.{word_form, client_form, block_form, optional_word_form}
 use Rattle.codec.proofs.OutLaws.{out_message_form}
 use Rattle.codec.proofs.LineLaws.{line_form}
-use Rattle.hosting.specs.declared.tellings.Told.{Told}
-use Rattle.hosting.specs.declared.tellings.Told.TheVariants as tells
+use Rattle.hosting.specs.declared.tellings.MasterFrame.{MasterFrame}
+use Rattle.hosting.specs.declared.tellings.MasterFrame.TheVariants as tells
 use Rattle.hosting.specs.declared.kinds.ToldKind.{ToldKind}
 use Rattle.hosting.specs.declared.kinds.ToldKind.TheVariants as of
 use Rattle.hosting.specs.Told.{out_fields, line_fields, counts_by, words_of, count_fields, all_wire_faults, fault_place, wire_fault, all_told, told_place, told_kind, told_is, told_bytes, told_behind, told}
@@ -24,7 +24,7 @@ count_fields_form = pair_form word_form (pair_form word_form (pair_form word_for
 wire_fault_form : IsForm wire_fault
 wire_fault_form = choice_form all_wire_faults fault_place refl
 
-told_any : (x : Told) → (choice all_told told_place).is (told_kind x)
+told_any : (x : MasterFrame) → (choice all_told told_place).is (told_kind x)
 told_any (tells.Line printed) = refl
 told_any (tells.Message number message) = refl
 told_any (tells.Bad fault) = refl
@@ -35,7 +35,7 @@ told_any (tells.Waits number) = refl
 told_any (tells.Touches name) = refl
 told_any (tells.Awaited number) = refl
 
-told_takes : (k : ToldKind) (bytes : List ℕ) (x : Told) (rest : List ℕ) → (choice all_told told_place).is k → IsBytes bytes → told_behind k bytes ≡ Ok (x, rest)
+told_takes : (k : ToldKind) (bytes : List ℕ) (x : MasterFrame) (rest : List ℕ) → (choice all_told told_place).is k → IsBytes bytes → told_behind k bytes ≡ Ok (x, rest)
     → TakesKind told_kind told_is told_bytes k bytes x rest
 told_takes of.Line bytes x rest placed fits e = behind_takes tells.Line of.Line line_fields_form (λ a. refl) (λ a h. h) (λ a. refl) bytes x rest fits e
 told_takes of.Message bytes x rest placed fits e = behind_takes (λ x. tells.Message x.0 x.1) of.Message out_fields_form (λ a. refl) (λ a h. h) (λ a. refl) bytes x rest fits e
@@ -47,7 +47,7 @@ told_takes of.Waits bytes x rest placed fits e = behind_takes tells.Waits of.Wai
 told_takes of.Touches bytes x rest placed fits e = behind_takes tells.Touches of.Touches block_form (λ a. refl) (λ a h. h) (λ a. refl) bytes x rest fits e
 told_takes of.Awaited bytes x rest placed fits e = behind_takes tells.Awaited of.Awaited word_form (λ a. refl) (λ a h. h) (λ a. refl) bytes x rest fits e
 
-told_again : (x : Told) (rest : List ℕ) → told_is x → IsShort (told_bytes x) → told_behind (told_kind x) (told_bytes x ++ rest) ≡ Ok (x, rest)
+told_again : (x : MasterFrame) (rest : List ℕ) → told_is x → IsShort (told_bytes x) → told_behind (told_kind x) (told_bytes x ++ rest) ≡ Ok (x, rest)
 told_again (tells.Line printed) rest holds short = behind_again tells.Line line_fields_form printed rest holds short
 told_again (tells.Message number message) rest holds short = behind_again (λ x. tells.Message x.0 x.1) out_fields_form (number, message) rest holds short
 told_again (tells.Bad fault) rest holds short = behind_again tells.Bad wire_fault_form fault rest holds short

@@ -17,8 +17,8 @@ use Rattle.codec.specs.Requests.{request}
 use Rattle.codec.specs.Outs.{out_message, has_bytes, out_written}
 use Rattle.codec.specs.Lines.{line}
 use Rattle.hosting.specs.declared.frames.Frame.TheVariants as frames
-use Rattle.hosting.specs.declared.standing.Counts.{Counts}
-use Rattle.hosting.specs.declared.tellings.Told.TheVariants as tells
+use Rattle.hosting.specs.declared.standing.MasterCounts.{MasterCounts}
+use Rattle.hosting.specs.declared.tellings.MasterFrame.TheVariants as tells
 use Rattle.hosting.specs.Blocks.{framed, framed_by}
 use Rattle.hosting.specs.Frames.{frame}
 use Rattle.hosting.specs.Told.{told, out_framed}
@@ -127,7 +127,7 @@ parts_of : (a b c d e : List ℕ) → ((((([] ++ a) ++ b) ++ c) ++ d) ++ e) ≡ 
 parts_of a b c d e =
     append_assoc ((a ++ b) ++ c) d e ∙ append_assoc (a ++ b) c (d ++ e) ∙ append_assoc a b (c ++ (d ++ e))
 
-pub gives_counts : (counts : Counts) (w0 w1 w2 w3 w4 w5 p q s t u front : List ℕ) (r : Result (List ℕ) WireFault)
+pub gives_counts : (counts : MasterCounts) (w0 w1 w2 w3 w4 w5 p q s t u front : List ℕ) (r : Result (List ℕ) WireFault)
     → w0 ≡ [] → w1 ≡ w0 ++ p → w2 ≡ w1 ++ q → w3 ≡ w2 ++ s → w4 ≡ w3 ++ t → w5 ≡ w4 ++ u
     → p ≡ big_bytes 8 counts.epoch → q ≡ big_bytes 8 counts.sessions → s ≡ big_bytes 8 counts.nodes → t ≡ big_bytes 8 counts.rights → u ≡ big_bytes 8 counts.changes
     → front ≡ w5 → Gives NoMemory r (framed_by (4 ∷ (front ++ []))) → Gives NoMemory r (framed told (tells.Counts counts))

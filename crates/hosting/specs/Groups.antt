@@ -14,9 +14,9 @@ use Rattle.hosting.specs.Pieces.{AreTaken, CommitsEach, IsCutShort, all_pieces, 
 use Rattle.hosting.specs.Parted.{PartsFrame, PartsFrames, ArePartedBySteps}
 use Rattle.hosting.specs.declared.pieces.GroupTerms.{GroupTerms}
 use Rattle.hosting.specs.declared.frames.Frame.{Frame}
-use Rattle.hosting.specs.declared.seats.Reply.{Reply}
-use Rattle.hosting.specs.declared.stops.Stop.{Stop}
-use Rattle.hosting.specs.declared.stops.Stop.TheVariants.{Unread, Unwritten, NoMemory}
+use Rattle.hosting.specs.declared.seats.FrameReply.{FrameReply}
+use Rattle.hosting.specs.declared.stops.StreamStop.{StreamStop}
+use Rattle.hosting.specs.declared.stops.StreamStop.TheVariants.{Unread, Unwritten, NoMemory}
 use Rattle.hosting.specs.declared.stops.GroupStop.{GroupStop}
 use Rattle.hosting.specs.declared.stops.GroupStop.TheVariants.{Stopped, Refused}
 use Rattle.hosting.specs.declared.streams.Turned.{Turned}
@@ -148,22 +148,22 @@ pub record HeldTurn (sent : Result Frame WireFault) (old new : GroupState) (befo
   pub parted : PartsFrame sent old new
 
 -- a frame was done so, or it is none that is done in a group
-abbrev pub DoesHeld : Result Frame WireFault → GroupState → Option Reply → GroupState → Type 0
+abbrev pub DoesHeld : Result Frame WireFault → GroupState → Option FrameReply → GroupState → Type 0
 DoesHeld sent old (Some reply) new = ((terms : MasterTerms) → Does terms sent (together old) reply (together new)) × (ground new ≡ ground old) × PartsFrame sent old new
 DoesHeld sent old None new = new ≡ old
 
 -- why a group is lost before it is committed
-abbrev pub IsLosing : Stop → Type 0
+abbrev pub IsLosing : StreamStop → Type 0
 IsLosing Unwritten = ⊥
 IsLosing stop = ⊤
 
 -- all that is told of a frame, with a deadline, stands behind what was told; or there is no memory for it
-abbrev pub PutsTold : Tried → Reply → Option ℕ → List ℕ → List ℕ → Type 0
+abbrev pub PutsTold : Tried → FrameReply → Option ℕ → List ℕ → List ℕ → Type 0
 PutsTold tries.Done reply deadline before after = (bytes : List ℕ) × AreBlocks (all_told reply deadline) bytes × (after ≡ before ++ bytes)
 PutsTold tries.Alone reply deadline before after = ⊥
 PutsTold (tries.Stopped stop) reply deadline before after = IsLosing stop
 
-abbrev pub PutsReply : Tried → MasterState → Reply → List ℕ → List ℕ → Type 0
+abbrev pub PutsReply : Tried → MasterState → FrameReply → List ℕ → List ℕ → Type 0
 PutsReply tries.Done master reply before after = (deadline : Option ℕ) × IsDue (Some master) deadline × PutsTold tries.Done reply deadline before after
 PutsReply tries.Alone master reply before after = ⊥
 PutsReply (tries.Stopped stop) master reply before after = IsLosing stop

@@ -4,7 +4,7 @@ use Rattle.codec.specs.declared.faults.WireFault.TheVariants.{BadVersion}
 use Rattle.codec.specs.Forms.{counted, length_end, written, read_whole}
 use Rattle.codec.specs.Laws.{AreBytes, Format}
 use Rattle.hosting.specs.declared.frames.Frame.{Frame}
-use Rattle.hosting.specs.declared.tellings.Told.{Told}
+use Rattle.hosting.specs.declared.tellings.MasterFrame.{MasterFrame}
 use Rattle.hosting.specs.declared.blocks.TheConstants.{ANSWER_LIMIT}
 use Rattle.hosting.specs.Blocks.{block_limit, next_block, next_within}
 use Rattle.hosting.specs.Frames.{frame}
@@ -20,10 +20,10 @@ ReadFrameWasWritten = (bytes : List ℕ) (sent : Frame) → AreBytes bytes → r
 
 -- the same of what a master writes
 abbrev pub WrittenToldIsRead : Type 0
-WrittenToldIsRead = (given : Told) (bytes : List ℕ) → told.is given → written told given ≡ Ok bytes → read_whole told bytes ≡ Ok given
+WrittenToldIsRead = (given : MasterFrame) (bytes : List ℕ) → told.is given → written told given ≡ Ok bytes → read_whole told bytes ≡ Ok given
 
 abbrev pub ReadToldWasWritten : Type 0
-ReadToldWasWritten = (bytes : List ℕ) (given : Told) → AreBytes bytes → read_whole told bytes ≡ Ok given → told.is given × (written told given ≡ Ok bytes)
+ReadToldWasWritten = (bytes : List ℕ) (given : MasterFrame) → AreBytes bytes → read_whole told bytes ≡ Ok given → told.is given × (written told given ≡ Ok bytes)
 
 -- a block at the front of a stream, none too long, is what stands there next, and behind it stands the rest
 abbrev pub FramedIsNext : Type 0
@@ -33,10 +33,10 @@ FramedIsNext = (bytes rest : List ℕ) → length bytes ≤ block_limit → next
 abbrev pub FramesAreOf : Format → Type 0
 FramesAreOf f =
     ((sent : Frame) (bytes : List ℕ) → written frame sent ≡ Ok bytes → bytes ≡ f.first ∷ frame.write sent)
-    × ((given : Told) (bytes : List ℕ) → written told given ≡ Ok bytes → bytes ≡ f.first ∷ told.write given)
+    × ((given : MasterFrame) (bytes : List ℕ) → written told given ≡ Ok bytes → bytes ≡ f.first ∷ told.write given)
     × ((first : ℕ) (rest : List ℕ) → first ≢ f.first → length (first ∷ rest) < length_end
     → (read_whole frame (first ∷ rest) ≡ Err BadVersion) × (read_whole told (first ∷ rest) ≡ Err BadVersion))
 
 -- whatever a master tells, however long, is what stands next in the stream to the one who reads blocks of the limit of answers, and behind it stands the rest
 abbrev pub ToldIsNext : Type 0
-ToldIsNext = (given : Told) (bytes rest : List ℕ) → written told given ≡ Ok bytes → next_within ANSWER_LIMIT (counted.write bytes ++ rest) ≡ Some (Ok bytes, rest)
+ToldIsNext = (given : MasterFrame) (bytes rest : List ℕ) → written told given ≡ Ok bytes → next_within ANSWER_LIMIT (counted.write bytes ++ rest) ≡ Some (Ok bytes, rest)

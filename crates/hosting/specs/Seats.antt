@@ -12,13 +12,13 @@ use Rattle.codec.specs.declared.faults.WireFault.{WireFault}
 use Rattle.hosting.specs.declared.frames.Frame.{Frame}
 use Rattle.hosting.specs.declared.frames.Frame.TheVariants as frames
 use Rattle.hosting.specs.declared.settling.Settled.{Settled}
-use Rattle.hosting.specs.declared.standing.Standing.{Standing}
+use Rattle.hosting.specs.declared.standing.MasterStanding.{MasterStanding}
 use Rattle.hosting.specs.Serving.{Settles, Answers}
 use Rattle.hosting.specs.Standing.{standing_of}
-use Rattle.hosting.specs.declared.seats.Seat.{Seat}
-use Rattle.hosting.specs.declared.seats.Seat.TheVariants as seats
-use Rattle.hosting.specs.declared.seats.Reply.{Reply}
-use Rattle.hosting.specs.declared.seats.Reply.TheVariants as replies
+use Rattle.hosting.specs.declared.seats.HostedMaster.{HostedMaster}
+use Rattle.hosting.specs.declared.seats.HostedMaster.TheVariants as seats
+use Rattle.hosting.specs.declared.seats.FrameReply.{FrameReply}
+use Rattle.hosting.specs.declared.seats.FrameReply.TheVariants as replies
 
 -- the store, and the master over it while one is up
 pub record Hosted : Type 0 where
@@ -32,7 +32,7 @@ abbrev pub without_master : Store → Hosted
 without_master store = record { master = None; store = store }
 
 -- what is hosted
-abbrev pub hosted : {R : Type 0} → (R → Store) → Seat R → Hosted
+abbrev pub hosted : {R : Type 0} → (R → Store) → HostedMaster R → Hosted
 hosted store (seats.Up cell) = with_master cell
 hosted store (seats.Down records) = without_master (store records)
 
@@ -49,7 +49,7 @@ IsDue (Some master) deadline = IsDeadline master deadline
 -- ---- what a frame does
 
 -- it is refused so, and nothing changes
-abbrev pub IsTurnedAway : Hosted → Reply → Reply → Hosted → Type 0
+abbrev pub IsTurnedAway : Hosted → FrameReply → FrameReply → Hosted → Type 0
 IsTurnedAway old wanted reply new = (reply ≡ wanted) × (new ≡ old)
 
 -- the master came up, committed its epoch, and did what there was to do
@@ -62,52 +62,52 @@ pub record CameUp (terms : MasterTerms) (now : ℕ) (old : Store) (epoch : ℕ) 
   pub up : new ≡ with_master after
 
 -- one comes up, or it is told why none does
-abbrev pub ComesIn : MasterTerms → ℕ → Store → Reply → Hosted → Type 0
+abbrev pub ComesIn : MasterTerms → ℕ → Store → FrameReply → Hosted → Type 0
 ComesIn terms now old (replies.Came epoch settled) new = CameUp terms now old epoch settled new
 ComesIn terms now old (replies.Refused fault) new = StaysDown terms now fault old new.store × (new.master ≡ None)
 ComesIn terms now old _ new = ⊥
 
 -- a message comes to the master
-abbrev pub Hears : ℕ → Request → CellState → Reply → Hosted → Type 0
+abbrev pub Hears : ℕ → Request → CellState → FrameReply → Hosted → Type 0
 Hears now message old (replies.Answered answered) new = (after : CellState) × Answers now message old answered after × (new ≡ with_master after)
 Hears now message old _ new = ⊥
 
 -- it sweeps until one is quiet
-abbrev pub Sweeps : ℕ → CellState → Reply → Hosted → Type 0
+abbrev pub Sweeps : ℕ → CellState → FrameReply → Hosted → Type 0
 Sweeps now old (replies.Swept settled) new = (after : CellState) × Settles now old settled after × (new ≡ with_master after)
 Sweeps now old _ new = ⊥
 
 -- ---- with a master, or without one
 
-abbrev pub Arrives : MasterTerms → ℕ → Option MasterState → Store → Reply → Hosted → Type 0
+abbrev pub Arrives : MasterTerms → ℕ → Option MasterState → Store → FrameReply → Hosted → Type 0
 Arrives terms now None store reply new = ComesIn terms now store reply new
 Arrives terms now (Some master) store reply new = IsTurnedAway (with_master (cell_of master store)) (replies.Refused MasterUp) reply new
 
-abbrev pub Listens : ℕ → Request → Option MasterState → Store → Reply → Hosted → Type 0
+abbrev pub Listens : ℕ → Request → Option MasterState → Store → FrameReply → Hosted → Type 0
 Listens now message None store reply new = IsTurnedAway (without_master store) (replies.Refused MasterDown) reply new
 Listens now message (Some master) store reply new = Hears now message (cell_of master store) reply new
 
-abbrev pub Ticks : ℕ → Option MasterState → Store → Reply → Hosted → Type 0
+abbrev pub Ticks : ℕ → Option MasterState → Store → FrameReply → Hosted → Type 0
 Ticks now None store reply new = IsTurnedAway (without_master store) (replies.Refused MasterDown) reply new
 Ticks now (Some master) store reply new = Sweeps now (cell_of master store) reply new
 
 -- the master goes, and its store stays
-abbrev pub Leaves : Option MasterState → Store → Reply → Hosted → Type 0
+abbrev pub Leaves : Option MasterState → Store → FrameReply → Hosted → Type 0
 Leaves None store reply new = IsTurnedAway (without_master store) (replies.Refused MasterDown) reply new
 Leaves (Some master) store reply new = (reply ≡ replies.Gone) × (new ≡ without_master store)
 
 -- it is told how the master stands; memory alone may be wanting
-abbrev pub Shows : Standing → Reply → Type 0
+abbrev pub Shows : MasterStanding → FrameReply → Type 0
 Shows wanted (replies.Stands standing) = standing ≡ wanted
 Shows wanted (replies.Refused fault) = fault ≡ NoMemory
 Shows wanted _ = ⊥
 
 -- which changes nothing
-abbrev pub Stands : Option MasterState → Store → Reply → Hosted → Type 0
+abbrev pub Stands : Option MasterState → Store → FrameReply → Hosted → Type 0
 Stands None store reply new = IsTurnedAway (without_master store) (replies.Refused MasterDown) reply new
 Stands (Some master) store reply new = Shows (standing_of master) reply × (new ≡ with_master (cell_of master store))
 
-abbrev pub DoesFrame : MasterTerms → Frame → Hosted → Reply → Hosted → Type 0
+abbrev pub DoesFrame : MasterTerms → Frame → Hosted → FrameReply → Hosted → Type 0
 DoesFrame terms (frames.Up now) old reply new = Arrives terms now old.master old.store reply new
 DoesFrame terms (frames.Message now message) old reply new = Listens now message old.master old.store reply new
 DoesFrame terms (frames.Tick now) old reply new = Ticks now old.master old.store reply new
@@ -115,6 +115,6 @@ DoesFrame terms frames.Down old reply new = Leaves old.master old.store reply ne
 DoesFrame terms frames.State old reply new = Stands old.master old.store reply new
 
 -- what was sent is a frame, and is done; or it is none, which is told, and nothing changes
-abbrev pub Does : MasterTerms → Result Frame WireFault → Hosted → Reply → Hosted → Type 0
+abbrev pub Does : MasterTerms → Result Frame WireFault → Hosted → FrameReply → Hosted → Type 0
 Does terms (Ok frame) old reply new = DoesFrame terms frame old reply new
 Does terms (Err fault) old reply new = (reply ≡ replies.Bad fault) × (new ≡ old)

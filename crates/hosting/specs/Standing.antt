@@ -10,13 +10,13 @@ use Rattle.session_core.specs.Session.{has_heard}
 use Rattle.tags_cell.specs.declared.messages.outs.Reply.{Reply}
 use Rattle.master_parts.specs.declared.pending.Task.{Task}
 use Rattle.master_state.specs.State.{MasterState}
-use Rattle.hosting.specs.declared.standing.Counts.{Counts}
+use Rattle.hosting.specs.declared.standing.MasterCounts.{MasterCounts}
 use Rattle.hosting.specs.declared.standing.Recovery.{Recovery}
 use Rattle.hosting.specs.declared.standing.Delay.{Delay}
-use Rattle.hosting.specs.declared.standing.Standing.{Standing}
+use Rattle.hosting.specs.declared.standing.MasterStanding.{MasterStanding}
 
 -- sessions: those that have ended included. rights: those that are held
-abbrev pub counts_of : MasterState → Counts
+abbrev pub counts_of : MasterState → MasterCounts
 counts_of s = record {
   epoch = s.epoch;
   sessions = length s.sessions.sessions;
@@ -71,5 +71,5 @@ longest_of s = take longest_limit (map (delay_of s) s.gate.waiting)
 
 -- ---- all of it
 
-abbrev pub standing_of : MasterState → Standing
+abbrev pub standing_of : MasterState → MasterStanding
 standing_of s = record { counts = counts_of s; recovery = recovery_of s; longest = longest_of s }

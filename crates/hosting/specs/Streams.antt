@@ -9,12 +9,12 @@ use Rattle.codec.specs.Forms.{◌>>=◌, read_whole}
 use Rattle.output.specs.Fronts.{AppendsFront}
 use Rattle.master_state.specs.State.{MasterState}
 use Rattle.hosting.specs.declared.frames.Frame.{Frame}
-use Rattle.hosting.specs.declared.tellings.Told.{Told}
+use Rattle.hosting.specs.declared.tellings.MasterFrame.{MasterFrame}
 use Rattle.hosting.specs.Blocks.{block_at, next_block}
 use Rattle.hosting.specs.Frames.{frame}
-use Rattle.hosting.specs.declared.seats.Reply.{Reply}
-use Rattle.hosting.specs.declared.stops.Stop.{Stop}
-use Rattle.hosting.specs.declared.stops.Stop.TheVariants.{Unread, Unwritten, NoMemory}
+use Rattle.hosting.specs.declared.seats.FrameReply.{FrameReply}
+use Rattle.hosting.specs.declared.stops.StreamStop.{StreamStop}
+use Rattle.hosting.specs.declared.stops.StreamStop.TheVariants.{Unread, Unwritten, NoMemory}
 use Rattle.hosting.specs.declared.streams.Turned.{Turned}
 use Rattle.hosting.specs.declared.streams.Turned.TheVariants.{On, Over, Stopped}
 use Rattle.hosting.specs.Seats.{Hosted, Does, IsDue}
@@ -75,14 +75,14 @@ FoundFrame (Some sent) text rest = FrameIs text sent rest
 
 -- what was answered to a frame, and when there is something to do next
 pub record Answer : Type 0 where
-  pub reply : Reply
+  pub reply : FrameReply
   pub deadline : Option ℕ
 
-abbrev pub answer_told : Answer → List Told
+abbrev pub answer_told : Answer → List MasterFrame
 answer_told answer = all_told answer.reply answer.deadline
 
 -- a frame was read, done, and answered so
-pub record Done (terms : MasterTerms) (text : Option (List ℕ)) (old : Hosted) (reply : Reply) (new : Hosted) (rest : Option (List ℕ)) : Type 0 where
+pub record Done (terms : MasterTerms) (text : Option (List ℕ)) (old : Hosted) (reply : FrameReply) (new : Hosted) (rest : Option (List ℕ)) : Type 0 where
   pub sent : Result Frame WireFault
   pub next : FrameIs text sent rest
   pub does : Does terms sent old reply new
@@ -113,7 +113,7 @@ pub record Served (terms : MasterTerms) (text : Option (List ℕ)) (old new : Ho
 
 -- one frame more was done, or none
 abbrev pub MaybeOne : MasterTerms → Option (List ℕ) → Hosted → Hosted → Type 0
-MaybeOne terms text old new = (new ≡ old) ⊎ ((reply : Reply) × (rest : Option (List ℕ)) × Done terms text old reply new rest)
+MaybeOne terms text old new = (new ≡ old) ⊎ ((reply : FrameReply) × (rest : Option (List ℕ)) × Done terms text old reply new rest)
 
 -- a frame was read and done, and a front of all that is told of it was written
 abbrev pub BreaksOff : MasterTerms → Option (List ℕ) → Hosted → Hosted → Option (List ℕ) → Option (List ℕ) → Option (List ℕ) → Type 0
@@ -122,7 +122,7 @@ BreaksOff terms text old new rest before after =
 
 -- all frames of a text were done and answered; or those before one that couldn't be read; or those before one that may
 -- be done, whose answer found no memory; or those before one that was done, of whose answer a front alone was written
-abbrev pub Ends : MasterTerms → Option (List ℕ) → Hosted → Result (Unit {0}) Stop → Hosted → Option (List ℕ) → Option (List ℕ) → Type 0
+abbrev pub Ends : MasterTerms → Option (List ℕ) → Hosted → Result (Unit {0}) StreamStop → Hosted → Option (List ℕ) → Option (List ℕ) → Type 0
 Ends terms text old (Ok x) new before after = (rest : Option (List ℕ)) × Served terms text old new rest before after × IsAtEnd rest
 Ends terms text old (Err Unread) new before after = (rest : Option (List ℕ)) × Served terms text old new rest before after
 Ends terms text old (Err NoMemory) new before after =
@@ -141,7 +141,7 @@ TakesTurn terms text old (Stopped NoMemory) new rest before after = MaybeOne ter
 TakesTurn terms text old (Stopped Unwritten) new rest before after = BreaksOff terms text old new rest before after
 
 -- all that is told of a frame, with a deadline, was written; or there is no memory for it, or a front of it alone was written
-abbrev pub IsWritten : Turned → Reply → Option ℕ → Option (List ℕ) → Option (List ℕ) → Type 0
+abbrev pub IsWritten : Turned → FrameReply → Option ℕ → Option (List ℕ) → Option (List ℕ) → Type 0
 IsWritten On reply deadline before after = (bytes : List ℕ) × AreBlocks (all_told reply deadline) bytes × Appends before after bytes
 IsWritten Over reply deadline before after = ⊥
 IsWritten (Stopped NoMemory) reply deadline before after = after ≡ before
@@ -149,7 +149,7 @@ IsWritten (Stopped Unwritten) reply deadline before after = (bytes : List ℕ) �
 IsWritten (Stopped Unread) reply deadline before after = ⊥
 
 -- all that is told of a frame was written, with the deadline of what is hosted, or a front of it alone; or there is no memory for it
-abbrev pub IsTold : Turned → Option MasterState → Reply → Option (List ℕ) → Option (List ℕ) → Type 0
+abbrev pub IsTold : Turned → Option MasterState → FrameReply → Option (List ℕ) → Option (List ℕ) → Type 0
 IsTold On master reply before after = (deadline : Option ℕ) × IsDue master deadline × IsWritten On reply deadline before after
 IsTold Over master reply before after = ⊥
 IsTold (Stopped NoMemory) master reply before after = after ≡ before
@@ -159,4 +159,4 @@ IsTold (Stopped Unread) master reply before after = ⊥
 -- what was found was done, and told of so; or nothing was found
 abbrev pub DoesFound : MasterTerms → Option (Result Frame WireFault) → Hosted → Turned → Hosted → Option (List ℕ) → Option (List ℕ) → Type 0
 DoesFound terms None old turned new before after = (turned ≡ Over) × (new ≡ old) × (after ≡ before)
-DoesFound terms (Some sent) old turned new before after = (reply : Reply) × Does terms sent old reply new × IsTold turned new.master reply before after
+DoesFound terms (Some sent) old turned new before after = (reply : FrameReply) × Does terms sent old reply new × IsTold turned new.master reply before after

@@ -9,9 +9,9 @@ use Rattle.codec.specs.Forms.{Form, ◌⊗◌, choice, of_kind, behind}
 use Rattle.codec.specs.Fields.{word, client, block, optional_word}
 use Rattle.codec.specs.Outs.{out_message, has_bytes}
 use Rattle.codec.specs.Lines.{line}
-use Rattle.hosting.specs.declared.tellings.Told.{Told}
-use Rattle.hosting.specs.declared.tellings.Told.TheVariants as tells
-use Rattle.hosting.specs.declared.standing.Counts.{Counts}
+use Rattle.hosting.specs.declared.tellings.MasterFrame.{MasterFrame}
+use Rattle.hosting.specs.declared.tellings.MasterFrame.TheVariants as tells
+use Rattle.hosting.specs.declared.standing.MasterCounts.{MasterCounts}
 use Rattle.hosting.specs.declared.kinds.ToldKind.{ToldKind}
 use Rattle.hosting.specs.declared.kinds.ToldKind.TheVariants as of
 use Rattle.hosting.specs.Blocks.{versioned, framed}
@@ -28,10 +28,10 @@ line_fields = versioned line
 abbrev pub Words : Type 0
 Words = ℕ × (ℕ × (ℕ × (ℕ × ℕ)))
 
-abbrev pub counts_by : Words → Counts
+abbrev pub counts_by : Words → MasterCounts
 counts_by w = record { epoch = w.0; sessions = w.1.0; nodes = w.1.1.0; rights = w.1.1.1.0; changes = w.1.1.1.1 }
 
-abbrev pub words_of : Counts → Words
+abbrev pub words_of : MasterCounts → Words
 words_of c = (c.epoch, (c.sessions, (c.nodes, (c.rights, c.changes))))
 
 abbrev pub count_fields : Form Words
@@ -71,7 +71,7 @@ told_place of.Waits = 6
 told_place of.Touches = 7
 told_place of.Awaited = 8
 
-abbrev pub told_kind : Told → ToldKind
+abbrev pub told_kind : MasterFrame → ToldKind
 told_kind (tells.Line printed) = of.Line
 told_kind (tells.Message number message) = of.Message
 told_kind (tells.Bad fault) = of.Bad
@@ -82,7 +82,7 @@ told_kind (tells.Waits number) = of.Waits
 told_kind (tells.Touches name) = of.Touches
 told_kind (tells.Awaited number) = of.Awaited
 
-abbrev pub told_is : Told → Type 0
+abbrev pub told_is : MasterFrame → Type 0
 told_is (tells.Line printed) = line_fields.is printed
 told_is (tells.Message number message) = out_fields.is (number, message)
 told_is (tells.Bad fault) = wire_fault.is fault
@@ -93,7 +93,7 @@ told_is (tells.Waits number) = word.is number
 told_is (tells.Touches name) = block.is name
 told_is (tells.Awaited number) = word.is number
 
-abbrev pub told_bytes : Told → List ℕ
+abbrev pub told_bytes : MasterFrame → List ℕ
 told_bytes (tells.Line printed) = line_fields.write printed
 told_bytes (tells.Message number message) = out_fields.write (number, message)
 told_bytes (tells.Bad fault) = wire_fault.write fault
@@ -104,7 +104,7 @@ told_bytes (tells.Waits number) = word.write number
 told_bytes (tells.Touches name) = block.write name
 told_bytes (tells.Awaited number) = word.write number
 
-abbrev pub told_behind : ToldKind → List ℕ → Result (Told × List ℕ) WireFault
+abbrev pub told_behind : ToldKind → List ℕ → Result (MasterFrame × List ℕ) WireFault
 told_behind of.Line rest = behind tells.Line line_fields rest
 told_behind of.Message rest = behind (λ x. tells.Message x.0 x.1) out_fields rest
 told_behind of.Bad rest = behind tells.Bad wire_fault rest
@@ -116,7 +116,7 @@ told_behind of.Touches rest = behind tells.Touches block rest
 told_behind of.Awaited rest = behind tells.Awaited word rest
 
 -- the kind of what is told, and its fields
-unfoldable pub told : Form Told
+unfoldable pub told : Form MasterFrame
 told = of_kind (choice all_told told_place) told_kind told_is told_bytes told_behind
 
 -- a message to its client as a block; none where a file has children

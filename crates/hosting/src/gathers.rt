@@ -10,8 +10,8 @@ use crate::held::{answer_held, settle_held};
 use crate::holds::Group;
 use crate::inputs::next_frame;
 use crate::outputs::write_reply;
-use crate::seats::Reply;
-use crate::stops::Stop;
+use crate::seats::FrameReply;
+use crate::stops::StreamStop;
 use byteorder::{BigEndian, ByteOrder};
 use codec::WireFault;
 use rows_cell::Records;
@@ -28,7 +28,7 @@ pub enum Behind {
     /// A frame, or what is wrong with one; or none is left.
     Found(Option<Result<Frame, WireFault>>),
     /// The group is lost, before it is committed.
-    Lost(Stop),
+    Lost(StreamStop),
 }
 
 /// What is next in a group.
@@ -43,7 +43,7 @@ pub enum Tried {
     Done,
     /// It is done by itself.
     Alone,
-    Stopped(Stop),
+    Stopped(StreamStop),
 }
 
 /// Does a frame and those behind it that are there, and puts all that is told of them behind what is told.
@@ -156,7 +156,7 @@ fn take_held<R: Records>(
     alloc: Global,
     group: &mut Group<R>,
     sent: &Result<Frame, WireFault>,
-) -> Option<Reply>
+) -> Option<FrameReply>
     ensures { DoesHeld sent.now group.old result group.new }
 {
     match sent {
@@ -165,14 +165,14 @@ fn take_held<R: Records>(
     }
 }
 
-fn take_frame<R: Records>(alloc: Global, group: &mut Group<R>, frame: &Frame) -> Option<Reply>
+fn take_frame<R: Records>(alloc: Global, group: &mut Group<R>, frame: &Frame) -> Option<FrameReply>
     ensures { DoesHeld (Ok frame.now) group.old result group.new }
 {
     match frame {
         Frame::Message(now, request) => {
-            Some(Reply::Answered(answer_held(alloc, group, *now, request)))
+            Some(FrameReply::Answered(answer_held(alloc, group, *now, request)))
         }
-        Frame::Tick(now) => Some(Reply::Swept(settle_held(alloc, group, *now))),
+        Frame::Tick(now) => Some(FrameReply::Swept(settle_held(alloc, group, *now))),
         _ => None,
     }
 }
@@ -181,7 +181,7 @@ fn take_frame<R: Records>(alloc: Global, group: &mut Group<R>, frame: &Frame) ->
 fn put_reply<R: Records>(
     alloc: Global,
     group: &mut Group<R>,
-    reply: &Reply,
+    reply: &FrameReply,
     told: &mut Vec<u8>,
 ) -> Tried
     ensures told { PutsReply result group.old.master reply.now told.old.items told.new.items }
@@ -189,18 +189,18 @@ fn put_reply<R: Records>(
 {
     match group.next_deadline() {
         Ok(deadline) => put_told(alloc, reply, deadline, told),
-        Err(_) => Tried::Stopped(Stop::NoMemory),
+        Err(_) => Tried::Stopped(StreamStop::NoMemory),
     }
 }
 
-fn put_told(alloc: Global, reply: &Reply, deadline: Option<u64>, told: &mut Vec<u8>) -> Tried
+fn put_told(alloc: Global, reply: &FrameReply, deadline: Option<u64>, told: &mut Vec<u8>) -> Tried
     ensures { PutsTold result reply.now deadline told.old.items told.new.items }
 {
     match write_reply(alloc, reply, deadline) {
         Ok(bytes) => match told.extend_from_slice(bytes.as_slice()) {
             Ok(()) => Tried::Done,
-            Err(_) => Tried::Stopped(Stop::NoMemory),
+            Err(_) => Tried::Stopped(StreamStop::NoMemory),
         },
-        Err(_) => Tried::Stopped(Stop::NoMemory),
+        Err(_) => Tried::Stopped(StreamStop::NoMemory),
     }
 }

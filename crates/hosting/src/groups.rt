@@ -11,8 +11,8 @@ use crate::gathers::{Behind, gather, is_there};
 use crate::holds::Group;
 use crate::inputs::next_frame;
 use crate::pieces::GroupTerms;
-use crate::seats::Seat;
-use crate::stops::{GroupStop, Stop};
+use crate::seats::HostedMaster;
+use crate::stops::{GroupStop, StreamStop};
 use crate::streams::{Turned, block_room, serve_found};
 use codec::WireFault;
 use output::write_bytes;
@@ -40,27 +40,27 @@ pub enum Course {
 pub fn serve_groups<R: Records, I: Read, W: Write>(
     alloc: Global,
     terms: GroupTerms,
-    seat: Seat<R>,
+    seat: HostedMaster<R>,
     reader: &mut BufReader<I>,
     writer: &mut W,
-) -> (Seat<R>, Result<(), GroupStop>)
+) -> (HostedMaster<R>, Result<(), GroupStop>)
     requires { (1000 ≤ terms.master.lease) × (terms.master.lease ≤ 60000) }
     ensures { EndsGroups terms (reader_remaining I.remaining reader.old) (hosted R.store seat) result.1 (hosted R.store result.0) (W.contents writer.old) (W.contents writer.new) }
 {
     match block_room(alloc) {
         Ok(mut room) => serve_all(alloc, terms, seat, reader, room.as_mut_slice(), writer),
-        Err(_) => (seat, Err(GroupStop::Stopped(Stop::NoMemory))),
+        Err(_) => (seat, Err(GroupStop::Stopped(StreamStop::NoMemory))),
     }
 }
 
 fn serve_all<R: Records, I: Read, W: Write>(
     alloc: Global,
     terms: GroupTerms,
-    first: Seat<R>,
+    first: HostedMaster<R>,
     reader: &mut BufReader<I>,
     buffer: &mut [u8],
     writer: &mut W,
-) -> (Seat<R>, Result<(), GroupStop>)
+) -> (HostedMaster<R>, Result<(), GroupStop>)
     requires lease { (1000 ≤ terms.master.lease) × (terms.master.lease ≤ 60000) }
     requires room { length buffer.old ≡ 1048576 }
     ensures { EndsGroups terms (reader_remaining I.remaining reader.old) (hosted R.store first) result.1 (hosted R.store result.0) (W.contents writer.old) (W.contents writer.new) }
@@ -75,18 +75,18 @@ fn serve_all<R: Records, I: Read, W: Write>(
             Course::Ends(stop) => return (seat, Err(stop)),
         }
     }
-    (seat, Err(GroupStop::Stopped(Stop::Unread)))
+    (seat, Err(GroupStop::Stopped(StreamStop::Unread)))
 }
 
 // The frames that are there.
 fn serve_some<R: Records, I: Read, W: Write>(
     alloc: Global,
     terms: GroupTerms,
-    seat: Seat<R>,
+    seat: HostedMaster<R>,
     reader: &mut BufReader<I>,
     buffer: &mut [u8],
     writer: &mut W,
-) -> (Seat<R>, Course)
+) -> (HostedMaster<R>, Course)
     requires lease { (1000 ≤ terms.master.lease) × (terms.master.lease ≤ 60000) }
     requires room { length buffer.old ≡ 1048576 }
     ensures { Goes terms (reader_remaining I.remaining reader.old) (hosted R.store seat) result.1 (hosted R.store result.0) (reader_remaining I.remaining reader.new) (W.contents writer.old) (W.contents writer.new) }
@@ -101,12 +101,12 @@ fn serve_some<R: Records, I: Read, W: Write>(
 fn serve_from<R: Records, I: Read, W: Write>(
     alloc: Global,
     terms: GroupTerms,
-    seat: Seat<R>,
+    seat: HostedMaster<R>,
     found: Option<Result<Frame, WireFault>>,
     reader: &mut BufReader<I>,
     buffer: &mut [u8],
     writer: &mut W,
-) -> (Seat<R>, Course)
+) -> (HostedMaster<R>, Course)
     requires lease { (1000 ≤ terms.master.lease) × (terms.master.lease ≤ 60000) }
     requires room { length buffer.old ≡ 1048576 }
     ensures { GoesBy terms found (reader_remaining I.remaining reader.old) (hosted R.store seat) result.1 (hosted R.store result.0) (reader_remaining I.remaining reader.new) (W.contents writer.old) (W.contents writer.new) }
@@ -124,19 +124,25 @@ fn serve_from<R: Records, I: Read, W: Write>(
 fn serve_sent<R: Records, I: Read, W: Write>(
     alloc: Global,
     terms: GroupTerms,
-    seat: Seat<R>,
+    seat: HostedMaster<R>,
     sent: Result<Frame, WireFault>,
     reader: &mut BufReader<I>,
     buffer: &mut [u8],
     writer: &mut W,
-) -> (Seat<R>, Course)
+) -> (HostedMaster<R>, Course)
     requires lease { (1000 ≤ terms.master.lease) × (terms.master.lease ≤ 60000) }
     requires room { length buffer.old ≡ 1048576 }
     ensures { GoesBy terms (Some sent) (reader_remaining I.remaining reader.old) (hosted R.store seat) result.1 (hosted R.store result.0) (reader_remaining I.remaining reader.new) (W.contents writer.old) (W.contents writer.new) }
 {
     match seat {
-        Seat::Up(cell) => serve_up(alloc, terms, cell, sent, reader, buffer, writer),
-        Seat::Down(records) => serve_alone(alloc, terms, Seat::Down(records), Some(sent), writer),
+        HostedMaster::Up(cell) => serve_up(alloc, terms, cell, sent, reader, buffer, writer),
+        HostedMaster::Down(records) => serve_alone(
+            alloc,
+            terms,
+            HostedMaster::Down(records),
+            Some(sent),
+            writer,
+        ),
     }
 }
 
@@ -149,7 +155,7 @@ fn serve_up<R: Records, I: Read, W: Write>(
     reader: &mut BufReader<I>,
     buffer: &mut [u8],
     writer: &mut W,
-) -> (Seat<R>, Course)
+) -> (HostedMaster<R>, Course)
     requires lease { (1000 ≤ terms.master.lease) × (terms.master.lease ≤ 60000) }
     requires room { length buffer.old ≡ 1048576 }
     ensures { GoesBy terms (Some sent) (reader_remaining I.remaining reader.old) (with_master cell) result.1 (hosted R.store result.0) (reader_remaining I.remaining reader.new) (W.contents writer.old) (W.contents writer.new) }
@@ -158,7 +164,7 @@ fn serve_up<R: Records, I: Read, W: Write>(
         let group = Group::of(alloc, cell, terms.limits);
         serve_together(alloc, terms, group, sent, reader, buffer, writer)
     } else {
-        serve_alone(alloc, terms, Seat::Up(cell), Some(sent), writer)
+        serve_alone(alloc, terms, HostedMaster::Up(cell), Some(sent), writer)
     }
 }
 
@@ -166,10 +172,10 @@ fn serve_up<R: Records, I: Read, W: Write>(
 fn serve_alone<R: Records, W: Write>(
     alloc: Global,
     terms: GroupTerms,
-    seat: Seat<R>,
+    seat: HostedMaster<R>,
     found: Option<Result<Frame, WireFault>>,
     writer: &mut W,
-) -> (Seat<R>, Course)
+) -> (HostedMaster<R>, Course)
     requires { (1000 ≤ terms.master.lease) × (terms.master.lease ≤ 60000) }
     ensures { (here : Option (List ℕ)) → GoesBy terms found here (hosted R.store seat) result.1 (hosted R.store result.0) here (W.contents writer.old) (W.contents writer.new) }
 {
@@ -196,7 +202,7 @@ fn serve_together<R: Records, I: Read, W: Write>(
     reader: &mut BufReader<I>,
     buffer: &mut [u8],
     writer: &mut W,
-) -> (Seat<R>, Course)
+) -> (HostedMaster<R>, Course)
     requires lease { (1000 ≤ terms.master.lease) × (terms.master.lease ≤ 60000) }
     requires room { length buffer.old ≡ 1048576 }
     requires none { first.held ≡ no_pieces terms.limits }
@@ -212,7 +218,7 @@ fn serve_together<R: Records, I: Read, W: Write>(
             serve_behind(alloc, terms, seat, course, found, writer)
         }
         Behind::Lost(stop) => (
-            Seat::Down(group.lose()),
+            HostedMaster::Down(group.lose()),
             Course::Ends(GroupStop::Stopped(stop)),
         ),
     }
@@ -222,11 +228,11 @@ fn serve_together<R: Records, I: Read, W: Write>(
 fn serve_behind<R: Records, W: Write>(
     alloc: Global,
     terms: GroupTerms,
-    seat: Seat<R>,
+    seat: HostedMaster<R>,
     course: Course,
     found: Option<Result<Frame, WireFault>>,
     writer: &mut W,
-) -> (Seat<R>, Course)
+) -> (HostedMaster<R>, Course)
     requires { (1000 ≤ terms.master.lease) × (terms.master.lease ≤ 60000) }
     ensures { (here : Option (List ℕ)) → ServesBehind terms course found here (hosted R.store seat) result.1 (hosted R.store result.0) (W.contents writer.old) (W.contents writer.new) }
 {
@@ -244,17 +250,24 @@ fn serve_behind<R: Records, W: Write>(
 }
 
 // What is held back is committed, and then all that is told of it is written.
-fn keep<R: Records, W: Write>(group: Group<R>, told: &[u8], writer: &mut W) -> (Seat<R>, Course)
+fn keep<R: Records, W: Write>(
+    group: Group<R>,
+    told: &[u8],
+    writer: &mut W,
+) -> (HostedMaster<R>, Course)
     ensures { Keeps group told.now result.1 (hosted R.store result.0) (W.contents writer.old) (W.contents writer.new) }
 {
     match group.commit() {
         Ok(cell) => match write_bytes(writer, told) {
-            Ok(()) => (Seat::Up(cell), Course::On),
+            Ok(()) => (HostedMaster::Up(cell), Course::On),
             Err(_) => (
-                Seat::Up(cell),
-                Course::Ends(GroupStop::Stopped(Stop::Unwritten)),
+                HostedMaster::Up(cell),
+                Course::Ends(GroupStop::Stopped(StreamStop::Unwritten)),
             ),
         },
-        Err((fault, records)) => (Seat::Down(records), Course::Ends(GroupStop::Refused(fault))),
+        Err((fault, records)) => (
+            HostedMaster::Down(records),
+            Course::Ends(GroupStop::Refused(fault)),
+        ),
     }
 }

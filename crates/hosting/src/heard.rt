@@ -8,8 +8,8 @@ ghost use Rattle.hosting.specs.Told.{told, told_behind};
 
 use crate::frames::{fields_of, read_moment};
 use crate::kinds::{FLAGS, TOLD_KINDS, ToldKind, WIRE_FAULTS};
-use crate::standing::Counts;
-use crate::tellings::Told;
+use crate::standing::MasterCounts;
+use crate::tellings::MasterFrame;
 use byteorder::{BigEndian, ByteOrder};
 use codec::{WireFault, read_out};
 use collections::Bytes;
@@ -17,7 +17,7 @@ use std::alloc::Global;
 use tags_cell::ClientNumber;
 
 /// What is told in all of these bytes, without the number in front; or what is wrong with them, the first from the left.
-pub fn read_told(alloc: Global, bytes: &[u8]) -> Result<Told, WireFault>
+pub fn read_told(alloc: Global, bytes: &[u8]) -> Result<MasterFrame, WireFault>
     ensures told { Gives WireFault.NoMemory result (read_whole told bytes.now) }
     ensures back { IfOk result (λ x. written told x ≡ Ok bytes.now) }
 {
@@ -29,7 +29,7 @@ pub fn read_told(alloc: Global, bytes: &[u8]) -> Result<Told, WireFault>
 
 // The kind of what is told, and its fields.
 #[tactic(auto, unfolding(crate::specs::Told::told))]
-fn read_fields(alloc: Global, bytes: &[u8]) -> Result<Told, WireFault>
+fn read_fields(alloc: Global, bytes: &[u8]) -> Result<MasterFrame, WireFault>
     requires { length bytes.now < 2 ^ 32 }
     ensures { Gives WireFault.NoMemory result (all_of (told.read bytes.now)) }
 {
@@ -42,7 +42,7 @@ fn read_fields(alloc: Global, bytes: &[u8]) -> Result<Told, WireFault>
     read_fields_of(alloc, *kind, rest)
 }
 
-fn read_fields_of(alloc: Global, kind: ToldKind, bytes: &[u8]) -> Result<Told, WireFault>
+fn read_fields_of(alloc: Global, kind: ToldKind, bytes: &[u8]) -> Result<MasterFrame, WireFault>
     requires { length bytes.now < 2 ^ 32 }
     ensures { Gives WireFault.NoMemory result (all_of (told_behind kind bytes.now)) }
 {
@@ -52,10 +52,10 @@ fn read_fields_of(alloc: Global, kind: ToldKind, bytes: &[u8]) -> Result<Told, W
         ToldKind::Bad => read_bad(bytes),
         ToldKind::End => read_end(bytes),
         ToldKind::Counts => read_counts(bytes),
-        ToldKind::Recovers => Ok(Told::Recovers(read_moment(bytes)?)),
-        ToldKind::Waits => Ok(Told::Waits(read_moment(bytes)?)),
+        ToldKind::Recovers => Ok(MasterFrame::Recovers(read_moment(bytes)?)),
+        ToldKind::Waits => Ok(MasterFrame::Waits(read_moment(bytes)?)),
         ToldKind::Touches => read_name(alloc, bytes),
-        ToldKind::Awaited => Ok(Told::Awaited(read_moment(bytes)?)),
+        ToldKind::Awaited => Ok(MasterFrame::Awaited(read_moment(bytes)?)),
     }
 }
 
@@ -78,27 +78,27 @@ fn read_text(alloc: Global, bytes: &[u8]) -> Result<Bytes, WireFault>
 }
 
 // All bytes of a line.
-fn read_line(alloc: Global, bytes: &[u8]) -> Result<Told, WireFault>
+fn read_line(alloc: Global, bytes: &[u8]) -> Result<MasterFrame, WireFault>
     requires { length bytes.now < 2 ^ 32 }
     ensures { Gives WireFault.NoMemory result (all_of (told_behind ToldKind.Line bytes.now)) }
 {
     match codec::read_line(alloc, bytes) {
-        Ok(printed) => Ok(Told::Line(printed)),
+        Ok(printed) => Ok(MasterFrame::Line(printed)),
         Err(fault) => Err(fault),
     }
 }
 
-fn read_name(alloc: Global, bytes: &[u8]) -> Result<Told, WireFault>
+fn read_name(alloc: Global, bytes: &[u8]) -> Result<MasterFrame, WireFault>
     ensures { Gives WireFault.NoMemory result (all_of (told_behind ToldKind.Touches bytes.now)) }
 {
     match read_text(alloc, bytes) {
-        Ok(text) => Ok(Told::Touches(text)),
+        Ok(text) => Ok(MasterFrame::Touches(text)),
         Err(fault) => Err(fault),
     }
 }
 
 // A client, and behind it all bytes of a message.
-fn read_message(alloc: Global, bytes: &[u8]) -> Result<Told, WireFault>
+fn read_message(alloc: Global, bytes: &[u8]) -> Result<MasterFrame, WireFault>
     requires { length bytes.now < 2 ^ 32 }
     ensures { Gives WireFault.NoMemory result (all_of (told_behind ToldKind.Message bytes.now)) }
 {
@@ -110,13 +110,13 @@ fn read_message(alloc: Global, bytes: &[u8]) -> Result<Told, WireFault>
         return Err(WireFault::BadNumber);
     };
     match read_out(alloc, back) {
-        Ok(message) => Ok(Told::Message(client, message)),
+        Ok(message) => Ok(MasterFrame::Message(client, message)),
         Err(fault) => Err(fault),
     }
 }
 
 // The place of a fault among all of them.
-fn read_bad(bytes: &[u8]) -> Result<Told, WireFault>
+fn read_bad(bytes: &[u8]) -> Result<MasterFrame, WireFault>
     ensures { result ≡ all_of (told_behind ToldKind.Bad bytes.now) }
 {
     let [place, rest @ ..] = bytes else {
@@ -128,20 +128,20 @@ fn read_bad(bytes: &[u8]) -> Result<Told, WireFault>
     if !rest.is_empty() {
         return Err(WireFault::Extra);
     }
-    Ok(Told::Bad(*fault))
+    Ok(MasterFrame::Bad(*fault))
 }
 
 // Whether there is a moment, and the moment.
 #[tactic(auto, unfolding(codec::specs::Fields::optional_word))]
-fn read_end(bytes: &[u8]) -> Result<Told, WireFault>
+fn read_end(bytes: &[u8]) -> Result<MasterFrame, WireFault>
     ensures { result ≡ all_of (told_behind ToldKind.End bytes.now) }
 {
     let [place, rest @ ..] = bytes else {
         return Err(WireFault::Cut);
     };
     match FLAGS.get(usize::from(*place)) {
-        Some(true) => Ok(Told::End(Some(read_moment(rest)?))),
-        Some(false) if rest.is_empty() => Ok(Told::End(None)),
+        Some(true) => Ok(MasterFrame::End(Some(read_moment(rest)?))),
+        Some(false) if rest.is_empty() => Ok(MasterFrame::End(None)),
         Some(false) => Err(WireFault::Extra),
         None => Err(WireFault::BadKind),
     }
@@ -161,7 +161,7 @@ fn next_word(bytes: &[u8]) -> Result<(u64, &[u8]), WireFault>
 }
 
 // Five words, and nothing behind them.
-fn read_counts(bytes: &[u8]) -> Result<Told, WireFault>
+fn read_counts(bytes: &[u8]) -> Result<MasterFrame, WireFault>
     ensures { result ≡ all_of (told_behind ToldKind.Counts bytes.now) }
 {
     let (epoch, bytes) = next_word(bytes)?;
@@ -172,7 +172,7 @@ fn read_counts(bytes: &[u8]) -> Result<Told, WireFault>
     if !bytes.is_empty() {
         return Err(WireFault::Extra);
     }
-    Ok(Told::Counts(Counts {
+    Ok(MasterFrame::Counts(MasterCounts {
         epoch,
         sessions,
         nodes,

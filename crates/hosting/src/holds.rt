@@ -22,7 +22,7 @@ use tags_cell::Request;
 #[derive(Drop)]
 pub struct Group<R: Records> {
     records: R,
-    master: cell_core::Cell,
+    master: cell_core::MemoryMaster,
     held: Pieces,
     // Whether the last frame left something to do.
     has_more: bool,

@@ -6,7 +6,7 @@ ghost use Rattle.hosting.specs.Streams.{Drops, Fits, in_buffer, frame_of, FoundB
 
 use crate::blocks::BLOCK_LIMIT;
 use crate::frames::{Frame, read_frame};
-use crate::stops::Stop;
+use crate::stops::StreamStop;
 use byteorder::{BigEndian, ByteOrder};
 use codec::WireFault;
 use std::alloc::Global;
@@ -17,10 +17,10 @@ pub(crate) fn next_frame<I: Read>(
     alloc: Global,
     reader: &mut I,
     buffer: &mut [u8],
-) -> Result<Option<Result<Frame, WireFault>>, Stop>
+) -> Result<Option<Result<Frame, WireFault>>, StreamStop>
     requires { length buffer.old ≡ 1048576 }
     ensures found { IfOk result (λ found. FoundFrame found (I.remaining reader.old) (I.remaining reader.new)) }
-    ensures only { IfErr result (λ stop. stop ≡ Stop.Unread) }
+    ensures only { IfErr result (λ stop. stop ≡ StreamStop.Unread) }
 {
     let found = next_block(reader, buffer)?;
     match found {
@@ -48,10 +48,10 @@ fn frame_in(
 fn next_block<I: Read>(
     reader: &mut I,
     buffer: &mut [u8],
-) -> Result<Option<Result<usize, WireFault>>, Stop>
+) -> Result<Option<Result<usize, WireFault>>, StreamStop>
     requires { length buffer.old ≡ 1048576 }
     ensures found { IfOk result (λ found. FoundBlock found buffer.new (I.remaining reader.old) (I.remaining reader.new)) }
-    ensures only { IfErr result (λ stop. stop ≡ Stop.Unread) }
+    ensures only { IfErr result (λ stop. stop ≡ StreamStop.Unread) }
 {
     let mut head = [0; 4];
     let found = fill(reader, &mut head)?;
@@ -70,10 +70,10 @@ fn block_behind<I: Read>(
     reader: &mut I,
     count: usize,
     buffer: &mut [u8],
-) -> Result<Result<usize, WireFault>, Stop>
+) -> Result<Result<usize, WireFault>, StreamStop>
     requires { length buffer.old ≡ 1048576 }
     ensures found { IfOk result (λ block. FoundBehind count block buffer.new (I.remaining reader.old) (I.remaining reader.new)) }
-    ensures only { IfErr result (λ stop. stop ≡ Stop.Unread) }
+    ensures only { IfErr result (λ stop. stop ≡ StreamStop.Unread) }
 {
     if count > BLOCK_LIMIT {
         skip(reader, count, buffer)?;
@@ -87,10 +87,10 @@ fn block_behind<I: Read>(
 }
 
 // Passes over so many bytes, or over all that are left.
-fn skip<I: Read>(reader: &mut I, count: usize, buffer: &mut [u8]) -> Result<(), Stop>
+fn skip<I: Read>(reader: &mut I, count: usize, buffer: &mut [u8]) -> Result<(), StreamStop>
     requires { length buffer.old ≡ 1048576 }
     ensures dropped { OnOk result (Drops count (I.remaining reader.old) (I.remaining reader.new)) }
-    ensures only { IfErr result (λ stop. stop ≡ Stop.Unread) }
+    ensures only { IfErr result (λ stop. stop ≡ StreamStop.Unread) }
 {
     let mut left = count;
     while left > 0 {
@@ -105,11 +105,11 @@ fn skip<I: Read>(reader: &mut I, count: usize, buffer: &mut [u8]) -> Result<(), 
 }
 
 // Fills the buffer from its front, and gives how many bytes there were; fewer at the end alone.
-fn fill<I: Read>(reader: &mut I, buffer: &mut [u8]) -> Result<usize, Stop>
+fn fill<I: Read>(reader: &mut I, buffer: &mut [u8]) -> Result<usize, StreamStop>
     ensures bound { IfOk result (λ count. count ≤ length buffer.new) }
     ensures bytes { IfOk result (λ count. Consumes (I.remaining reader.old) (I.remaining reader.new) (take count buffer.new)) }
     ensures end { IfOk result (λ count. count < length buffer.old → IsAtEnd (I.remaining reader.new)) }
-    ensures only { IfErr result (λ stop. stop ≡ Stop.Unread) }
+    ensures only { IfErr result (λ stop. stop ≡ StreamStop.Unread) }
 {
     let mut at = 0;
     for _turn in 0..u64::MAX {
@@ -122,25 +122,25 @@ fn fill<I: Read>(reader: &mut I, buffer: &mut [u8]) -> Result<usize, Stop>
             Err(stop) => return Err(stop),
         }
     }
-    Err(Stop::Unread)
+    Err(StreamStop::Unread)
 }
 
 // One read, again where a signal interrupts it.
-fn read_some<I: Read>(reader: &mut I, buffer: &mut [u8]) -> Result<usize, Stop>
+fn read_some<I: Read>(reader: &mut I, buffer: &mut [u8]) -> Result<usize, StreamStop>
     ensures bound { IfOk result (λ count. count ≤ length buffer.new) }
     ensures bytes { IfOk result (λ count. Consumes (I.remaining reader.old) (I.remaining reader.new) (take count buffer.new)) }
     ensures end { IfOk result (λ count. count ≡ 0 → 0 < length buffer.old → IsAtEnd (I.remaining reader.new)) }
-    ensures only { IfErr result (λ stop. stop ≡ Stop.Unread) }
+    ensures only { IfErr result (λ stop. stop ≡ StreamStop.Unread) }
 {
     for _turn in 0..u64::MAX {
         match reader.read(buffer) {
             Ok(count) => return Ok(count),
             Err(error) => {
                 if error.kind() != ErrorKind::Interrupted {
-                    return Err(Stop::Unread);
+                    return Err(StreamStop::Unread);
                 }
             }
         }
     }
-    Err(Stop::Unread)
+    Err(StreamStop::Unread)
 }

@@ -38,13 +38,13 @@ pub use laws::{
 };
 pub use outputs::write_reply;
 pub use pieces::{GroupLimits, GroupTerms};
-pub use runs::{Asked, serve};
-pub use seats::{Reply, Seat};
+pub use runs::{TimedRequest, serve};
+pub use seats::{FrameReply, HostedMaster};
 pub use settling::{End, Round, SWEEP_LIMIT, Settled, settle};
-pub use standing::{Counts, Delay, LONGEST_LIMIT, Recovery, Standing, standing_of};
-pub use stops::{GroupStop, Stop};
+pub use standing::{Delay, LONGEST_LIMIT, MasterCounts, MasterStanding, Recovery, standing_of};
+pub use stops::{GroupStop, StreamStop};
 pub use streams::{Turned, serve_on};
 pub use tellings::{
-    Told, write_awaited, write_bad, write_counts, write_end, write_line, write_message,
+    MasterFrame, write_awaited, write_bad, write_counts, write_end, write_line, write_message,
     write_recovers, write_touches, write_waits,
 };

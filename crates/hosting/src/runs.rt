@@ -11,7 +11,7 @@ use tags_cell::Request;
 
 /// A message with the moment at which it comes, in milliseconds.
 #[derive(Drop)]
-pub struct Asked {
+pub struct TimedRequest {
     pub now: u64,
     pub request: Request,
 }
@@ -21,7 +21,7 @@ pub struct Asked {
 pub fn serve<R: Records>(
     alloc: Global,
     cell: &mut Cell<R>,
-    asked: &[Asked],
+    asked: &[TimedRequest],
 ) -> Result<Items<Answered>, AllocError>
     ensures served { IfOk result (λ answers. Serves cell.old asked.now answers cell.new) }
     ensures err { OnErr result (cell.new ≡ cell.old) }

@@ -6,7 +6,7 @@ ghost use Rattle.hosting.specs.Standing.{standing_of};
 use crate::answers::{Answered, answer};
 use crate::frames::Frame;
 use crate::settling::{Settled, settle};
-use crate::standing::{Standing, standing_of};
+use crate::standing::{MasterStanding, standing_of};
 use codec::WireFault;
 use master_state::Master;
 use node_core::Fault;
@@ -17,14 +17,14 @@ use tags_cell::Request;
 
 /// The records of a cell by themselves, or with the master that is up over them.
 #[derive(Drop)]
-pub enum Seat<R: Records> {
+pub enum HostedMaster<R: Records> {
     Up(Cell<R>),
     Down(R),
 }
 
 /// What is answered to a frame.
 #[derive(Drop)]
-pub enum Reply {
+pub enum FrameReply {
     /// What was sent is no frame, and nothing changes.
     Bad(WireFault),
     /// What it asks for is refused.
@@ -35,17 +35,17 @@ pub enum Reply {
     Swept(Settled),
     /// The master is gone.
     Gone,
-    Stands(Standing),
+    Stands(MasterStanding),
 }
 
-impl<R: Records> Seat<R> {
+impl<R: Records> HostedMaster<R> {
     /// The records. A master that is up is gone.
     pub fn close(self) -> R
         ensures { R.store result ≡ (hosted R.store self).store }
     {
         match self {
-            Seat::Up(cell) => cell.down(),
-            Seat::Down(records) => records,
+            HostedMaster::Up(cell) => cell.down(),
+            HostedMaster::Down(records) => records,
         }
     }
 
@@ -55,13 +55,13 @@ impl<R: Records> Seat<R> {
         alloc: Global,
         terms: MasterTerms,
         sent: &Result<Frame, WireFault>,
-    ) -> (Seat<R>, Reply)
+    ) -> (HostedMaster<R>, FrameReply)
         requires { (1000 ≤ terms.lease) × (terms.lease ≤ 60000) }
         ensures { Does terms sent.now (hosted R.store self) result.1 (hosted R.store result.0) }
     {
         match sent {
             Ok(frame) => self.do_frame(alloc, terms, frame),
-            Err(fault) => (self, Reply::Bad(*fault)),
+            Err(fault) => (self, FrameReply::Bad(*fault)),
         }
     }
 
@@ -72,12 +72,17 @@ impl<R: Records> Seat<R> {
         ensures same { hosted R.store self.new ≡ hosted R.store self.old }
     {
         match self {
-            Seat::Up(cell) => cell.next_deadline(),
-            Seat::Down(_) => Ok(None),
+            HostedMaster::Up(cell) => cell.next_deadline(),
+            HostedMaster::Down(_) => Ok(None),
         }
     }
 
-    fn do_frame(self, alloc: Global, terms: MasterTerms, frame: &Frame) -> (Seat<R>, Reply)
+    fn do_frame(
+        self,
+        alloc: Global,
+        terms: MasterTerms,
+        frame: &Frame,
+    ) -> (HostedMaster<R>, FrameReply)
         requires { (1000 ≤ terms.lease) × (terms.lease ≤ 60000) }
         ensures { DoesFrame terms frame.now (hosted R.store self) result.1 (hosted R.store result.0) }
     {
@@ -90,75 +95,90 @@ impl<R: Records> Seat<R> {
         }
     }
 
-    fn come_up(self, alloc: Global, terms: MasterTerms, now: u64) -> (Seat<R>, Reply)
+    fn come_up(self, alloc: Global, terms: MasterTerms, now: u64) -> (HostedMaster<R>, FrameReply)
         requires { (1000 ≤ terms.lease) × (terms.lease ≤ 60000) }
         ensures { Arrives terms now (hosted R.store self).master (hosted R.store self).store result.1 (hosted R.store result.0) }
     {
         match self {
-            Seat::Up(cell) => (Seat::Up(cell), Reply::Refused(Fault::MasterUp)),
-            Seat::Down(records) => match Cell::up(alloc, records, terms, now) {
+            HostedMaster::Up(cell) => (
+                HostedMaster::Up(cell),
+                FrameReply::Refused(Fault::MasterUp),
+            ),
+            HostedMaster::Down(records) => match Cell::up(alloc, records, terms, now) {
                 Ok(mut cell) => {
                     let epoch = cell.epoch();
                     let settled = settle(alloc, &mut cell, now);
-                    (Seat::Up(cell), Reply::Came(epoch, settled))
+                    (HostedMaster::Up(cell), FrameReply::Came(epoch, settled))
                 }
-                Err((fault, records)) => (Seat::Down(records), Reply::Refused(fault)),
+                Err((fault, records)) => (HostedMaster::Down(records), FrameReply::Refused(fault)),
             },
         }
     }
 
-    fn hear(self, alloc: Global, now: u64, request: &Request) -> (Seat<R>, Reply)
+    fn hear(self, alloc: Global, now: u64, request: &Request) -> (HostedMaster<R>, FrameReply)
         ensures { Listens now request.now (hosted R.store self).master (hosted R.store self).store result.1 (hosted R.store result.0) }
     {
         match self {
-            Seat::Up(mut cell) => {
+            HostedMaster::Up(mut cell) => {
                 let answered = answer(alloc, &mut cell, now, request);
-                (Seat::Up(cell), Reply::Answered(answered))
+                (HostedMaster::Up(cell), FrameReply::Answered(answered))
             }
-            Seat::Down(records) => (Seat::Down(records), Reply::Refused(Fault::MasterDown)),
+            HostedMaster::Down(records) => (
+                HostedMaster::Down(records),
+                FrameReply::Refused(Fault::MasterDown),
+            ),
         }
     }
 
-    fn sweep(self, alloc: Global, now: u64) -> (Seat<R>, Reply)
+    fn sweep(self, alloc: Global, now: u64) -> (HostedMaster<R>, FrameReply)
         ensures { Ticks now (hosted R.store self).master (hosted R.store self).store result.1 (hosted R.store result.0) }
     {
         match self {
-            Seat::Up(mut cell) => {
+            HostedMaster::Up(mut cell) => {
                 let settled = settle(alloc, &mut cell, now);
-                (Seat::Up(cell), Reply::Swept(settled))
+                (HostedMaster::Up(cell), FrameReply::Swept(settled))
             }
-            Seat::Down(records) => (Seat::Down(records), Reply::Refused(Fault::MasterDown)),
+            HostedMaster::Down(records) => (
+                HostedMaster::Down(records),
+                FrameReply::Refused(Fault::MasterDown),
+            ),
         }
     }
 
-    fn go(self) -> (Seat<R>, Reply)
+    fn go(self) -> (HostedMaster<R>, FrameReply)
         ensures { Leaves (hosted R.store self).master (hosted R.store self).store result.1 (hosted R.store result.0) }
     {
         match self {
-            Seat::Up(cell) => (Seat::Down(cell.down()), Reply::Gone),
-            Seat::Down(records) => (Seat::Down(records), Reply::Refused(Fault::MasterDown)),
+            HostedMaster::Up(cell) => (HostedMaster::Down(cell.down()), FrameReply::Gone),
+            HostedMaster::Down(records) => (
+                HostedMaster::Down(records),
+                FrameReply::Refused(Fault::MasterDown),
+            ),
         }
     }
 
-    fn stand(self, alloc: Global) -> (Seat<R>, Reply)
+    fn stand(self, alloc: Global) -> (HostedMaster<R>, FrameReply)
         ensures { Stands (hosted R.store self).master (hosted R.store self).store result.1 (hosted R.store result.0) }
     {
         match self {
-            Seat::Up(cell) => {
+            HostedMaster::Up(cell) => {
                 let reply = shown(alloc, cell.master());
-                (Seat::Up(cell), reply)
+                (HostedMaster::Up(cell), reply)
             }
-            Seat::Down(records) => (Seat::Down(records), Reply::Refused(Fault::MasterDown)),
+            HostedMaster::Down(records) => (
+                HostedMaster::Down(records),
+                FrameReply::Refused(Fault::MasterDown),
+            ),
         }
     }
 }
 
 // How a master stands, unless memory is wanting.
-fn shown(alloc: Global, master: &Master) -> Reply
+fn shown(alloc: Global, master: &Master) -> FrameReply
     ensures { Shows (standing_of master.now) result }
 {
     match standing_of(alloc, master) {
-        Ok(standing) => Reply::Stands(standing),
-        Err(_) => Reply::Refused(Fault::NoMemory),
+        Ok(standing) => FrameReply::Stands(standing),
+        Err(_) => FrameReply::Refused(Fault::NoMemory),
     }
 }

@@ -21,7 +21,7 @@ pub const LONGEST_LIMIT: usize = 10;
 
 /// How much a master has.
 #[derive(Clone, Copy)]
-pub struct Counts {
+pub struct MasterCounts {
     pub epoch: u64,
     /// Its sessions, those that have ended included.
     pub sessions: u64,
@@ -54,8 +54,8 @@ pub struct Delay {
 
 /// How a master stands.
 #[derive(Drop)]
-pub struct Standing {
-    pub counts: Counts,
+pub struct MasterStanding {
+    pub counts: MasterCounts,
     /// None where it doesn't recover.
     pub recovery: Option<Recovery>,
     /// The changes that have waited longest, the first of them first: at most ten.
@@ -64,23 +64,23 @@ pub struct Standing {
 
 /// How a master stands. Nothing changes. The counts cost a look-up each. While it recovers all sessions are walked over
 /// twice, and once for each of the ten changes that a right holds up.
-pub fn standing_of(alloc: Global, master: &Master) -> Result<Standing, AllocError>
+pub fn standing_of(alloc: Global, master: &Master) -> Result<MasterStanding, AllocError>
     ensures { IfOk result (λ standing. standing ≡ standing_of master.now) }
 {
     let counts = counts_of(master);
     let recovery = recovery_of(alloc, master)?;
     let longest = longest_of(alloc, master)?;
-    Ok(Standing {
+    Ok(MasterStanding {
         counts,
         recovery,
         longest,
     })
 }
 
-fn counts_of(master: &Master) -> Counts
+fn counts_of(master: &Master) -> MasterCounts
     ensures { result ≡ counts_of master.now }
 {
-    Counts {
+    MasterCounts {
         epoch: master.epoch(),
         sessions: master.sessions().as_map().len() as u64,
         nodes: master.map().as_map().len() as u64,

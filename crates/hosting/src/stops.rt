@@ -5,7 +5,7 @@ use std::alloc::{AllocError, AllocFailed};
 
 /// Why the frames of a stream are answered no further.
 #[derive(Clone, Copy, Debug)]
-pub enum Stop {
+pub enum StreamStop {
     /// The stream can't be read.
     Unread,
     /// The answers can't be written.
@@ -17,30 +17,30 @@ pub enum Stop {
 /// Why groups of frames are answered no further.
 #[derive(Clone, Copy)]
 pub enum GroupStop {
-    Stopped(Stop),
+    Stopped(StreamStop),
     /// The store refused what a group changed.
     Refused(Fault),
 }
 
-impl From<AllocError> for Stop {
+impl From<AllocError> for StreamStop {
     ghost use Rattle.std.specs.Prelude.{◌≡◌};
-    ghost use Rattle.hosting.specs.declared.stops.Stop.TheVariants.{NoMemory};
+    ghost use Rattle.hosting.specs.declared.stops.StreamStop.TheVariants.{NoMemory};
 
     ghost from_gives = { λ _ e. e ≡ NoMemory };
 
-    fn from(_e: AllocError) -> Stop {
-        Stop::NoMemory
+    fn from(_e: AllocError) -> StreamStop {
+        StreamStop::NoMemory
     }
 }
 
 // An answer of 2^32 bytes or more counts as one that finds no memory.
-impl From<WireFault> for Stop {
+impl From<WireFault> for StreamStop {
     ghost use Rattle.std.specs.Prelude.{◌≡◌};
-    ghost use Rattle.hosting.specs.declared.stops.Stop.TheVariants.{NoMemory};
+    ghost use Rattle.hosting.specs.declared.stops.StreamStop.TheVariants.{NoMemory};
 
     ghost from_gives = { λ _ e. e ≡ NoMemory };
 
-    fn from(_e: WireFault) -> Stop {
-        Stop::NoMemory
+    fn from(_e: WireFault) -> StreamStop {
+        StreamStop::NoMemory
     }
 }

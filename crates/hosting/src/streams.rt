@@ -7,8 +7,8 @@ use crate::blocks::BLOCK_LIMIT;
 use crate::frames::Frame;
 use crate::inputs::next_frame;
 use crate::outputs::write_reply;
-use crate::seats::{Reply, Seat};
-use crate::stops::Stop;
+use crate::seats::{FrameReply, HostedMaster};
+use crate::stops::StreamStop;
 use codec::WireFault;
 use output::write_bytes;
 use rows_cell::{MasterTerms, Records};
@@ -22,7 +22,7 @@ pub enum Turned {
     On,
     /// None is left.
     Over,
-    Stopped(Stop),
+    Stopped(StreamStop),
 }
 
 /// Answers the frames of a stream, one behind the other, to its end: each is done, all that it changes is committed, and
@@ -31,16 +31,16 @@ pub enum Turned {
 pub fn serve_on<R: Records, I: Read, W: Write>(
     alloc: Global,
     terms: MasterTerms,
-    seat: Seat<R>,
+    seat: HostedMaster<R>,
     reader: &mut I,
     writer: &mut W,
-) -> (Seat<R>, Result<(), Stop>)
+) -> (HostedMaster<R>, Result<(), StreamStop>)
     requires { (1000 ≤ terms.lease) × (terms.lease ≤ 60000) }
     ensures { Ends terms (I.remaining reader.old) (hosted R.store seat) result.1 (hosted R.store result.0) (W.contents writer.old) (W.contents writer.new) }
 {
     match block_room(alloc) {
         Ok(mut room) => serve_frames(alloc, terms, seat, reader, room.as_mut_slice(), writer),
-        Err(_) => (seat, Err(Stop::NoMemory)),
+        Err(_) => (seat, Err(StreamStop::NoMemory)),
     }
 }
 
@@ -56,11 +56,11 @@ pub(crate) fn block_room(alloc: Global) -> Result<Vec<u8>, AllocError>
 fn serve_frames<R: Records, I: Read, W: Write>(
     alloc: Global,
     terms: MasterTerms,
-    first: Seat<R>,
+    first: HostedMaster<R>,
     reader: &mut I,
     buffer: &mut [u8],
     writer: &mut W,
-) -> (Seat<R>, Result<(), Stop>)
+) -> (HostedMaster<R>, Result<(), StreamStop>)
     requires lease { (1000 ≤ terms.lease) × (terms.lease ≤ 60000) }
     requires room { length buffer.old ≡ 1048576 }
     ensures { Ends terms (I.remaining reader.old) (hosted R.store first) result.1 (hosted R.store result.0) (W.contents writer.old) (W.contents writer.new) }
@@ -75,18 +75,18 @@ fn serve_frames<R: Records, I: Read, W: Write>(
             Turned::Stopped(stop) => return (seat, Err(stop)),
         }
     }
-    (seat, Err(Stop::Unread))
+    (seat, Err(StreamStop::Unread))
 }
 
 // One frame.
 fn serve_frame<R: Records, I: Read, W: Write>(
     alloc: Global,
     terms: MasterTerms,
-    seat: Seat<R>,
+    seat: HostedMaster<R>,
     reader: &mut I,
     buffer: &mut [u8],
     writer: &mut W,
-) -> (Seat<R>, Turned)
+) -> (HostedMaster<R>, Turned)
     requires lease { (1000 ≤ terms.lease) × (terms.lease ≤ 60000) }
     requires room { length buffer.old ≡ 1048576 }
     ensures { TakesTurn terms (I.remaining reader.old) (hosted R.store seat) result.1 (hosted R.store result.0) (I.remaining reader.new) (W.contents writer.old) (W.contents writer.new) }
@@ -101,10 +101,10 @@ fn serve_frame<R: Records, I: Read, W: Write>(
 pub(crate) fn serve_found<R: Records, W: Write>(
     alloc: Global,
     terms: MasterTerms,
-    seat: Seat<R>,
+    seat: HostedMaster<R>,
     found: Option<Result<Frame, WireFault>>,
     writer: &mut W,
-) -> (Seat<R>, Turned)
+) -> (HostedMaster<R>, Turned)
     requires { (1000 ≤ terms.lease) × (terms.lease ≤ 60000) }
     ensures { DoesFound terms found (hosted R.store seat) result.1 (hosted R.store result.0) (W.contents writer.old) (W.contents writer.new) }
 {
@@ -123,8 +123,8 @@ pub(crate) fn serve_found<R: Records, W: Write>(
 // Writes all that is told of a frame, with the next deadline, and flushes it. The seat stays as it is.
 fn tell<R: Records, W: Write>(
     alloc: Global,
-    seat: &mut Seat<R>,
-    reply: &Reply,
+    seat: &mut HostedMaster<R>,
+    reply: &FrameReply,
     writer: &mut W,
 ) -> Turned
     ensures told { IsTold result (hosted R.store seat.old).master reply.now (W.contents writer.old) (W.contents writer.new) }
@@ -132,18 +132,23 @@ fn tell<R: Records, W: Write>(
 {
     match seat.next_deadline() {
         Ok(deadline) => tell_all(alloc, reply, deadline, writer),
-        Err(_) => Turned::Stopped(Stop::NoMemory),
+        Err(_) => Turned::Stopped(StreamStop::NoMemory),
     }
 }
 
-fn tell_all<W: Write>(alloc: Global, reply: &Reply, deadline: Option<u64>, writer: &mut W) -> Turned
+fn tell_all<W: Write>(
+    alloc: Global,
+    reply: &FrameReply,
+    deadline: Option<u64>,
+    writer: &mut W,
+) -> Turned
     ensures { IsWritten result reply.now deadline (W.contents writer.old) (W.contents writer.new) }
 {
     match write_reply(alloc, reply, deadline) {
         Ok(bytes) => match write_bytes(writer, bytes.as_slice()) {
             Ok(()) => Turned::On,
-            Err(_) => Turned::Stopped(Stop::Unwritten),
+            Err(_) => Turned::Stopped(StreamStop::Unwritten),
         },
-        Err(_) => Turned::Stopped(Stop::NoMemory),
+        Err(_) => Turned::Stopped(StreamStop::NoMemory),
     }
 }

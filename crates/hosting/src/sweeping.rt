@@ -9,9 +9,9 @@ ghost use Rattle.hosting.specs.Pieces.{held_with};
 ghost use Rattle.over_core.specs.Sweep.{is_quiet, done_and_told, swept, action_edits, sweep_edits, sweep_step};
 
 use crate::pieces::Pieces;
-use cell_core::Cell;
+use cell_core::MemoryMaster;
 use collections::Items;
-use master_parts::Idle;
+use master_parts::Orphan;
 use master_state::{Grown, Update, edits_of};
 use node_core::Fault;
 use over_core::{
@@ -24,7 +24,7 @@ use std::alloc::AllocError;
 /// held. Room for one item is made in a list of the caller's. A refusal leaves the master and what is held as they were.
 #[tactic(auto, unfolding(over_core::specs::Sweep::sweep_step))]
 pub(crate) fn sweep_held<T>(
-    cell: &mut Cell,
+    cell: &mut MemoryMaster,
     held: &mut Pieces,
     now: u64,
     room: &mut Vec<T>,
@@ -51,7 +51,7 @@ pub(crate) fn sweep_held<T>(
 }
 
 // Does the first action that there is, and holds back what it commits.
-fn sweep_at(cell: &mut Cell, held: &mut Pieces) -> Result<Swept, AllocError>
+fn sweep_at(cell: &mut MemoryMaster, held: &mut Pieces) -> Result<Swept, AllocError>
     ensures ok { IfOk result (λ came. swept cell.old (first_action cell.old) ≡ (cell.new, came)) }
     ensures held { OnOk result (held.new ≡ held_with held.old (action_edits cell.old (first_action cell.old))) }
     ensures err { OnErr result ((cell.new ≡ cell.old) × (held.new ≡ held.old)) }
@@ -67,7 +67,7 @@ fn sweep_at(cell: &mut Cell, held: &mut Pieces) -> Result<Swept, AllocError>
 }
 
 // The deletion of an ephemeral node is queued. Nothing is printed, nothing sent, and nobody is told.
-fn tidy(cell: &mut Cell, idle: Idle) -> Result<Swept, AllocError>
+fn tidy(cell: &mut MemoryMaster, idle: Orphan) -> Result<Swept, AllocError>
     requires { is_ok (push_answer cell.old.gate) ≡ true }
     ensures ok { OnOk result (cell.new ≡ tidied cell.old idle) }
     ensures nothing { IfOk result (λ came. came ≡ record { lines = []; outs = []; quiet = false }) }
@@ -78,7 +78,7 @@ fn tidy(cell: &mut Cell, idle: Idle) -> Result<Swept, AllocError>
 }
 
 // Does what is planned for any other action, and behind all else the clients of open handles are told of it.
-fn act(cell: &mut Cell, held: &mut Pieces, action: &Action) -> Result<Swept, AllocError>
+fn act(cell: &mut MemoryMaster, held: &mut Pieces, action: &Action) -> Result<Swept, AllocError>
     ensures ok { IfOk result (λ came. done_and_told cell.old (plan_of cell.old action.now) (is_quiet action.now) ≡ (cell.new, came)) }
     ensures held { OnOk result (held.new ≡ held_with held.old (action_edits cell.old action.now)) }
     ensures err { OnErr result ((cell.new ≡ cell.old) × (held.new ≡ held.old)) }
@@ -103,7 +103,7 @@ fn act(cell: &mut Cell, held: &mut Pieces, action: &Action) -> Result<Swept, All
 }
 
 // The update is done, and what it commits is held back.
-fn hold_edits(cell: &mut Cell, held: &mut Pieces, update: Update) -> Result<(), AllocError>
+fn hold_edits(cell: &mut MemoryMaster, held: &mut Pieces, update: Update) -> Result<(), AllocError>
     requires { BeginsNew cell.old update.session }
     ensures ok { OnOk result (cell.new ≡ done cell.old update) }
     ensures held { OnOk result (held.new ≡ held_with held.old (edits_of cell.old update)) }
@@ -120,7 +120,7 @@ fn hold_edits(cell: &mut Cell, held: &mut Pieces, update: Update) -> Result<(), 
 
 // The update is done, and its edits are held back; where there is no memory it is taken back.
 fn hold(
-    cell: &mut Cell,
+    cell: &mut MemoryMaster,
     held: &mut Pieces,
     update: Update,
     edits: Items<Edit>,

@@ -9,7 +9,7 @@ ghost use Rattle.hosting.specs.Told.{told, out_framed};
 use crate::blocks::{bytes_of, write_framed};
 use crate::frames::write_word;
 use crate::kinds::place_of;
-use crate::standing::Counts;
+use crate::standing::MasterCounts;
 use byteorder::{BigEndian, ByteOrder};
 use codec::{WireFault, write_out};
 use collections::Bytes;
@@ -19,7 +19,7 @@ use tags_cell::{ClientNumber, Out};
 
 /// What a master tells the program that started it.
 #[derive(Drop)]
-pub enum Told {
+pub enum MasterFrame {
     /// A line that is printed.
     Line(Line),
     /// A message, and the client that it goes to.
@@ -30,7 +30,7 @@ pub enum Told {
     /// there isn't at any.
     End(Option<u64>),
     /// How much a master has that is asked how it stands.
-    Counts(Counts),
+    Counts(MasterCounts),
     /// It recovers; by this moment, in milliseconds, the last session that it waits for has ended, unless one is heard from
     /// meanwhile. Behind this stand the clients that it waits for.
     Recovers(u64),
@@ -45,7 +45,7 @@ pub enum Told {
 
 /// The bytes of a line, with their number in front. Refused is a frame of 2^32 bytes or more.
 pub fn write_line(alloc: Global, printed: &Line) -> Result<Bytes, WireFault>
-    ensures { Gives WireFault.NoMemory result (framed told (Told.Line printed.now)) }
+    ensures { Gives WireFault.NoMemory result (framed told (MasterFrame.Line printed.now)) }
 {
     match codec::write_line(alloc, printed) {
         Ok(bytes) => write_framed(alloc, 0, bytes.as_slice(), &[]),
@@ -56,7 +56,7 @@ pub fn write_line(alloc: Global, printed: &Line) -> Result<Bytes, WireFault>
 /// The bytes of a name that a change may change, with their number in front. Refused is a frame of 2^32 bytes or more.
 #[tactic(auto, unfolding(codec::specs::Fields::block, crate::specs::Told::told))]
 pub fn write_touches(alloc: Global, name: &[u8]) -> Result<Bytes, WireFault>
-    ensures { Gives WireFault.NoMemory result (framed told (Told.Touches name.now)) }
+    ensures { Gives WireFault.NoMemory result (framed told (MasterFrame.Touches name.now)) }
 {
     let mut count = [0; 8];
     BigEndian::write_u64(&mut count, name.len() as u64);
@@ -67,7 +67,7 @@ pub fn write_touches(alloc: Global, name: &[u8]) -> Result<Bytes, WireFault>
 /// of 2^32 bytes or more.
 pub fn write_message(alloc: Global, message: &Out) -> Result<Bytes, WireFault>
     ensures bytes { Gives WireFault.NoMemory result (out_framed message.now) }
-    ensures frame { IfOk result (λ bytes. framed told (Told.Message (out_client message.now) message.now) ≡ Ok bytes) }
+    ensures frame { IfOk result (λ bytes. framed told (MasterFrame.Message (out_client message.now) message.now) ≡ Ok bytes) }
 {
     let client = bytes_of(message.client().get());
     match write_out(alloc, message) {
@@ -79,7 +79,7 @@ pub fn write_message(alloc: Global, message: &Out) -> Result<Bytes, WireFault>
 /// The bytes by which it is told that a frame is none, with their number in front.
 #[tactic(auto, unfolding(crate::specs::Told::told))]
 pub fn write_bad(alloc: Global, fault: WireFault) -> Result<Bytes, WireFault>
-    ensures { Gives WireFault.NoMemory result (framed told (Told.Bad fault)) }
+    ensures { Gives WireFault.NoMemory result (framed told (MasterFrame.Bad fault)) }
 {
     write_framed(alloc, 2, &[place_of(fault)], &[])
 }
@@ -88,7 +88,7 @@ pub fn write_bad(alloc: Global, fault: WireFault) -> Result<Bytes, WireFault>
 /// milliseconds, at which there is something to do, if there is one.
 #[tactic(auto, unfolding(codec::specs::Fields::word, codec::specs::Fields::optional_word, crate::specs::Told::told))]
 pub fn write_end(alloc: Global, deadline: Option<u64>) -> Result<Bytes, WireFault>
-    ensures { Gives WireFault.NoMemory result (framed told (Told.End deadline)) }
+    ensures { Gives WireFault.NoMemory result (framed told (MasterFrame.End deadline)) }
 {
     match deadline {
         Some(moment) => write_framed(alloc, 3, &[1], &bytes_of(moment)),
@@ -97,8 +97,8 @@ pub fn write_end(alloc: Global, deadline: Option<u64>) -> Result<Bytes, WireFaul
 }
 
 /// The bytes of what a master has, with their number in front.
-pub fn write_counts(alloc: Global, counts: Counts) -> Result<Bytes, WireFault>
-    ensures { Gives WireFault.NoMemory result (framed told (Told.Counts counts)) }
+pub fn write_counts(alloc: Global, counts: MasterCounts) -> Result<Bytes, WireFault>
+    ensures { Gives WireFault.NoMemory result (framed told (MasterFrame.Counts counts)) }
 {
     let mut words = Vec::with_capacity(alloc, 40)?;
     words.extend_from_slice(&bytes_of(counts.epoch))?;
@@ -112,7 +112,7 @@ pub fn write_counts(alloc: Global, counts: Counts) -> Result<Bytes, WireFault>
 /// The bytes by which it is told that a master recovers, and until when at the latest.
 #[tactic(auto, unfolding(crate::specs::Told::told))]
 pub fn write_recovers(alloc: Global, until: u64) -> Result<Bytes, WireFault>
-    ensures { Gives WireFault.NoMemory result (framed told (Told.Recovers until)) }
+    ensures { Gives WireFault.NoMemory result (framed told (MasterFrame.Recovers until)) }
 {
     write_word(alloc, 5, until)
 }
@@ -120,7 +120,7 @@ pub fn write_recovers(alloc: Global, until: u64) -> Result<Bytes, WireFault>
 /// The bytes by which it is told that the change of a number waits.
 #[tactic(auto, unfolding(crate::specs::Told::told))]
 pub fn write_waits(alloc: Global, number: u64) -> Result<Bytes, WireFault>
-    ensures { Gives WireFault.NoMemory result (framed told (Told.Waits number)) }
+    ensures { Gives WireFault.NoMemory result (framed told (MasterFrame.Waits number)) }
 {
     write_word(alloc, 6, number)
 }
@@ -128,7 +128,7 @@ pub fn write_waits(alloc: Global, number: u64) -> Result<Bytes, WireFault>
 /// The bytes by which it is told that a client is waited for.
 #[tactic(auto, unfolding(crate::specs::Told::told))]
 pub fn write_awaited(alloc: Global, client: u64) -> Result<Bytes, WireFault>
-    ensures { Gives WireFault.NoMemory result (framed told (Told.Awaited client)) }
+    ensures { Gives WireFault.NoMemory result (framed told (MasterFrame.Awaited client)) }
 {
     write_word(alloc, 8, client)
 }

@@ -14,7 +14,7 @@ use Rattle.master_state.specs.declared.updates.Update.{Update}
 use Rattle.master_state.specs.declared.updates.MapRest.{MapRest}
 use Rattle.master_state.specs.declared.updates.SessionUpdate.{SessionUpdate}
 use Rattle.master_state.specs.declared.updates.SessionUpdate.TheVariants.{Begins, Prolongs, Ends, Answers}
-use Rattle.master_parts.specs.declared.handles.Note.{Note}
+use Rattle.master_parts.specs.declared.handles.HandleNote.{HandleNote}
 use Rattle.master_parts.specs.declared.pending.Task.{Task}
 
 -- the same handles are noted, and the same changes wait
@@ -76,11 +76,11 @@ left_gate : (s t : MasterState) (o : Option ℕ) → s.gate ≡ t.gate → (left
 left_gate s t None h = h
 left_gate s t (Some number) h = let leaves : GateState Task → GateState Task = λ g. record g { waiting = without number g.waiting } in ap leaves h
 
-note_handles : (s t : MasterState) (o : Option Note) → s.handles ≡ t.handles → (with_note s o).handles ≡ (with_note t o).handles
+note_handles : (s t : MasterState) (o : Option HandleNote) → s.handles ≡ t.handles → (with_note s o).handles ≡ (with_note t o).handles
 note_handles s t None h = h
 note_handles s t (Some note) h = ap (λ entries. insert_entry handle_order entries note.key note.state) h
 
-note_gate : (s : MasterState) (o : Option Note) → (with_note s o).gate ≡ s.gate
+note_gate : (s : MasterState) (o : Option HandleNote) → (with_note s o).gate ≡ s.gate
 note_gate s None = refl
 note_gate s (Some note) = refl
 

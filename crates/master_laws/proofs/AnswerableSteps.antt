@@ -17,17 +17,17 @@ use Rattle.tags_cell.specs.declared.messages.requests.Request.{Request}
 use Rattle.rights_core.specs.declared.endings.Ending.TheVariants as endings
 use Rattle.gate_core.specs.declared.pending.Waiting.{Waiting}
 use Rattle.gate_core.specs.Gate.{touches, uncachable, pending_limit, push_answer}
-use Rattle.session_core.specs.declared.records.Kept.{Kept}
+use Rattle.session_core.specs.declared.records.LastCall.{LastCall}
 use Rattle.session_core.specs.declared.records.Parked.{Parked}
 use Rattle.session_core.specs.declared.records.Session.{Session}
 use Rattle.session_core.specs.Session.{prolonged, answered, unparked, keeping}
 use Rattle.session_core.specs.Sessions.{session_of, kept_of, is_live, with_session}
 use Rattle.lock_core.specs.declared.partings.Parting.{Parting}
 use Rattle.lock_core.specs.declared.partings.Parting.TheVariants as partings
-use Rattle.master_parts.specs.declared.handles.Note.{Note}
-use Rattle.master_parts.specs.declared.notices.Telling.{Telling}
-use Rattle.master_parts.specs.declared.pending.Asked.{Asked}
-use Rattle.master_parts.specs.declared.pending.Idle.{Idle}
+use Rattle.master_parts.specs.declared.handles.HandleNote.{HandleNote}
+use Rattle.master_parts.specs.declared.notices.SessionEvent.{SessionEvent}
+use Rattle.master_parts.specs.declared.pending.WaitingRequest.{WaitingRequest}
+use Rattle.master_parts.specs.declared.pending.Orphan.{Orphan}
 use Rattle.master_parts.specs.declared.pending.Task.{Task}
 use Rattle.master_parts.specs.declared.pending.Task.TheVariants as tasks
 use Rattle.master_parts.specs.declared.pending.Work.TheVariants as works
@@ -43,7 +43,7 @@ use Rattle.cell_core.specs.Outcomes.{left_put}
 use Rattle.master_state.specs.Updates.{with_note, with_kept, with_locks, without_lock}
 use Rattle.master_state.specs.declared.updates.KeptPut.{KeptPut}
 use Rattle.master_state.specs.declared.updates.LockPut.{LockPut}
-use Rattle.cell_core.specs.declared.asking.Touched.{Touched}
+use Rattle.cell_core.specs.declared.asking.TouchedNames.{TouchedNames}
 use Rattle.cell_core.specs.Cases.{IsBehind, IsNew, IsAdmitted, TakeCase, taken_by}
 use Rattle.cell_core.specs.Cases.TakeCase.{StartRefused, StartRecovering, StartFull, StartQueued, OldBeat, BeatRefused, BeatParked, OldEpoch, NoSession, LeftBefore, Repeated, OlderCall, Outstanding, Recovering, Answered, Granted, Waits}
 use Rattle.cell_core.specs.Ephemerals.{spared_for, is_ok, may_tidy, next_idle}
@@ -63,11 +63,11 @@ use Rattle.master_laws.proofs.Answerable.{tally_in, IsAnswerable, IsAlike, alike
 
 -- ---- what changes neither rights nor tallies
 
-pub noted_alike : (s : MasterState) (note : Option Note) → IsAlike s (with_note s note)
+pub noted_alike : (s : MasterState) (note : Option HandleNote) → IsAlike s (with_note s note)
 noted_alike s None = alike_itself s
 noted_alike s (Some note) = record { rights = refl; lives = λ client h. h; gate = λ name h. h; tallies = λ client. refl }
 
-pub recorded_alike : (s : MasterState) (client : ℕ) (kept : Kept Reply) → IsAlike s (recorded s client kept)
+pub recorded_alike : (s : MasterState) (client : ℕ) (kept : LastCall Reply) → IsAlike s (recorded s client kept)
 recorded_alike s client kept = stepped_alike s client (keeping kept) (λ before. refl) (λ before. refl)
 
 pub puts_alike : (puts : List KeptPut) (s : MasterState) → IsAlike s (with_kept s puts)
@@ -83,7 +83,7 @@ puts_alike (put ∷ puts) s =
       tallies = λ client. t.tallies client ∙ first.tallies client;
     }
 
-pub tellings_alike : (tellings : List Telling) (s : MasterState) → IsAlike s (with_tellings s tellings)
+pub tellings_alike : (tellings : List SessionEvent) (s : MasterState) → IsAlike s (with_tellings s tellings)
 tellings_alike tellings s = record {
   rights = refl;
   lives = λ client live. reads_told lives_in (λ event before. refl) tellings s.sessions client ∙ live;
@@ -106,7 +106,7 @@ rest_alike s front back task turn = record { rights = refl; lives = λ client h.
 
 -- ---- a call that comes
 
-answered_call : (o : Option (Kept Reply)) (number : ℕ) → IsBehind o number → unanswered o ≡ 0
+answered_call : (o : Option (LastCall Reply)) (number : ℕ) → IsBehind o number → unanswered o ≡ 0
 answered_call None number h = refl
 answered_call (Some kept) number h = let is = h.1 in rw is refl
 
@@ -122,11 +122,11 @@ module _ (cell : List ℕ) (rows : Rows) where
   none_of_new s request message new k = none_counts (outstanding s message.client) (unanswered (kept_of s.sessions message.client)) (k.one_call message.client) (answered_call (kept_of s.sessions message.client) message.number new.behind)
 
   -- what waits stands beside its rows before anybody is asked
-  pub with_call_kept : (s : MasterState) (message : CallMessage) (note : Option Note) (touched : Option Touched) → s.recovering ≡ false → nat_le number_limit s.gate.pushed ≡ false → IsAdmitted s message note touched → is_client_number message.client ≡ true → is_live s.sessions message.client ≡ true → outstanding s message.client ≡ 0 → IsKept cell rows s → IsKept cell rows (with_call (with_note s note) message touched)
+  pub with_call_kept : (s : MasterState) (message : CallMessage) (note : Option HandleNote) (touched : Option TouchedNames) → s.recovering ≡ false → nat_le number_limit s.gate.pushed ≡ false → IsAdmitted s message note touched → is_client_number message.client ≡ true → is_live s.sessions message.client ≡ true → outstanding s message.client ≡ 0 → IsKept cell rows s → IsKept cell rows (with_call (with_note s note) message touched)
   with_call_kept s message note touched serving spare admitted in_range live none k =
       let t = with_note s note in
       let client = message.client in
-      let last : Kept Reply = record { number = message.number; reply = None } in
+      let last : LastCall Reply = record { number = message.number; reply = None } in
       let before : MasterState = recorded t client last in
       let noted = note_kept cell rows s note k in
       let none_noted : outstanding t client ≡ 0 = unnoted (λ x. outstanding x client) (λ x n. refl) s note ∙ none in
@@ -167,7 +167,7 @@ module _ (cell : List ℕ) (rows : Rows) where
       (right_answerable t message.client name live free (alike [] s t (noted_alike s note) h))
   case_answerable s request (Waits message note touched new serving admitted) spare k in_range h =
       let t = with_note s note in
-      let last : Kept Reply = record { number = message.number; reply = None } in
+      let last : LastCall Reply = record { number = message.number; reply = None } in
       let before : MasterState = recorded t message.client last in
       asking_all_answerable cell rows (with_call t message touched) (names_of touched)
       (with_call_kept s message note touched serving spare admitted (client_of request _ new.heard.is_call in_range) new.heard.live (none_of_new s request message new k) k)
@@ -205,11 +205,11 @@ same s new rights sessions gate = record {
   tallies = λ client. ap (λ x. tally_in (session_of x client)) sessions;
 }
 
-ended_alike : (s : MasterState) (asked : Asked) (note : Option Note) (answer : CallResult) → IsAlike s (ended s asked note answer)
+ended_alike : (s : MasterState) (asked : WaitingRequest) (note : Option HandleNote) (answer : CallResult) → IsAlike s (ended s asked note answer)
 ended_alike s asked note answer = alike_then s (recorded s asked.client _) (ended s asked note answer) (recorded_alike s asked.client _) (noted_alike (recorded s asked.client _) note)
 
 module _ (cell : List ℕ) (rows : Rows) where
-  pub idle_kept : (s : MasterState) (idle : Idle) → next_idle s ≡ Some idle → IsKept cell rows s → IsKept cell rows (queued s (with_parent idle.name) (tasks.Tidies idle))
+  pub idle_kept : (s : MasterState) (idle : Orphan) → next_idle s ≡ Some idle → IsKept cell rows s → IsKept cell rows (queued s (with_parent idle.name) (tasks.Tidies idle))
   idle_kept s idle due k =
       let may : may_tidy s ≡ true = where_some (may_tidy s) _ idle due in
       let t = and_parts (not s.recovering && nat_le (s.serving_from + spared_for) s.clock) (is_ok (push_answer s.gate)) may in

@@ -2,7 +2,7 @@
 use Rattle.std.proofs.Common.{◌≡◌, ℕ, List, false, cond, Option, sym, ap, ◌∙◌}
 use Rattle.std.specs.Option.{option_map_or}
 use Rattle.tags_cell.specs.declared.messages.calls.Call.{Call}
-use Rattle.master_parts.specs.declared.pending.Asked.{Asked}
+use Rattle.master_parts.specs.declared.pending.WaitingRequest.{WaitingRequest}
 use Rattle.master_parts.specs.declared.pending.Task.{Task}
 use Rattle.master_state.specs.NameSpace.{name_space, caller}
 use Rattle.master_state.specs.State.{MasterState}
@@ -17,14 +17,14 @@ use Rattle.master_laws.specs.Steps.{IsBeingApplied}
 use Rattle.tags_cell.specs.Messages.{is_leave}
 
 -- what is planned for a call with this effect
-abbrev pub plan_for : MasterState → ℕ → Asked → Call → Effect → Plan
+abbrev pub plan_for : MasterState → ℕ → WaitingRequest → Call → Effect → Plan
 plan_for s number asked call effected = leaving number (plan_asked s asked.client asked.number call effected)
 
 -- a plan is done, and clients are told of it
 abbrev pub done_as : MasterState → Plan → MasterState × Swept
 done_as s plan = telling (tellings_of s plan) (swept_by_plan s plan false)
 
-module _ (s : MasterState) (number : ℕ) (asked : Asked) (call : Call) (sequencer : Option (List ℕ)) (turn : IsBeingApplied s number asked call sequencer) (stays : is_leave call ≡ false) where
+module _ (s : MasterState) (number : ℕ) (asked : WaitingRequest) (call : Call) (sequencer : Option (List ℕ)) (turn : IsBeingApplied s number asked call sequencer) (stays : is_leave call ≡ false) where
   pub planned : plan_of s (first_action s) ≡ plan_for s number asked call (effect (name_space s) (caller s asked.client) s.clock asked.number call sequencer)
   planned =
       let client : ℕ = asked.client in

@@ -8,14 +8,14 @@ use Rattle.tags_cell.specs.declared.messages.requests.CallMessage.{CallMessage}
 use Rattle.tags_cell.specs.declared.messages.requests.Request.{Request}
 use Rattle.tags_cell.specs.declared.messages.requests.Request.TheVariants as requests
 use Rattle.master_parts.specs.declared.handles.HandleKey.{HandleKey}
-use Rattle.master_parts.specs.declared.handles.Note.{Note}
+use Rattle.master_parts.specs.declared.handles.HandleNote.{HandleNote}
 use Rattle.master_parts.specs.declared.pending.Task.{Task}
 use Rattle.master_parts.specs.declared.pending.Task.TheVariants as tasks
 use Rattle.master_parts.specs.declared.pending.Work.TheVariants as works
 use Rattle.master_state.specs.State.{MasterState}
 use Rattle.master_state.specs.Lookups.{noted}
 use Rattle.master_state.specs.Updates.{with_note}
-use Rattle.cell_core.specs.declared.asking.Touched.{Touched}
+use Rattle.cell_core.specs.declared.asking.TouchedNames.{TouchedNames}
 use Rattle.cell_core.specs.Step.{admission_for, asking, asking_for, with_call, names_of, task_of}
 use Rattle.cell_core.specs.Cases.{IsNew, TakeCase, taken_by}
 use Rattle.cell_core.specs.Cases.TakeCase.{StartRefused, StartRecovering, StartFull, StartQueued, OldBeat, BeatRefused, BeatParked, OldEpoch, NoSession, LeftBefore, Repeated, OlderCall, Outstanding, Recovering, Answered, Granted, Waits}
@@ -33,7 +33,7 @@ module _ (s : MasterState) (request : Request) (key : HandleKey) (other : asks_t
   not_opened message is = subst (λ r. asks_to_open key r ≡ false) is other
 
   module _ (closed : IsClosed s key) where
-    by_note : (message : CallMessage) (note : Option Note) → IsNew s request message → note ≡ (admission_for s message).note → IsClosed (with_note s note) key
+    by_note : (message : CallMessage) (note : Option HandleNote) → IsNew s request message → note ≡ (admission_for s message).note → IsClosed (with_note s note) key
     by_note message note new is =
         stays_closed s message.client message.number message.call key note closed (not_opened message new.heard.is_call)
         (subst (AreFair s message.client message.number message.call) (sym is) (taken_fair s message))
@@ -66,11 +66,11 @@ module _ (s : MasterState) (request : Request) (key : HandleKey) (other : asks_t
     asked_unasked t [] h = h
     asked_unasked t (name ∷ names) h = asked_unasked (asking t name) names h
 
-    called_unasked : (message : CallMessage) (note : Option Note) (touched : Option Touched) → IsNew s request message → waits_to_open key (with_call (with_note s note) message touched) ≡ false
+    called_unasked : (message : CallMessage) (note : Option HandleNote) (touched : Option TouchedNames) → IsNew s request message → waits_to_open key (with_call (with_note s note) message touched) ≡ false
     called_unasked message None touched new = unasked_behind key s.gate.waiting (record { number = s.gate.pushed + 1; change = record { touched = names_of touched; body = tasks.Asked (task_of message) } }) (not_opened message new.heard.is_call) unasked
     called_unasked message (Some note) touched new = unasked_behind key s.gate.waiting (record { number = s.gate.pushed + 1; change = record { touched = names_of touched; body = tasks.Asked (task_of message) } }) (not_opened message new.heard.is_call) unasked
 
-    noted_unasked : (note : Option Note) → waits_to_open key (with_note s note) ≡ false
+    noted_unasked : (note : Option HandleNote) → waits_to_open key (with_note s note) ≡ false
     noted_unasked None = unasked
     noted_unasked (Some note) = unasked
 

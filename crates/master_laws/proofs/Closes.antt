@@ -16,7 +16,7 @@ use Rattle.master_parts.specs.Keys.{handle_order}
 use Rattle.master_parts.specs.declared.handles.HandleKey.{HandleKey}
 use Rattle.master_parts.specs.declared.handles.HandleState.{HandleState}
 use Rattle.master_parts.specs.declared.handles.HandleState.TheVariants as states
-use Rattle.master_parts.specs.declared.pending.Asked.{Asked}
+use Rattle.master_parts.specs.declared.pending.WaitingRequest.{WaitingRequest}
 use Rattle.master_state.specs.NameSpace.{name_space, caller}
 use Rattle.master_state.specs.State.{MasterState}
 use Rattle.master_parts.specs.Keys.{key_of}
@@ -46,10 +46,10 @@ has_first : (x : Out) (rest : List Out) → Contains (x ∷ rest) x
 has_first x rest = Contains-append_left (x ∷ []) rest x (Contains-push [] x)
 
 -- what is planned for the Close
-abbrev pub close_plan : MasterState → ℕ → Asked → List ℕ → Handle → Plan
+abbrev pub close_plan : MasterState → ℕ → WaitingRequest → List ℕ → Handle → Plan
 close_plan s number asked bytes handle = plan_for s number asked (calls.Close bytes) (close_at (name_space s) handle)
 
-pub closed_so : (s new : MasterState) (now number : ℕ) (told : Swept) (asked : Asked) (bytes : List ℕ) (sequencer : Option (List ℕ)) (handle : Handle) → sweep_step s now ≡ Ok (new, told) → IsBeingApplied (noted s now) number asked (calls.Close bytes) sequencer → read_handle s.secret bytes ≡ Some handle → (new, told) ≡ done_as (noted s now) (close_plan (noted s now) number asked bytes handle)
+pub closed_so : (s new : MasterState) (now number : ℕ) (told : Swept) (asked : WaitingRequest) (bytes : List ℕ) (sequencer : Option (List ℕ)) (handle : Handle) → sweep_step s now ≡ Ok (new, told) → IsBeingApplied (noted s now) number asked (calls.Close bytes) sequencer → read_handle s.secret bytes ≡ Some handle → (new, told) ≡ done_as (noted s now) (close_plan (noted s now) number asked bytes handle)
 closed_so s new now number told asked bytes sequencer handle h turn reads =
     let there : MasterState = noted s now in
     sym (does_first s now (new, told) h)

@@ -28,10 +28,10 @@ use Rattle.lock_core.specs.declared.partings.Parting.TheVariants as partings
 use Rattle.lock_core.specs.Locks.{lock_at}
 use Rattle.lock_core.specs.Turns.{reopened}
 use Rattle.rights_core.specs.Rights.{clients_to_ask}
-use Rattle.master_parts.specs.declared.handles.Note.{Note}
-use Rattle.master_parts.specs.declared.notices.Telling.{Telling}
-use Rattle.master_parts.specs.declared.pending.Asked.{Asked}
-use Rattle.master_parts.specs.declared.pending.Idle.{Idle}
+use Rattle.master_parts.specs.declared.handles.HandleNote.{HandleNote}
+use Rattle.master_parts.specs.declared.notices.SessionEvent.{SessionEvent}
+use Rattle.master_parts.specs.declared.pending.WaitingRequest.{WaitingRequest}
+use Rattle.master_parts.specs.declared.pending.Orphan.{Orphan}
 use Rattle.master_parts.specs.declared.pending.Task.{Task}
 use Rattle.master_parts.specs.declared.pending.Task.TheVariants as tasks
 use Rattle.master_state.specs.State.{MasterState}
@@ -106,10 +106,10 @@ asked_count : (names : List (List ℕ)) (s : MasterState) → count_of (asking_f
 asked_count [] s = refl
 asked_count (name ∷ names) s = asked_count names (asking s name) ∙ of_keys (asking s name).sessions s.sessions (clients_stay_issued s.sessions (clients_to_ask name s.rights))
 
-told_count : (tellings : List Telling) (s : MasterState) → count_of (with_tellings s tellings).sessions ≡ count_of s.sessions
+told_count : (tellings : List SessionEvent) (s : MasterState) → count_of (with_tellings s tellings).sessions ≡ count_of s.sessions
 told_count tellings s = of_keys (with_tellings s tellings).sessions s.sessions (clients_told tellings s.sessions)
 
-note_count : (s : MasterState) (note : Option Note) → count_of (with_note s note).sessions ≡ count_of s.sessions
+note_count : (s : MasterState) (note : Option HandleNote) → count_of (with_note s note).sessions ≡ count_of s.sessions
 note_count s note = unnoted (λ x. count_of x.sessions) (λ x n. refl) s note
 
 -- ---- nodes and sessions, each with what may make one more
@@ -137,7 +137,7 @@ as_sized new s nodes sessions waiting = record {
     sums a b c d h k = omega (arith, h, k)
 
 -- where a change that a client asked for has its turn
-turn_sized : (new s : MasterState) (front back : List (Waiting Task)) (asked : Asked) → IsNextApplied s front (tasks.Asked asked) back → new.gate.waiting ≡ front ++ back → length new.nodes ≤ length s.nodes + 1 → count_of new.sessions ≤ count_of s.sessions + 1 → IsSized new s
+turn_sized : (new s : MasterState) (front back : List (Waiting Task)) (asked : WaitingRequest) → IsNextApplied s front (tasks.Asked asked) back → new.gate.waiting ≡ front ++ back → length new.nodes ≤ length s.nodes + 1 → count_of new.sessions ≤ count_of s.sessions + 1 → IsSized new s
 turn_sized new s front back asked turn waiting nodes sessions =
     let test : Waiting Task → Bool = λ (w : Waiting Task). is_asked w.change.body in
     let w : Waiting Task = record { number = turn.number; change = record { touched = turn.touched; body = tasks.Asked asked } } in
@@ -155,7 +155,7 @@ one_more : (a b : ℕ) → a ≡ b → a ≤ b + 1
 one_more a b h = omega (arith, h)
 
 -- the cell's own deletion has its turn
-own_turn : (s : MasterState) (front back : List (Waiting Task)) (idle : Idle) → IsNextApplied s front (tasks.Tidies idle) back → asked_now (front ++ back) ≡ asked_now s.gate.waiting
+own_turn : (s : MasterState) (front back : List (Waiting Task)) (idle : Orphan) → IsNextApplied s front (tasks.Tidies idle) back → asked_now (front ++ back) ≡ asked_now s.gate.waiting
 own_turn s front back idle turn =
     let test : Waiting Task → Bool = λ (w : Waiting Task). is_asked w.change.body in
     let w : Waiting Task = record { number = turn.number; change = record { touched = turn.touched; body = tasks.Tidies idle } } in
@@ -165,20 +165,20 @@ own_turn s front back idle turn =
     plus_none n = omega arith
 
 module _ (s : MasterState) where
-  by_turn : (new : MasterState) (front back : List (Waiting Task)) (asked : Asked) → IsNextApplied s front (tasks.Asked asked) back → new.gate.waiting ≡ front ++ back → new.nodes ≡ s.nodes → count_of new.sessions ≡ count_of s.sessions → IsSized new s
+  by_turn : (new : MasterState) (front back : List (Waiting Task)) (asked : WaitingRequest) → IsNextApplied s front (tasks.Asked asked) back → new.gate.waiting ≡ front ++ back → new.nodes ≡ s.nodes → count_of new.sessions ≡ count_of s.sessions → IsSized new s
   by_turn new front back asked turn waiting nodes sessions =
       turn_sized new s front back asked turn waiting (one_more (length new.nodes) (length s.nodes) (ap (λ (ns : Nodes). length ns) nodes)) (one_more (count_of new.sessions) (count_of s.sessions) sessions)
 
-  note_waits : (t : MasterState) (note : Option Note) → (with_note t note).gate.waiting ≡ t.gate.waiting
+  note_waits : (t : MasterState) (note : Option HandleNote) → (with_note t note).gate.waiting ≡ t.gate.waiting
   note_waits t note = unnoted (λ x. x.gate.waiting) (λ x n. refl) t note
 
-  note_nodes : (t : MasterState) (note : Option Note) → (with_note t note).nodes ≡ t.nodes
+  note_nodes : (t : MasterState) (note : Option HandleNote) → (with_note t note).nodes ≡ t.nodes
   note_nodes t note = unnoted (λ x. x.nodes) (λ x n. refl) t note
 
-  noted_count : (t : MasterState) (note : Option Note) (client : ℕ) (step : Session Reply → Session Reply) → count_of (with_note (record t { sessions = with_session t.sessions client step }) note).sessions ≡ count_of t.sessions
+  noted_count : (t : MasterState) (note : Option HandleNote) (client : ℕ) (step : Session Reply → Session Reply) → count_of (with_note (record t { sessions = with_session t.sessions client step }) note).sessions ≡ count_of t.sessions
   noted_count t note client step = note_count (record t { sessions = with_session t.sessions client step }) note ∙ step_count t.sessions client step
 
-  ended_count : (r : MasterState) (asked : Asked) (note : Option Note) (answer : CallResult) → count_of (ended r asked note answer).sessions ≡ count_of r.sessions
+  ended_count : (r : MasterState) (asked : WaitingRequest) (note : Option HandleNote) (answer : CallResult) → count_of (ended r asked note answer).sessions ≡ count_of r.sessions
   ended_count r asked note answer = noted_count r note asked.client (of_session.keeping (answered_by (reply_of r asked.client asked.number answer)))
 
   sized_by_case : (c : SweepCase s) → IsSized (swept_by s c).0 s

@@ -17,11 +17,11 @@ use Rattle.rights_core.specs.Laws.{asked_for}
 use Rattle.rights_core.proofs.OneName.{new_right_is_held, asking_numbers_rights}
 use Rattle.gate_core.specs.declared.pending.Waiting.{Waiting}
 use Rattle.gate_core.specs.Gate.{GateState, touches}
-use Rattle.session_core.specs.declared.records.Kept.{Kept}
+use Rattle.session_core.specs.declared.records.LastCall.{LastCall}
 use Rattle.session_core.specs.Session.{answered}
 use Rattle.session_core.specs.Sessions.{with_session}
 use Rattle.lock_core.specs.declared.partings.Parting.TheVariants as partings
-use Rattle.master_parts.specs.declared.handles.Note.{Note}
+use Rattle.master_parts.specs.declared.handles.HandleNote.{HandleNote}
 use Rattle.master_parts.specs.declared.pending.Task.{Task}
 use Rattle.master_parts.specs.declared.pending.Task.TheVariants as tasks
 use Rattle.master_parts.specs.declared.pending.Work.TheVariants as works
@@ -114,7 +114,7 @@ module _ (client : ℕ) (change : Waiting Task) where
     asked = λ le waits name number touched is. h.asked le (k.waited (h.pushed le) waits) name number touched (k.asked (h.pushed le) waits name number touched is);
   }
 
-  note_followed : (s : MasterState) (note : Option Note) → IsFollowed s (with_note s note)
+  note_followed : (s : MasterState) (note : Option HandleNote) → IsFollowed s (with_note s note)
   note_followed s note = same_followed s (with_note s note) (unnoted (λ x. x.gate) (λ x n. refl) s note) (unnoted (λ x. x.rights) (λ x n. refl) s note)
 
   rest_followed : (s : MasterState) (front back : List (Waiting Task)) (task : Task) → IsNextApplied s front task back → IsFollowed s (rest s front back)
@@ -195,7 +195,7 @@ module _ (client : ℕ) (change : Waiting Task) where
       })
   followed_by_case cell rows s request (Waits message note touched new serving admitted) k a =
       let t = with_note s note in
-      let last : Kept Reply = record { number = message.number; reply = None } in
+      let last : LastCall Reply = record { number = message.number; reply = None } in
       let r = recorded t message.client last in
       then_followed s t (asking_for (with_call t message touched) (names_of touched)) (note_followed s note)
       (then_followed t r (asking_for (with_call t message touched) (names_of touched)) (same_followed t r refl refl) (queued_followed r (names_of touched) (names_of touched) (tasks.Asked (task_of message)) (alike [] s r (alike_then s t r (noted_alike s note) (recorded_alike t message.client last)) a)))

@@ -8,7 +8,7 @@ use Rattle.tags_cell.specs.Numbers.{is_client_number}
 use Rattle.tags_cell.specs.declared.messages.outs.Reply.{Reply}
 use Rattle.tags_cell.specs.declared.messages.requests.Request.{Request}
 use Rattle.session_core.specs.declared.records.Session.{Session}
-use Rattle.master_parts.specs.declared.notices.Telling.{Telling}
+use Rattle.master_parts.specs.declared.notices.SessionEvent.{SessionEvent}
 use Rattle.master_parts.specs.declared.pending.Taken.{Taken}
 use Rattle.master_state.specs.State.{MasterState}
 use Rattle.master_state.specs.Lookups.{noted}
@@ -34,14 +34,14 @@ pub record IsLeft (lease : ℕ) (kind : Request → Bool) (C : MasterState → T
   pub clock : (s : MasterState) (now : ℕ) → C s → C (noted s now)
   pub takes : (s : MasterState) (request : Request) (c : TakeCase s request) → IsReached lease s → kind request ≡ false → C s → C (taken_by s request c).0
   pub sweeps : (s : MasterState) (c : SweepCase s) → IsReached lease s → C s → C (swept_by s c).0
-  pub tells : (s : MasterState) (tellings : List Telling) → C s → C (with_tellings s tellings)
+  pub tells : (s : MasterState) (tellings : List SessionEvent) → C s → C (with_tellings s tellings)
 
 -- what was so before, where it is so after a step
 pub record WasBefore (D : MasterState → Type 0) : Type 0 where
   pub clock : (s : MasterState) (now : ℕ) → D (noted s now) → D s
   pub takes : (s : MasterState) (request : Request) (c : TakeCase s request) → D (taken_by s request c).0 → D s
   pub sweeps : (s : MasterState) (c : SweepCase s) → D (swept_by s c).0 → D s
-  pub tells : (s : MasterState) (tellings : List Telling) → D (with_tellings s tellings) → D s
+  pub tells : (s : MasterState) (tellings : List SessionEvent) → D (with_tellings s tellings) → D s
 
 -- by the master's clock it holds of each session, also where that goes on
 pub record IsLasting (lease : ℕ) (kind : Request → Bool) (P : ℕ → ℕ → Session Reply → Type 0) (C D : MasterState → Type 0) : Type 0 where
@@ -90,7 +90,7 @@ module _ (lease : ℕ) (kind : Request → Bool) (P : ℕ → ℕ → Session Re
         | Err fault ↦ (λ step reached. h)
       ]) refl after
 
-  by_case : (s : MasterState) (c : SweepCase s) (tellings : List Telling) (new : MasterState) → IsTimed s c → new ≡ with_tellings (swept_by s c).0 tellings → IsReached lease new → Lasts lease P C D s → Lasts lease P C D new
+  by_case : (s : MasterState) (c : SweepCase s) (tellings : List SessionEvent) (new : MasterState) → IsTimed s c → new ≡ with_tellings (swept_by s c).0 tellings → IsReached lease new → Lasts lease P C D s → Lasts lease P C D new
   by_case s c tellings new timed is reached h =
       let after = (swept_by s c).0 in
       let U : ℕ → Type 0 = λ t. Each (P t) (with_tellings after tellings).sessions in

@@ -6,12 +6,12 @@ use Rattle.tags_cell.specs.declared.messages.outs.CallResult.TheVariants as resu
 use Rattle.tags_cell.specs.declared.messages.requests.CallMessage.{CallMessage}
 use Rattle.tags_cell.specs.declared.messages.requests.Request.TheVariants as requests
 use Rattle.tags_cell.specs.declared.messages.outs.Reply.{Reply}
-use Rattle.session_core.specs.declared.records.Kept.{Kept}
-use Rattle.master_parts.specs.declared.handles.Note.{Note}
+use Rattle.session_core.specs.declared.records.LastCall.{LastCall}
+use Rattle.master_parts.specs.declared.handles.HandleNote.{HandleNote}
 use Rattle.master_parts.specs.declared.pending.Taken.{Taken}
 use Rattle.master_state.specs.State.{MasterState}
 use Rattle.master_state.specs.Lookups.{kept_of, is_live, noted}
-use Rattle.cell_core.specs.declared.asking.Touched.{Touched}
+use Rattle.cell_core.specs.declared.asking.TouchedNames.{TouchedNames}
 use Rattle.cell_core.specs.Step.{take_step, replied, granting, waits}
 use Rattle.master_state.specs.Updates.{with_note}
 use Rattle.cell_core.specs.Cases.{IsBehind, IsNew, IsAnswered, IsGranted, IsAdmitted, TakeCase, taken_by}
@@ -21,9 +21,9 @@ use Rattle.cell_core.proofs.TakeCases.{taken_case}
 -- it is refused in a recovery, it is answered at once, it is answered by what may be kept in a cache, or it waits
 pub data NewCase (s : MasterState) (message : CallMessage) : Type 0 where
   Recovers : s.recovering ≡ true → NewCase s message
-  Answers : (note : Option Note) (answer : CallResult) → s.recovering ≡ false → IsAnswered s message note answer → NewCase s message
-  Grants : (note : Option Note) (answer : CallResult) (name : List ℕ) → s.recovering ≡ false → IsGranted s message note answer name → NewCase s message
-  Queues : (note : Option Note) (touched : Option Touched) → s.recovering ≡ false → IsAdmitted s message note touched → NewCase s message
+  Answers : (note : Option HandleNote) (answer : CallResult) → s.recovering ≡ false → IsAnswered s message note answer → NewCase s message
+  Grants : (note : Option HandleNote) (answer : CallResult) (name : List ℕ) → s.recovering ≡ false → IsGranted s message note answer name → NewCase s message
+  Queues : (note : Option HandleNote) (touched : Option TouchedNames) → s.recovering ≡ false → IsAdmitted s message note touched → NewCase s message
 
 abbrev pub new_by : (s : MasterState) (message : CallMessage) → NewCase s message → MasterState × Taken
 new_by s message (Recovers recovering) = replied s message.client message.number (results.Refused faults.Recovering)
@@ -39,21 +39,21 @@ not_ended : (b : Bool) → b ≡ false → b ≡ true → ⊥
 not_ended b ended live = cc
 
 -- a call isn't new where its client's last one has its number, a larger one, or no reply
-not_same : (o : Option (Kept Reply)) (kept : Kept Reply) (number : ℕ) → o ≡ Some kept → number ≡ kept.number → IsBehind o number → ⊥
+not_same : (o : Option (LastCall Reply)) (kept : LastCall Reply) (number : ℕ) → o ≡ Some kept → number ≡ kept.number → IsBehind o number → ⊥
 not_same None kept number is same h = cc
 not_same (Some other) kept number is same h =
     let e : other ≡ kept = cc in
     let below : kept.number < number = subst (λ k. k.number < number) e h.2 in
     omega (arith, below, same)
 
-not_older : (o : Option (Kept Reply)) (kept : Kept Reply) (number : ℕ) → o ≡ Some kept → number < kept.number → IsBehind o number → ⊥
+not_older : (o : Option (LastCall Reply)) (kept : LastCall Reply) (number : ℕ) → o ≡ Some kept → number < kept.number → IsBehind o number → ⊥
 not_older None kept number is less h = cc
 not_older (Some other) kept number is less h =
     let e : other ≡ kept = cc in
     let below : kept.number < number = subst (λ k. k.number < number) e h.2 in
     omega (arith, below, less)
 
-not_waiting : (o : Option (Kept Reply)) (kept : Kept Reply) (number : ℕ) → o ≡ Some kept → kept.reply ≡ None → IsBehind o number → ⊥
+not_waiting : (o : Option (LastCall Reply)) (kept : LastCall Reply) (number : ℕ) → o ≡ Some kept → kept.reply ≡ None → IsBehind o number → ⊥
 not_waiting None kept number is none h = cc
 not_waiting (Some other) kept number is none h =
     let e : other ≡ kept = cc in

@@ -11,7 +11,7 @@ use Rattle.session_core.specs.Session.{is_client_expired, is_client_due}
 use Rattle.session_core.specs.Sessions.{session_of, all_heard, lowest, IsLowest}
 use Rattle.session_core.proofs.Lowest.{lowest_is}
 use Rattle.lock_core.specs.Locks.{due}
-use Rattle.master_parts.specs.declared.pending.Idle.{Idle}
+use Rattle.master_parts.specs.declared.pending.Orphan.{Orphan}
 use Rattle.master_parts.specs.declared.pending.Task.{Task}
 use Rattle.master_state.specs.State.{MasterState, next_change}
 use Rattle.cell_core.specs.Ephemerals.{next_idle}
@@ -21,7 +21,7 @@ use Rattle.over_core.specs.Plans.{first_action}
 use Rattle.over_core.specs.Sweep.{is_quiet}
 use Rattle.over_core.proofs.SweepCases.{HasSessionsInOrder}
 
-abbrev first_of : Bool → Option ℕ → Option ℕ → Option ℕ → Option Idle → Option ℕ → Action
+abbrev first_of : Bool → Option ℕ → Option ℕ → Option ℕ → Option Orphan → Option ℕ → Action
 first_of over expired change reopened idle parked =
     if over then Recover
     else option_map_or Expire expired (option_map_or Apply change (option_map_or Reopen reopened (option_map_or Tidy idle (option_map_or Answer parked Quiet))))
@@ -34,7 +34,7 @@ pub record HasNothing (s : MasterState) : Type 0 where
   pub idle : next_idle s ≡ None
   pub parked : lowest s.sessions (is_client_due s.sessions.lease s.clock) ≡ None
 
-record AreNone (over : Bool) (expired change reopened : Option ℕ) (idle : Option Idle) (parked : Option ℕ) : Type 0 where
+record AreNone (over : Bool) (expired change reopened : Option ℕ) (idle : Option Orphan) (parked : Option ℕ) : Type 0 where
   is_over : over ≡ false
   is_expired : expired ≡ None
   is_change : change ≡ None
@@ -42,7 +42,7 @@ record AreNone (over : Bool) (expired change reopened : Option ℕ) (idle : Opti
   is_idle : idle ≡ None
   is_parked : parked ≡ None
 
-none_of : (over : Bool) (expired change reopened : Option ℕ) (idle : Option Idle) (parked : Option ℕ) → is_quiet (first_of over expired change reopened idle parked) ≡ true → AreNone over expired change reopened idle parked
+none_of : (over : Bool) (expired change reopened : Option ℕ) (idle : Option Orphan) (parked : Option ℕ) → is_quiet (first_of over expired change reopened idle parked) ≡ true → AreNone over expired change reopened idle parked
 none_of true e a l i d h = absurd (cc)
 none_of false (Some x) a l i d h = absurd (cc)
 none_of false None (Some x) l i d h = absurd (cc)

@@ -14,7 +14,7 @@ use Rattle.tags_cell.specs.declared.messages.requests.Request.{Request}
 use Rattle.rights_core.proofs.Recorded.{none_of}
 use Rattle.session_core.specs.declared.records.Tally.{Tally}
 use Rattle.session_core.specs.Sessions.{session_of, has_spent_events}
-use Rattle.master_parts.specs.declared.notices.Telling.{Telling}
+use Rattle.master_parts.specs.declared.notices.SessionEvent.{SessionEvent}
 use Rattle.master_parts.specs.declared.pending.Taken.{Taken}
 use Rattle.master_state.specs.State.{MasterState, master_of}
 use Rattle.master_state.specs.Lookups.{noted}
@@ -100,7 +100,7 @@ module _ (lease : ℕ) where
 
   -- ---- a sweep, and an answered Beat
 
-  case_reached : (s : MasterState) (c : SweepCase s) (tellings : List Telling) → IsTimed s c → IsReached lease s → IsReached lease (with_tellings (swept_by s c).0 tellings)
+  case_reached : (s : MasterState) (c : SweepCase s) (tellings : List SessionEvent) → IsTimed s c → IsReached lease s → IsReached lease (with_tellings (swept_by s c).0 tellings)
   case_reached s c tellings timed r =
       let after = (swept_by s c).0 in
       let rows = changed_rows r.rows (swept_edits s c) in

@@ -2,7 +2,7 @@
 use Rattle.std.proofs.Common.{◌≡◌, ℕ, List, [], ◌∷◌, true, Option, Some, None, sym, ap, ◌∙◌}
 use Rattle.node_core.specs.Nodes.{with_parent}
 use Rattle.tags_cell.specs.declared.messages.requests.Request.{Request}
-use Rattle.master_parts.specs.declared.handles.Note.{Note}
+use Rattle.master_parts.specs.declared.handles.HandleNote.{HandleNote}
 use Rattle.master_parts.specs.declared.pending.Task.TheVariants as tasks
 use Rattle.master_state.specs.State.{MasterState}
 use Rattle.master_state.specs.Updates.{with_note, with_locks}
@@ -18,7 +18,7 @@ use Rattle.master_laws.proofs.Lasting.{WasBefore}
 abbrev pub IsRecovering : MasterState → Type 0
 IsRecovering s = s.recovering ≡ true
 
-note_recovers : (s : MasterState) (note : Option Note) → (with_note s note).recovering ≡ true → s.recovering ≡ true
+note_recovers : (s : MasterState) (note : Option HandleNote) → (with_note s note).recovering ≡ true → s.recovering ≡ true
 note_recovers s None h = h
 note_recovers s (Some note) h = h
 

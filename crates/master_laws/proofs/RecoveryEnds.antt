@@ -5,7 +5,7 @@ use Rattle.std.specs.Option.{option_map, option_map_or, option_or}
 use Rattle.std.specs.List.{list_all, list_any}
 use Rattle.std.proofs.lemmas.Bool.{not-true}
 use Rattle.std.proofs.lemmas.Bool.Decides.{nat_tests}
-use Rattle.rows_cell.specs.declared.tables.Session as stored
+use Rattle.rows_cell.specs.declared.tables.SessionRow as stored
 use Rattle.node_core.specs.declared.events.Event.TheVariants as events
 use Rattle.tags_cell.specs.declared.messages.beats.Beat.{Beat}
 use Rattle.tags_cell.specs.declared.messages.outs.Reply.{Reply}

@@ -12,7 +12,7 @@ use Rattle.tags_cell.specs.declared.messages.outs.CallResult.{CallResult}
 use Rattle.tags_cell.specs.declared.messages.outs.CallResult.TheVariants as results
 use Rattle.tags_cell.specs.declared.messages.outs.NewHandle.{NewHandle}
 use Rattle.tags_cell.specs.declared.messages.requests.CallMessage.{CallMessage}
-use Rattle.master_parts.specs.declared.handles.Note.{Note}
+use Rattle.master_parts.specs.declared.handles.HandleNote.{HandleNote}
 use Rattle.master_state.specs.NameSpace.{name_space, caller}
 use Rattle.master_state.specs.State.{MasterState}
 use Rattle.master_state.specs.Lookups.{plain_open, opened_note, opened_answer, shown_handle, answer_on, is_of_cell, sequencer_fault}
@@ -26,7 +26,7 @@ abbrev pub GivesNone : Option CallResult → Type 0
 GivesNone answer = (handle : NewHandle) → answer ≡ Some (results.Opened handle) → ⊥
 
 -- the handle that a call shows, where nothing was known of it
-abbrev pub shown_first : MasterState → ℕ → Call → Option Note
+abbrev pub shown_first : MasterState → ℕ → Call → Option HandleNote
 shown_first s client call = option_and_then (λ bytes. option_and_then (λ handle. shown_note s handle bytes) (shown_handle s client bytes)) (shown_bytes call)
 
 -- ---- what is noted

@@ -12,14 +12,14 @@ use Rattle.rows_cell.specs.declared.tables.Edit.{Edit}
 use Rattle.tags_cell.specs.declared.messages.calls.Call.{Call}
 use Rattle.tags_cell.specs.declared.messages.outs.CallResult.TheVariants as results
 use Rattle.tags_cell.specs.declared.messages.outs.Reply.{Reply}
-use Rattle.session_core.specs.declared.records.Kept.{Kept}
+use Rattle.session_core.specs.declared.records.LastCall.{LastCall}
 use Rattle.session_core.specs.declared.records.Session.{Session}
 use Rattle.session_core.specs.Session.{keeping}
 use Rattle.session_core.specs.Sessions.{SessionTable, with_session}
 use Rattle.session_core.specs.Sessions as of_sessions
 use Rattle.session_core.proofs.OneClient.{own_session, other_session, kept_session}
-use Rattle.master_parts.specs.declared.notices.Telling.{Telling}
-use Rattle.master_parts.specs.declared.pending.Asked.{Asked}
+use Rattle.master_parts.specs.declared.notices.SessionEvent.{SessionEvent}
+use Rattle.master_parts.specs.declared.pending.WaitingRequest.{WaitingRequest}
 use Rattle.master_state.specs.Updates.{edits_of}
 use Rattle.master_state.specs.NameSpace.{name_space, caller}
 use Rattle.master_state.specs.Notices.{with_telling}
@@ -54,11 +54,11 @@ same_client a b h = grind (arith, nat_tests)
 other_client : (a b : ℕ) → (a == b) ≡ false → a ≢ b
 other_client a b h = grind (arith, nat_tests)
 
-same_life : (kept : Kept Reply) (o : Option (Session Reply)) → option_map life_of (option_map (keeping kept) o) ≡ option_map life_of o
+same_life : (kept : LastCall Reply) (o : Option (Session Reply)) → option_map life_of (option_map (keeping kept) o) ≡ option_map life_of o
 same_life kept None = refl
 same_life kept (Some session) = refl
 
-module _ (table : SessionTable Reply) (client : ℕ) (kept : Kept Reply) (tellings : List Telling) where
+module _ (table : SessionTable Reply) (client : ℕ) (kept : LastCall Reply) (tellings : List SessionEvent) where
   abbrev after : SessionTable Reply
   after = fold with_telling (with_session table client (keeping kept)) tellings
 
@@ -86,19 +86,19 @@ module _ (table : SessionTable Reply) (client : ℕ) (kept : Kept Reply) (tellin
   lives q = reads_told (option_map life_of) (λ event before. refl) tellings (with_session table client (keeping kept)) q ∙ recorded_lives q
 
 -- the lease is none of a client's
-recorded_lease : (table : SessionTable Reply) (client : ℕ) (kept : Kept Reply) → (with_session table client (keeping kept)).lease ≡ table.lease
+recorded_lease : (table : SessionTable Reply) (client : ℕ) (kept : LastCall Reply) → (with_session table client (keeping kept)).lease ≡ table.lease
 recorded_lease table client kept =
     elim (of_sessions.session_of table client) as (λ o. (option_map_or (λ (session : Session Reply). record table { sessions = set_value (is_at (nat_cmp client)) table.sessions (keeping kept session) }) o table).lease ≡ table.lease) [
       | None ↦ refl
       | Some session ↦ refl
     ]
 
-same_lease : (table : SessionTable Reply) (client : ℕ) (kept : Kept Reply) (tellings : List Telling) → (fold with_telling (with_session table client (keeping kept)) tellings).lease ≡ table.lease
+same_lease : (table : SessionTable Reply) (client : ℕ) (kept : LastCall Reply) (tellings : List SessionEvent) → (fold with_telling (with_session table client (keeping kept)) tellings).lease ≡ table.lease
 same_lease table client kept tellings = lease_told tellings (with_session table client (keeping kept)) ∙ recorded_lease table client kept
 
 -- ---- the plan
 
-module _ (s : MasterState) (number : ℕ) (asked : Asked) (call : Call) (sequencer : Option (List ℕ)) (fault : Fault) (turn : IsBeingApplied s number asked call sequencer) (stays : is_leave call ≡ false) (refusal : (effect (name_space s) (caller s asked.client) s.clock asked.number call sequencer).answer ≡ Some (results.Refused fault)) where
+module _ (s : MasterState) (number : ℕ) (asked : WaitingRequest) (call : Call) (sequencer : Option (List ℕ)) (fault : Fault) (turn : IsBeingApplied s number asked call sequencer) (stays : is_leave call ≡ false) (refusal : (effect (name_space s) (caller s asked.client) s.clock asked.number call sequencer).answer ≡ Some (results.Refused fault)) where
   alone : plan_for s number asked call (effect (name_space s) (caller s asked.client) s.clock asked.number call sequencer) ≡ plan_for s number asked call (refused fault)
   alone = ap (plan_for s number asked call) ((tame s asked.client asked.number call sequencer).refuses fault refusal)
 
@@ -119,7 +119,7 @@ refused_application_changes_nothing s new now number told asked call sequencer f
     let master = ap (λ p. p.0) is in
     let out = ap (λ p. p.1) is in
     let reply : Reply = reply_of s asked.client asked.number (results.Refused fault) in
-    let tellings : List Telling = tellings_of now_there (plan_for now_there number asked call (refused fault)) in
+    let tellings : List SessionEvent = tellings_of now_there (plan_for now_there number asked call (refused fault)) in
     record {
       commits_nothing = either_edits (is_over s now) (action_edits now_there (first_action now_there)) (edits_so now_there number asked call sequencer fault turn working refusal);
       prints_nothing = ap (λ t. t.lines) out;

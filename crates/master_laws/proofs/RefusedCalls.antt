@@ -14,7 +14,7 @@ use Rattle.tags_cell.specs.declared.messages.outs.CallResult.TheVariants as resu
 use Rattle.tags_cell.specs.declared.messages.outs.Out.TheVariants as outs
 use Rattle.tags_cell.specs.declared.messages.outs.Reply.{Reply}
 use Rattle.tags_cell.specs.declared.messages.requests.CallMessage.{CallMessage}
-use Rattle.master_parts.specs.declared.handles.Note.{Note}
+use Rattle.master_parts.specs.declared.handles.HandleNote.{HandleNote}
 use Rattle.master_parts.specs.declared.pending.Taken.{Taken}
 use Rattle.cell_core.specs.Cases.{IsAnswered, IsGranted}
 use Rattle.master_state.specs.State.{MasterState}
@@ -39,7 +39,7 @@ nothing_gives_none handle h = cc
 
 -- an Open shows no handle
 none_by_open : (s : MasterState) (message : CallMessage) (opening : Open) → message.call ≡ calls.Open opening → s.recovering ≡ false → first_shown s message ≡ None
-none_by_open s message opening is serving = ap (λ b. cond {A = Option Note} b None (shown_first s message.client message.call)) serving ∙ ap (shown_first s message.client) is
+none_by_open s message opening is serving = ap (λ b. cond {A = Option HandleNote} b None (shown_first s message.client message.call)) serving ∙ ap (shown_first s message.client) is
 
 -- ---- how it is refused
 
@@ -70,13 +70,13 @@ module _ (s : MasterState) (message : CallMessage) (reply : Reply) (fault : Faul
   recovering down sent =
       let own : Reply = reply_of s message.client message.number (results.Refused faults.Recovering) in
       let same : own ≡ reply = same_reply own reply sent in
-      let none : first_shown s message ≡ None = ap (λ b. cond {A = Option Note} b None (shown_first s message.client message.call)) down in
+      let none : first_shown s message ≡ None = ap (λ b. cond {A = Option HandleNote} b None (shown_first s message.client message.call)) down in
       inl (record {
         master = ap (λ r. recorded s message.client (answered_by r)) same ∙ ap (λ n. recorded (with_note s n) message.client (answered_by reply)) (sym none);
         taken = ap sends same;
       })
 
-  answered : (note : Option Note) (answer : CallResult) → s.recovering ≡ false → IsAnswered s message note answer → Contains (replied (with_note s note) message.client message.number answer).1.outs (outs.Reply reply) → Refuses s message (replied (with_note s note) message.client message.number answer) reply fault
+  answered : (note : Option HandleNote) (answer : CallResult) → s.recovering ≡ false → IsAnswered s message note answer → Contains (replied (with_note s note) message.client message.number answer).1.outs (outs.Reply reply) → Refuses s message (replied (with_note s note) message.client message.number answer) reply fault
   answered note answer serving h sent =
       let own : Reply = reply_of (with_note s note) message.client message.number answer in
       let same : own ≡ reply = same_reply own reply sent in
@@ -92,7 +92,7 @@ module _ (s : MasterState) (message : CallMessage) (reply : Reply) (fault : Faul
         taken = ap sends same;
       })
 
-  granted_so : (note : Option Note) (answer : CallResult) (name : List ℕ) → s.recovering ≡ false → IsGranted s message note answer name → Contains (granting (with_note s note) message.client message.number answer name).1.outs (outs.Reply reply) → Refuses s message (granting (with_note s note) message.client message.number answer name) reply fault
+  granted_so : (note : Option HandleNote) (answer : CallResult) (name : List ℕ) → s.recovering ≡ false → IsGranted s message note answer name → Contains (granting (with_note s note) message.client message.number answer name).1.outs (outs.Reply reply) → Refuses s message (granting (with_note s note) message.client message.number answer name) reply fault
   granted_so note answer name serving h sent =
       let own : Reply = stamped_reply (with_note s note) message.client message.number answer in
       let same : own ≡ reply = same_reply own reply sent in
@@ -143,7 +143,7 @@ longer : (xs : List CacheRight) (x : CacheRight) → xs ++ x ∷ [] ≡ xs → �
 longer [] x h = cc
 longer (y ∷ ys) x h = longer ys x (cc)
 
-note_rights : (s : MasterState) (o : Option Note) → (with_note s o).rights ≡ s.rights
+note_rights : (s : MasterState) (o : Option HandleNote) → (with_note s o).rights ≡ s.rights
 note_rights s None = refl
 note_rights s (Some note) = refl
 

@@ -9,7 +9,7 @@ use Rattle.node_core.specs.Nodes.{with_parent}
 use Rattle.node_core.specs.declared.events.Event.{Event}
 use Rattle.node_core.specs.declared.refusals.Fault.TheVariants as faults
 use Rattle.lock_core.specs.declared.partings.Parting.TheVariants as partings
-use Rattle.rows_cell.specs.declared.tables.Session as stored
+use Rattle.rows_cell.specs.declared.tables.SessionRow as stored
 use Rattle.rows_cell.specs.declared.tables.Rows.{Rows}
 use Rattle.tags_cell.specs.Messages.{request_client}
 use Rattle.tags_cell.specs.Numbers.{is_client_number}
@@ -20,7 +20,7 @@ use Rattle.tags_cell.specs.declared.messages.requests.Request.TheVariants as req
 use Rattle.rights_core.specs.Rights.{clients_to_ask}
 use Rattle.rights_core.proofs.OneName.{clients_to_ask_hold}
 use Rattle.gate_core.specs.declared.pending.Waiting.{Waiting}
-use Rattle.session_core.specs.declared.records.Kept.{Kept}
+use Rattle.session_core.specs.declared.records.LastCall.{LastCall}
 use Rattle.session_core.specs.declared.records.Parked.{Parked}
 use Rattle.session_core.specs.declared.records.Session.{Session}
 use Rattle.session_core.specs.Session.{beat_fault, beaten, keeping, answered, prolonged, session_until}
@@ -28,9 +28,9 @@ use Rattle.session_core.specs.Session as of_session
 use Rattle.session_core.specs.Sessions.{session_of, with_session}
 use Rattle.session_core.specs.Laws.{issued_at}
 use Rattle.master_parts.specs.StoredSessions.{taken_over}
-use Rattle.master_parts.specs.declared.handles.Note.{Note}
-use Rattle.master_parts.specs.declared.notices.Telling.{Telling}
-use Rattle.master_parts.specs.declared.pending.Asked.{Asked}
+use Rattle.master_parts.specs.declared.handles.HandleNote.{HandleNote}
+use Rattle.master_parts.specs.declared.notices.SessionEvent.{SessionEvent}
+use Rattle.master_parts.specs.declared.pending.WaitingRequest.{WaitingRequest}
 use Rattle.master_parts.specs.declared.pending.Task.{Task}
 use Rattle.master_parts.specs.declared.pending.Task.TheVariants as tasks
 use Rattle.master_parts.specs.declared.pending.Work.TheVariants as works
@@ -58,7 +58,7 @@ use Rattle.master_laws.proofs.AnswerableSteps.{with_call_kept, none_of_new, clie
 
 -- it stays where a call is kept, an invalidation is issued, or an event is told
 pub record IsCarried (P : ℕ → Session Reply → Type 0) : Type 0 where
-  pub keeps : (client : ℕ) (kept : Kept Reply) (before : Session Reply) → P client before → P client (keeping kept before)
+  pub keeps : (client : ℕ) (kept : LastCall Reply) (before : Session Reply) → P client before → P client (keeping kept before)
   pub issues : (client : ℕ) (o : Option ℕ) (before : Session Reply) → P client before → P client (issued_at o before)
   pub tells : (client : ℕ) (event : Event) (before : Session Reply) → P client before → P client (of_session.told event before)
 
@@ -72,8 +72,8 @@ pub record IsCarriedBySweeps (P : ℕ → Session Reply → Type 0) (s : MasterS
   pub carried : IsCarried P
   pub ends : (client : ℕ) (before : Session Reply) → P client before → P client (of_session.ended before)
   pub answers : (client : ℕ) (session : Session Reply) (beat : Parked) → IsDue s client session beat → IsInTime s session beat → P client session → P client (answered s.sessions.lease s.clock session)
-  pub prolongs : (front back : List (Waiting Task)) (asked : Asked) (principal : List ℕ) (received : ℕ) (session : Session Reply) → IsNextApplied s front (tasks.Asked asked) back → asked.work ≡ works.Starts principal received → session_of s.sessions asked.client ≡ Some session → P asked.client session → P asked.client (prolonged (s.clock + s.sessions.lease) session)
-  pub begins : (front back : List (Waiting Task)) (asked : Asked) (principal : List ℕ) (received : ℕ) → IsNextApplied s front (tasks.Asked asked) back → asked.work ≡ works.Starts principal received → P asked.client (session_until principal true (s.clock + s.sessions.lease))
+  pub prolongs : (front back : List (Waiting Task)) (asked : WaitingRequest) (principal : List ℕ) (received : ℕ) (session : Session Reply) → IsNextApplied s front (tasks.Asked asked) back → asked.work ≡ works.Starts principal received → session_of s.sessions asked.client ≡ Some session → P asked.client session → P asked.client (prolonged (s.clock + s.sessions.lease) session)
+  pub begins : (front back : List (Waiting Task)) (asked : WaitingRequest) (principal : List ℕ) (received : ℕ) → IsNextApplied s front (tasks.Asked asked) back → asked.work ≡ works.Starts principal received → P asked.client (session_until principal true (s.clock + s.sessions.lease))
 
 -- ---- the sessions of a master that comes up
 
@@ -87,17 +87,17 @@ each_taken P now all (e ∷ es) client session h =
 
 -- ---- what leaves most of a session
 
-pub each_recorded : (P : ℕ → Session Reply → Type 0) (s : MasterState) (client : ℕ) (kept : Kept Reply) → IsCarried P → Each P s.sessions → Each P (recorded s client kept).sessions
+pub each_recorded : (P : ℕ → Session Reply → Type 0) (s : MasterState) (client : ℕ) (kept : LastCall Reply) → IsCarried P → Each P s.sessions → Each P (recorded s client kept).sessions
 each_recorded P s client kept c h = step_each P s.sessions client (keeping kept) (λ before there is. c.keeps client kept before is) h
 
 pub each_kept : (P : ℕ → Session Reply → Type 0) (puts : List KeptPut) (s : MasterState) → IsCarried P → Each P s.sessions → Each P (with_kept s puts).sessions
 each_kept P [] s c h = h
 each_kept P (put ∷ puts) s c h = each_kept P puts (recorded s put.client put.kept) c (each_recorded P s put.client put.kept c h)
 
-pub each_told : (P : ℕ → Session Reply → Type 0) (s : MasterState) (tellings : List Telling) → IsCarried P → Each P s.sessions → Each P (with_tellings s tellings).sessions
+pub each_told : (P : ℕ → Session Reply → Type 0) (s : MasterState) (tellings : List SessionEvent) → IsCarried P → Each P s.sessions → Each P (with_tellings s tellings).sessions
 each_told P s tellings c h = told_each P c.tells tellings s.sessions h
 
-each_noted : (P : ℕ → Session Reply → Type 0) (s : MasterState) (note : Option Note) → Each P s.sessions → Each P (with_note s note).sessions
+each_noted : (P : ℕ → Session Reply → Type 0) (s : MasterState) (note : Option HandleNote) → Each P s.sessions → Each P (with_note s note).sessions
 each_noted P s None h = h
 each_noted P s (Some note) h = h
 
@@ -129,7 +129,7 @@ module _ (P : ℕ → Session Reply → Type 0) (cell : List ℕ) (rows : Rows) 
   each_by_case s request (Granted message note answer name new serving granted) t spare k in_range h = each_recorded P (with_note s note) message.client _ t.carried (each_noted P s note h)
   each_by_case s request (Waits message note touched new serving admitted) t spare k in_range h =
       let n = with_note s note in
-      let last : Kept Reply = record { number = message.number; reply = None } in
+      let last : LastCall Reply = record { number = message.number; reply = None } in
       each_asked P cell rows (with_call n message touched) (names_of touched) t.carried
       (with_call_kept cell rows s message note touched serving spare admitted (client_of request _ new.heard.is_call in_range) new.heard.live (none_of_new cell rows s request message new k) k)
       (each_recorded P n message.client last t.carried (each_noted P s note h))

@@ -44,10 +44,10 @@ use Rattle.lock_core.specs.Turns.{is_nobody, served_from, served, turned_away, s
 use Rattle.lock_core.specs.Locks.{LockTable, lock_at, is_due, due}
 use Rattle.master_parts.specs.Ephemerals.{tidies, has_its_turn, is_held_open, is_left, idle_of}
 use Rattle.master_parts.specs.EphemeralNames.{is_ephemeral}
-use Rattle.master_parts.specs.declared.handles.Note.{Note}
-use Rattle.master_parts.specs.declared.notices.Telling.{Telling}
-use Rattle.master_parts.specs.declared.pending.Asked.{Asked}
-use Rattle.master_parts.specs.declared.pending.Idle.{Idle}
+use Rattle.master_parts.specs.declared.handles.HandleNote.{HandleNote}
+use Rattle.master_parts.specs.declared.notices.SessionEvent.{SessionEvent}
+use Rattle.master_parts.specs.declared.pending.WaitingRequest.{WaitingRequest}
+use Rattle.master_parts.specs.declared.pending.Orphan.{Orphan}
 use Rattle.master_parts.specs.declared.pending.Task.{Task}
 use Rattle.master_parts.specs.declared.pending.Task.TheVariants as tasks
 use Rattle.master_state.specs.State.{MasterState, tables_of}
@@ -81,11 +81,11 @@ use Rattle.master_laws.proofs.WorkLeft.{lives, parks, AreAlike, IsLike, alike_it
 
 -- ---- what a note leaves
 
-note_alike : (s : MasterState) (note : Option Note) → AreAlike (with_note s note).sessions s.sessions
+note_alike : (s : MasterState) (note : Option HandleNote) → AreAlike (with_note s note).sessions s.sessions
 note_alike s None = alike_itself s.sessions
 note_alike s (Some note) = alike_itself s.sessions
 
-note_waits : (s : MasterState) (note : Option Note) → (with_note s note).gate.waiting ≡ s.gate.waiting
+note_waits : (s : MasterState) (note : Option HandleNote) → (with_note s note).gate.waiting ≡ s.gate.waiting
 note_waits s note = unnoted (λ x. x.gate.waiting) (λ x n. refl) s note
 
 -- ---- the cell's own
@@ -217,7 +217,7 @@ all_asked_alike : (cell : List ℕ) (rows : Rows) (s : MasterState) (names : Lis
 all_asked_alike cell rows s [] k = alike_itself s.sessions
 all_asked_alike cell rows s (name ∷ names) k = alike_then s.sessions (asking s name).sessions (asking_for s (name ∷ names)).sessions (all_asked_alike cell rows (asking s name) names (asked_kept cell rows s name k)) (asking_alike cell rows s name k)
 
-where_found : (b : Bool) (o : Option (List ℕ × Node)) (idle : Idle) → cond b (option_map idle_of o) None ≡ Some idle → (entry : List ℕ × Node) × (o ≡ Some entry) × (idle_of entry ≡ idle)
+where_found : (b : Bool) (o : Option (List ℕ × Node)) (idle : Orphan) → cond b (option_map idle_of o) None ≡ Some idle → (entry : List ℕ × Node) × (o ≡ Some entry) × (idle_of entry ≡ idle)
 where_found true None idle h = absurd (cc)
 where_found true (Some entry) idle h = let same : idle_of entry ≡ idle = cc in (entry, refl, same)
 where_found false o idle h = absurd (cc)
@@ -256,7 +256,7 @@ going_not : (a b : Bool) → (a ≡ true → b ≡ true) → not b ≡ true → 
 going_not true b h k = let t = h refl in absurd (cc)
 going_not false b h k = refl
 
-tidies_less : (cell : List ℕ) (rows : Rows) (s : MasterState) (idle : Idle) → IsKept cell rows s → next_idle s ≡ Some idle → HasLessToDo s.clock (tidied s idle) s
+tidies_less : (cell : List ℕ) (rows : Rows) (s : MasterState) (idle : Orphan) → IsKept cell rows s → next_idle s ≡ Some idle → HasLessToDo s.clock (tidied s idle) s
 tidies_less cell rows s idle k first =
     let t = where_found (may_tidy s) (find (is_to_go s) s.nodes) idle first in
     let entry = t.0 in
@@ -294,8 +294,8 @@ tidies_less cell rows s idle k first =
           (ap one recovering) more nodes_now fewer due_now (count_alike parks new.sessions.sessions s.sessions.sessions alike.parks),
     )
   where
-    own_task : (entry : List ℕ × Node) (idle : Idle) → idle_of entry ≡ idle → deletes entry (tasks.Tidies idle) ≡ true
-    own_task entry idle same = ap (λ (x : Idle). deletes entry (tasks.Tidies x)) (sym same) ∙ rw (bytes_self entry.0, same_number entry.1.instance) refl
+    own_task : (entry : List ℕ × Node) (idle : Orphan) → idle_of entry ≡ idle → deletes entry (tasks.Tidies idle) ≡ true
+    own_task entry idle same = ap (λ (x : Orphan). deletes entry (tasks.Tidies x)) (sym same) ∙ rw (bytes_self entry.0, same_number entry.1.instance) refl
 
     now_going : (left before own : Bool) → left ≡ true → own ≡ true → (left && (before || (own || false))) ≡ true
     now_going left true own h k = rw h refl
@@ -333,7 +333,7 @@ each_passes : {X : Type 0} (test : X → Bool) (Q : X → Type 0) (xs : List X) 
 each_passes test Q [] f h = tt
 each_passes test Q (x ∷ xs) f h = let t = and_parts (test x) (list_all test xs) h in (f x t.0, each_passes test Q xs f t.1)
 
-deletes_parts : (entry : List ℕ × Node) (idle : Idle) → deletes entry (tasks.Tidies idle) ≡ true → (idle.name ≡ entry.0) × ((entry.1.instance == idle.instance) ≡ true)
+deletes_parts : (entry : List ℕ × Node) (idle : Orphan) → deletes entry (tasks.Tidies idle) ≡ true → (idle.name ≡ entry.0) × ((entry.1.instance == idle.instance) ≡ true)
 deletes_parts entry idle h =
     let t = and_parts (bytes_eq idle.name entry.0) (idle.instance == entry.1.instance) h in
     (bytes_same idle.name entry.0 t.0, swap idle.instance entry.1.instance t.1)
@@ -347,7 +347,7 @@ turn_less r c d e f g i h k = omega (arith, h, k)
 no_more : (a b l m : ℕ) → b ≡ a + 0 → m ≡ l → 2 * a + m ≤ 2 * b + l
 no_more a b l m h k = omega (arith, h, k)
 
-module _ (cell : List ℕ) (rows : Rows) (s : MasterState) (k : IsKept cell rows s) (front back : List (Waiting Task)) (idle : Idle) (turn : IsNextApplied s front (tasks.Tidies idle) back) where
+module _ (cell : List ℕ) (rows : Rows) (s : MasterState) (k : IsKept cell rows s) (front back : List (Waiting Task)) (idle : Orphan) (turn : IsNextApplied s front (tasks.Tidies idle) back) where
   abbrev task : Task
   task = tasks.Tidies idle
 
@@ -489,7 +489,7 @@ module _ (cell : List ℕ) (rows : Rows) (s : MasterState) (k : IsKept cell rows
       let same : count_by lives (values_of new.sessions.sessions) ≡ count_by lives (values_of l.sessions.sessions) = (let alike : AreAlike new.sessions l.sessions = kept_alike (kept_puts replies) l in count_alike lives new.sessions.sessions l.sessions.sessions alike.lives) in
       inl (fewer_live (count_by (λ w. is_asked w.change.body) s.gate.waiting) (count_by lives (values_of s.sessions.sessions)) (count_by lives (values_of new.sessions.sessions)) (ap (λ n. n + 1) same ∙ ended_live s.sessions client session found live))
 
-  by_turn : (new : MasterState) (front back : List (Waiting Task)) (asked : Asked) → IsNextApplied s front (tasks.Asked asked) back → new.gate.waiting ≡ front ++ back → AreAlike new.sessions s.sessions → HasLessToDo s.clock new s
+  by_turn : (new : MasterState) (front back : List (Waiting Task)) (asked : WaitingRequest) → IsNextApplied s front (tasks.Asked asked) back → new.gate.waiting ≡ front ++ back → AreAlike new.sessions s.sessions → HasLessToDo s.clock new s
   by_turn new front back asked turn waiting alike = turn_leaves_less s.clock s new front back asked turn waiting (same_live new.sessions s.sessions alike)
 
   parting_live : (t : MasterState) (client : ℕ) (session : Session Reply) (puts : List LockPut) (replies : List Reply) → t.sessions ≡ s.sessions → session_of s.sessions client ≡ Some session → count_by lives (values_of (told (with_locks (parted partings.Leave t client) puts) replies).sessions.sessions) ≤ count_by lives (values_of s.sessions.sessions) + 1
@@ -505,7 +505,7 @@ module _ (cell : List ℕ) (rows : Rows) (s : MasterState) (k : IsKept cell rows
       most : (a b c o : ℕ) → a ≡ b → b + o ≡ c + 0 → a ≤ c + 1
       most a b c o h k = omega (arith, h, k)
 
-  ended_alike : (r : MasterState) (asked : Asked) (note : Option Note) (answer : CallResult) → AreAlike (ended r asked note answer).sessions r.sessions
+  ended_alike : (r : MasterState) (asked : WaitingRequest) (note : Option HandleNote) (answer : CallResult) → AreAlike (ended r asked note answer).sessions r.sessions
   ended_alike r asked note answer = alike_then r.sessions (recorded r asked.client _).sessions (ended r asked note answer).sessions (note_alike (recorded r asked.client _) note) (stepped_alike r.sessions asked.client (of_session.keeping _) (λ before. refl) (λ before. refl))
 
   less_by_case : (c : SweepCase s) → (swept_by s c).1.quiet ≡ false → HasLessToDo s.clock (swept_by s c).0 s
@@ -553,7 +553,7 @@ module _ (cell : List ℕ) (rows : Rows) (s : MasterState) (k : IsKept cell rows
 
 -- ---- a sweep
 
-told_like : (tellings : List Telling) (s : MasterState) → IsLike (with_tellings s tellings) s
+told_like : (tellings : List SessionEvent) (s : MasterState) → IsLike (with_tellings s tellings) s
 told_like tellings s = record { recovering = refl; waiting = refl; nodes = refl; handles = refl; locks = refl; sessions = told_alike tellings s }
 
 pub sweeps_leave_less : SweepsLeaveLess

@@ -11,8 +11,8 @@ use Rattle.rights_core.specs.declared.cache_rights.CacheRight.{CacheRight}
 use Rattle.rights_core.specs.Rights.{held_on}
 use Rattle.gate_core.specs.declared.pending.Waiting.{Waiting}
 use Rattle.gate_core.specs.Gate.{is_free}
-use Rattle.master_parts.specs.declared.handles.Note.{Note}
-use Rattle.master_parts.specs.declared.pending.Asked.{Asked}
+use Rattle.master_parts.specs.declared.handles.HandleNote.{HandleNote}
+use Rattle.master_parts.specs.declared.pending.WaitingRequest.{WaitingRequest}
 use Rattle.master_parts.specs.declared.pending.Task.{Task}
 use Rattle.master_parts.specs.declared.pending.Task.TheVariants as tasks
 use Rattle.master_parts.specs.declared.pending.Work.{Work}
@@ -66,14 +66,14 @@ turn_parts client s front back task turn h =
     let t = or_parts (list_any test front) (test w) (list_any test back) all in
     (list_any-append test front back ∙ or_both (list_any test front) (list_any test back) t.0 t.2, t.1)
 
-pub turn_starts : (client : ℕ) (s : MasterState) (front back : List (Waiting Task)) (asked : Asked) (principal : List ℕ) (received : ℕ) → IsNextApplied s front (tasks.Asked asked) back → asked.work ≡ works.Starts principal received → waits_to_start client s.gate.waiting ≡ false → (asked.client == client) ≡ false
+pub turn_starts : (client : ℕ) (s : MasterState) (front back : List (Waiting Task)) (asked : WaitingRequest) (principal : List ℕ) (received : ℕ) → IsNextApplied s front (tasks.Asked asked) back → asked.work ≡ works.Starts principal received → waits_to_start client s.gate.waiting ≡ false → (asked.client == client) ≡ false
 turn_starts client s front back asked principal received turn work h =
     sym (ap (λ (x : Work). is_start x && asked.client == client) work) ∙ (turn_parts client s front back (tasks.Asked asked) turn h).1
 
 rest_starts : (client : ℕ) (s : MasterState) (front back : List (Waiting Task)) (task : Task) → IsNextApplied s front task back → waits_to_start client s.gate.waiting ≡ false → waits_to_start client (front ++ back) ≡ false
 rest_starts client s front back task turn h = (turn_parts client s front back task turn h).0
 
-noted_starts : (client : ℕ) (s : MasterState) (note : Option Note) → waits_to_start client s.gate.waiting ≡ false → waits_to_start client (with_note s note).gate.waiting ≡ false
+noted_starts : (client : ℕ) (s : MasterState) (note : Option HandleNote) → waits_to_start client s.gate.waiting ≡ false → waits_to_start client (with_note s note).gate.waiting ≡ false
 noted_starts client s note h = unnoted (λ x. waits_to_start client x.gate.waiting) (λ x n. refl) s note ∙ h
 
 asked_starts : (client : ℕ) (names : List (List ℕ)) (s : MasterState) → waits_to_start client s.gate.waiting ≡ false → waits_to_start client (asking_for s names).gate.waiting ≡ false

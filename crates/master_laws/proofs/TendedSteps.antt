@@ -47,7 +47,7 @@ use Rattle.lock_core.proofs.Generations.{try_succeeds}
 use Rattle.master_parts.specs.Claims.{owner_of, claim_of}
 use Rattle.master_parts.specs.Calls.{create_fault, bytes_of}
 use Rattle.master_parts.specs.Locks.{with_generation, holder_of, locked_as, with_row, generations_of, locks_of}
-use Rattle.master_parts.specs.declared.handles.Note.{Note}
+use Rattle.master_parts.specs.declared.handles.HandleNote.{HandleNote}
 use Rattle.master_parts.specs.declared.pending.Task.TheVariants as tasks
 use Rattle.master_state.specs.NameSpace.{name_space, caller}
 use Rattle.master_state.specs.State.{MasterState}
@@ -260,7 +260,7 @@ module _ (s : MasterState) (legal : (instance : ℕ) → IsLegal (lock_at s.lock
 asked_locks : (names : List (List ℕ)) (s : MasterState) → (asking_for s names).locks ≡ s.locks
 asked_locks names s = ap (λ (m : MasterState). m.locks) (asks_only names s)
 
-note_locks : (s : MasterState) (note : Option Note) → (with_note s note).locks ≡ s.locks
+note_locks : (s : MasterState) (note : Option HandleNote) → (with_note s note).locks ≡ s.locks
 note_locks s note = unnoted (λ x. x.locks) (λ x n. refl) s note
 
 pub locks_by_case : (s : MasterState) (request : Request) (c : TakeCase s request) → (taken_by s request c).0.locks ≡ s.locks
@@ -289,7 +289,7 @@ module _ (cell : List ℕ) (rows : Rows) (s : MasterState) (k : IsKept cell rows
   by_effect : (client number : ℕ) (call : Call) (sequencer : Option (List ℕ)) (effected : Effect) → effect (name_space s) (caller s client) s.clock number call sequencer ≡ effected → Tends s effected.locking
   by_effect client number call sequencer effected made = let P : Effect → Type 0 = λ x. Tends s x.locking in subst P made (effect_tends s legal h client number call sequencer)
 
-  note_tended : (t : MasterState) (note : Option Note) → AreTended s.clock t.locks → AreTended s.clock (with_note t note).locks
+  note_tended : (t : MasterState) (note : Option HandleNote) → AreTended s.clock t.locks → AreTended s.clock (with_note t note).locks
   note_tended t note tended = subst (AreTended s.clock) (sym (note_locks t note)) tended
 
   pub tended_by_sweep : (c : SweepCase s) → AreTended s.clock (swept_by s c).0.locks

@@ -15,7 +15,7 @@ use Rattle.session_core.specs.declared.records.Session.{Session}
 use Rattle.session_core.specs.Session.{is_client_expired, is_client_due, is_client_answerable, is_answerable, is_expired, is_due, is_given_up, owes, nears_end, offer_to}
 use Rattle.session_core.specs.Sessions.{session_of, all_heard, lowest, passes, offer_of}
 use Rattle.session_core.proofs.Lowest.{lowest_is}
-use Rattle.master_parts.specs.declared.notices.Telling.{Telling}
+use Rattle.master_parts.specs.declared.notices.SessionEvent.{SessionEvent}
 use Rattle.master_state.specs.State.{MasterState}
 use Rattle.master_state.specs.Lookups.{noted}
 use Rattle.master_state.specs.Notices.{with_tellings}
@@ -132,10 +132,10 @@ timed_case s order orderly =
     ]) refl
 
 -- what is left of a step, behind which clients are told
-abbrev pub IsTimedAndTold : (s : MasterState) → List Telling → MasterState → Type 0
+abbrev pub IsTimedAndTold : (s : MasterState) → List SessionEvent → MasterState → Type 0
 IsTimedAndTold s tellings new = (c : SweepCase s) × IsTimed s c × (new ≡ with_tellings (swept_by s c).0 tellings)
 
-then_told : (s new after : MasterState) (tellings : List Telling) → IsTimedStep s after → new ≡ with_tellings after tellings → IsTimedAndTold s tellings new
+then_told : (s new after : MasterState) (tellings : List SessionEvent) → IsTimedStep s after → new ≡ with_tellings after tellings → IsTimedAndTold s tellings new
 then_told s new after tellings t is = (t.0, t.1, is ∙ ap (λ (m : MasterState). with_tellings m tellings) t.2)
 
 pub timed_sweep : (s : MasterState) (now : ℕ) (done : MasterState × Swept) → HasSessionsInOrder s → IsOrderly s.gate → sweep_step s now ≡ Ok done → IsTimedAndTold (noted s now) (first_tellings (noted s now)) done.0

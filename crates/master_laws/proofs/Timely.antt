@@ -6,7 +6,7 @@ use Rattle.node_core.specs.Nodes.{with_parent}
 use Rattle.node_core.specs.declared.refusals.Fault.TheVariants as faults
 use Rattle.lock_core.specs.declared.partings.Parting.TheVariants as partings
 use Rattle.lease_core.specs.Lease.{longest_lease, recovery_timeout}
-use Rattle.rows_cell.specs.declared.tables.Session as stored
+use Rattle.rows_cell.specs.declared.tables.SessionRow as stored
 use Rattle.tags_cell.specs.declared.messages.beats.Beat.{Beat}
 use Rattle.tags_cell.specs.declared.messages.outs.Reply.{Reply}
 use Rattle.tags_cell.specs.declared.messages.requests.Request.{Request}
@@ -20,7 +20,7 @@ use Rattle.session_core.specs.Sessions.{with_session}
 use Rattle.session_core.specs.Laws.{issued_at}
 use Rattle.session_core.proofs.IssuedBy.{lease_of_one, lease_stays_issued}
 use Rattle.master_parts.specs.StoredSessions.{taken_over}
-use Rattle.master_parts.specs.declared.handles.Note.{Note}
+use Rattle.master_parts.specs.declared.handles.HandleNote.{HandleNote}
 use Rattle.master_parts.specs.declared.pending.Task.TheVariants as tasks
 use Rattle.master_state.specs.State.{MasterState}
 use Rattle.master_state.specs.Updates.{with_note, with_kept, with_locks}
@@ -40,7 +40,7 @@ use Rattle.master_laws.proofs.SessionSteps.{IsCarried, IsCarriedByTakes, IsCarri
 
 -- ---- the lease stays
 
-lease_noted : (s : MasterState) (note : Option Note) → (with_note s note).sessions.lease ≡ s.sessions.lease
+lease_noted : (s : MasterState) (note : Option HandleNote) → (with_note s note).sessions.lease ≡ s.sessions.lease
 lease_noted s None = refl
 lease_noted s (Some note) = refl
 
@@ -52,7 +52,7 @@ lease_asked : (names : List (List ℕ)) (s : MasterState) → (asking_for s name
 lease_asked [] s = refl
 lease_asked (name ∷ names) s = lease_asked names (asking s name) ∙ lease_stays_issued s.sessions (clients_to_ask name s.rights)
 
-lease_recorded : (s : MasterState) (note : Option Note) (client : ℕ) (step : Session Reply → Session Reply) → (with_session (with_note s note).sessions client step).lease ≡ s.sessions.lease
+lease_recorded : (s : MasterState) (note : Option HandleNote) (client : ℕ) (step : Session Reply → Session Reply) → (with_session (with_note s note).sessions client step).lease ≡ s.sessions.lease
 lease_recorded s note client step = lease_of_one (with_note s note).sessions client step ∙ lease_noted s note
 
 pub lease_by_case : (s : MasterState) (request : Request) (c : TakeCase s request) → (taken_by s request c).0.sessions.lease ≡ s.sessions.lease
@@ -97,7 +97,7 @@ lease_by_sweep s (Left front back asked call sequencer note leave answer turn wo
 
 -- ---- and so does the clock
 
-clock_noted : (s : MasterState) (note : Option Note) → (with_note s note).clock ≡ s.clock
+clock_noted : (s : MasterState) (note : Option HandleNote) → (with_note s note).clock ≡ s.clock
 clock_noted s None = refl
 clock_noted s (Some note) = refl
 

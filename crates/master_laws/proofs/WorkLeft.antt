@@ -26,8 +26,8 @@ use Rattle.master_parts.specs.OpenHandles.{is_open_in}
 use Rattle.master_parts.specs.declared.handles.HandleKey.{HandleKey}
 use Rattle.master_parts.specs.declared.handles.HandleState.{HandleState}
 use Rattle.master_parts.specs.declared.handles.HandleState.TheVariants as states
-use Rattle.master_parts.specs.declared.notices.Telling.{Telling}
-use Rattle.master_parts.specs.declared.pending.Asked.{Asked}
+use Rattle.master_parts.specs.declared.notices.SessionEvent.{SessionEvent}
+use Rattle.master_parts.specs.declared.pending.WaitingRequest.{WaitingRequest}
 use Rattle.master_parts.specs.declared.pending.Task.{Task}
 use Rattle.master_parts.specs.declared.pending.Task.TheVariants as tasks
 use Rattle.lock_core.specs.State.{LockState, lock_of}
@@ -77,7 +77,7 @@ kept_alike (put ∷ puts) s =
     let r = recorded s put.client put.kept in
     alike_then s.sessions r.sessions (with_kept s (put ∷ puts)).sessions (kept_alike puts r) (stepped_alike s.sessions put.client (keeping put.kept) (λ before. refl) (λ before. refl))
 
-pub told_alike : (tellings : List Telling) (s : MasterState) → AreAlike (with_tellings s tellings).sessions s.sessions
+pub told_alike : (tellings : List SessionEvent) (s : MasterState) → AreAlike (with_tellings s tellings).sessions s.sessions
 told_alike tellings s = record {
   live = reads_told lives_in (λ event before. refl) tellings s.sessions;
   lives = rows_told lives (λ event before. refl) tellings s.sessions;
@@ -157,7 +157,7 @@ less_asked : (a b l m : ℕ) → b ≡ a + 1 → m ≤ l + 1 → 2 * a + m < 2 *
 less_asked a b l m h k = omega (arith, h, k)
 
 -- one of these has its turn, and at most one session more lives
-pub turn_leaves_less : (now : ℕ) (s new : MasterState) (front back : List (Waiting Task)) (asked : Asked) → IsNextApplied s front (tasks.Asked asked) back → new.gate.waiting ≡ front ++ back → count_by lives (values_of new.sessions.sessions) ≤ count_by lives (values_of s.sessions.sessions) + 1 → HasLessToDo now new s
+pub turn_leaves_less : (now : ℕ) (s new : MasterState) (front back : List (Waiting Task)) (asked : WaitingRequest) → IsNextApplied s front (tasks.Asked asked) back → new.gate.waiting ≡ front ++ back → count_by lives (values_of new.sessions.sessions) ≤ count_by lives (values_of s.sessions.sessions) + 1 → HasLessToDo now new s
 turn_leaves_less now s new front back asked turn waiting more =
     let test : Waiting Task → Bool = λ (w : Waiting Task). is_asked w.change.body in
     let w : Waiting Task = record { number = turn.number; change = record { touched = turn.touched; body = tasks.Asked asked } } in

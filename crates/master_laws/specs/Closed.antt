@@ -15,7 +15,7 @@ use Rattle.tags_cell.specs.declared.messages.requests.Request.{Request}
 use Rattle.tags_cell.specs.declared.messages.requests.Request.TheVariants as requests
 use Rattle.master_parts.specs.declared.handles.HandleKey.{HandleKey}
 use Rattle.master_parts.specs.declared.handles.HandleState.TheVariants as states
-use Rattle.master_parts.specs.declared.pending.Asked.{Asked}
+use Rattle.master_parts.specs.declared.pending.WaitingRequest.{WaitingRequest}
 use Rattle.master_parts.specs.declared.pending.Taken.{Taken}
 use Rattle.master_parts.specs.declared.pending.Task.{Task}
 use Rattle.master_parts.specs.declared.pending.Task.TheVariants as tasks
@@ -39,7 +39,7 @@ IsClosed s key = handle_state_of s key ≡ Some states.Closed
 -- when a Close has its turn its handle is closed, and it is answered so
 abbrev pub CloseCloses : Type 0
 CloseCloses =
-    (s new : MasterState) (now number : ℕ) (told : Swept) (asked : Asked) (bytes : List ℕ) (sequencer : Option (List ℕ)) (handle : Handle) → sweep_step s now ≡ Ok (new, told)
+    (s new : MasterState) (now number : ℕ) (told : Swept) (asked : WaitingRequest) (bytes : List ℕ) (sequencer : Option (List ℕ)) (handle : Handle) → sweep_step s now ≡ Ok (new, told)
     → IsBeingApplied (noted s now) number asked (calls.Close bytes) sequencer
     → read_handle s.secret bytes ≡ Some handle
     → IsClosed new (key_of handle) × Contains told.outs (outs.Reply (reply_of s asked.client asked.number results.Closed))
@@ -143,7 +143,7 @@ ClosedForGoodForever =
 -- when a Close has its turn in a master that is kept beside its rows, as each master is, its handle is closed for good
 abbrev pub CloseClosesForGood : Type 0
 CloseClosesForGood =
-    (cell : List ℕ) (rows : Rows) (s new : MasterState) (now number : ℕ) (told : Swept) (asked : Asked) (bytes : List ℕ) (sequencer : Option (List ℕ)) (handle : Handle) → IsKept cell rows s
+    (cell : List ℕ) (rows : Rows) (s new : MasterState) (now number : ℕ) (told : Swept) (asked : WaitingRequest) (bytes : List ℕ) (sequencer : Option (List ℕ)) (handle : Handle) → IsKept cell rows s
     → sweep_step s now ≡ Ok (new, told)
     → IsBeingApplied (noted s now) number asked (calls.Close bytes) sequencer
     → read_handle s.secret bytes ≡ Some handle

@@ -15,8 +15,8 @@ use Rattle.tags_cell.specs.declared.messages.requests.CallMessage.{CallMessage}
 use Rattle.tags_cell.specs.declared.messages.requests.Request.{Request}
 use Rattle.tags_cell.specs.declared.messages.requests.Request.TheVariants as requests
 use Rattle.session_core.specs.declared.records.Session.{Session}
-use Rattle.master_parts.specs.declared.handles.Note.{Note}
-use Rattle.master_parts.specs.declared.pending.Asked.{Asked}
+use Rattle.master_parts.specs.declared.handles.HandleNote.{HandleNote}
+use Rattle.master_parts.specs.declared.pending.WaitingRequest.{WaitingRequest}
 use Rattle.master_parts.specs.declared.pending.Taken.{Taken}
 use Rattle.cell_core.specs.Cases.{IsNew}
 use Rattle.master_state.specs.NameSpace.{name_space, caller}
@@ -41,7 +41,7 @@ TurnedAwayChangesNothing =
     → new ≡ noted s now
 
 -- the handle that a call shows, where the master knew nothing of it: it is open from then on. In a recovery none is looked at
-abbrev pub first_shown : MasterState → CallMessage → Option Note
+abbrev pub first_shown : MasterState → CallMessage → Option HandleNote
 first_shown s message =
     if s.recovering then None
     else option_and_then (λ bytes. option_and_then (λ handle. shown_note s handle bytes) (shown_handle s message.client bytes)) (shown_bytes message.call)
@@ -97,6 +97,6 @@ pub record IsRefusedAlone (s : MasterState) (now number : ℕ) (new : MasterStat
 -- a call that is refused when its turn comes, which one that ends its session never is, changes nothing but that its reply is kept, and it has left the gate; who holds a lock that it asked for in vain may be told of that by an event
 abbrev pub RefusedApplicationChangesNothing : Type 0
 RefusedApplicationChangesNothing =
-    (s new : MasterState) (now number : ℕ) (told : Swept) (asked : Asked) (call : Call) (sequencer : Option (List ℕ)) (fault : Fault) → sweep_step s now ≡ Ok (new, told) → IsBeingApplied (noted s now) number asked call sequencer → is_leave call ≡ false
+    (s new : MasterState) (now number : ℕ) (told : Swept) (asked : WaitingRequest) (call : Call) (sequencer : Option (List ℕ)) (fault : Fault) → sweep_step s now ≡ Ok (new, told) → IsBeingApplied (noted s now) number asked call sequencer → is_leave call ≡ false
     → (effect (name_space (noted s now)) (caller (noted s now) asked.client) (noted s now).clock asked.number call sequencer).answer ≡ Some (results.Refused fault)
     → IsRefusedAlone s now number new told (reply_of s asked.client asked.number (results.Refused fault))

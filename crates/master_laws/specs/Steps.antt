@@ -6,7 +6,7 @@ use Rattle.tags_cell.specs.declared.messages.requests.Request.TheVariants as req
 use Rattle.tags_cell.specs.declared.messages.outs.CallResult.{CallResult}
 use Rattle.tags_cell.specs.declared.messages.outs.Out.TheVariants as outs
 use Rattle.tags_cell.specs.declared.messages.outs.Reply.{Reply}
-use Rattle.master_parts.specs.declared.pending.Asked.{Asked}
+use Rattle.master_parts.specs.declared.pending.WaitingRequest.{WaitingRequest}
 use Rattle.master_parts.specs.declared.pending.Taken.{Taken}
 use Rattle.master_parts.specs.declared.pending.Task.TheVariants as tasks
 use Rattle.master_parts.specs.declared.pending.Work.TheVariants as works
@@ -32,7 +32,7 @@ pub record IsAnsweredBy (taken : Taken) (message : CallMessage) (result : CallRe
   pub is_result : reply.result ≡ result
 
 -- the change of this number has its turn, and is a call of a live session
-pub record IsBeingApplied (s : MasterState) (number : ℕ) (asked : Asked) (call : Call) (sequencer : Option (List ℕ)) : Type 0 where
+pub record IsBeingApplied (s : MasterState) (number : ℕ) (asked : WaitingRequest) (call : Call) (sequencer : Option (List ℕ)) : Type 0 where
   pub is_first : first_action s ≡ actions.Apply number
   pub waits : task_at number s.gate.waiting ≡ Some (tasks.Asked asked)
   pub work : asked.work ≡ works.Calls call sequencer

@@ -10,7 +10,7 @@ use Rattle.tags_cell.specs.Numbers.{is_client_number}
 use Rattle.tags_cell.specs.declared.messages.outs.Reply.{Reply}
 use Rattle.tags_cell.specs.declared.messages.requests.Request.{Request}
 use Rattle.tags_cell.specs.declared.messages.requests.Request.TheVariants as requests
-use Rattle.rights_core.specs.declared.cache_rights.Status.TheVariants as statuses
+use Rattle.rights_core.specs.declared.cache_rights.RightStatus.TheVariants as statuses
 use Rattle.rights_core.specs.declared.endings.Ending.TheVariants as endings
 use Rattle.rights_core.specs.Rights.{holds, ended}
 use Rattle.rights_core.specs.Laws.{asked_for}

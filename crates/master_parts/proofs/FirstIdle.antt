@@ -12,7 +12,7 @@ use Rattle.std.specs.BTreeMap.{is_at}
 use Rattle.std.proofs.lemmas.Map.Lookups.{exact_bytes}
 use Rattle.node_core.specs.declared.nodes.Node.{Node}
 use Rattle.node_core.specs.Nodes.{get_node}
-use Rattle.master_parts.specs.declared.pending.Idle.{Idle}
+use Rattle.master_parts.specs.declared.pending.Orphan.{Orphan}
 use Rattle.master_parts.specs.State.{TableState}
 use Rattle.master_parts.specs.EphemeralNames.{NameTable, is_named}
 use Rattle.master_parts.specs.Ephemerals.{goes, idle_of, or_next, first_idle, idle_at}
@@ -55,7 +55,7 @@ has_rest s names n has stays = λ q w h moves.
       | false ↦ (λ c. another names n q c (has q w h moves))
     ]) refl
 
-abbrev pub Picked : TableState → List ℕ → Option Node → Option Idle
+abbrev pub Picked : TableState → List ℕ → Option Node → Option Orphan
 Picked s name o = option_map_or (λ view. cond (goes s (name, view)) (Some (idle_of (name, view))) None) o None
 
 first_is : (s : TableState) (names : NameTable) → InOrder s.nodes → InOrder names → HasToGo s names → first_idle s names ≡ option_map idle_of (find (goes s) s.nodes)
@@ -64,7 +64,7 @@ first_is s [] sorted in_order has =
     let none : find (goes s) s.nodes ≡ None = none_found (slice_cmp nat_cmp) nat_list_cmp_total exact_bytes (goes s) s.nodes sorted (λ q w h moves. let t = has q w h moves in absurd (cc)) in
     ap (option_map idle_of) (sym none)
 first_is s (n ∷ names) sorted in_order has =
-    let Goal : Option Idle → Type 0 = λ o. or_next o (first_idle s names) ≡ option_map idle_of (find (goes s) s.nodes) in
+    let Goal : Option Orphan → Type 0 = λ o. or_next o (first_idle s names) ≡ option_map idle_of (find (goes s) s.nodes) in
     (elim (lookup (At n.0) s.nodes) as (λ o. lookup (At n.0) s.nodes ≡ o → Goal (Picked s n.0 o)) [
       | None ↦ (λ c. first_is s names sorted in_order.1 (has_rest s names n has (λ w h moves. absurd (cc))))
       | Some view ↦ (λ c.

@@ -15,7 +15,7 @@ use Rattle.tags_cell.specs.declared.messages.outs.Reply.{Reply}
 use Rattle.master_parts.specs.declared.handles.HandleKey.{HandleKey}
 use Rattle.master_parts.specs.declared.handles.HandleState.{HandleState}
 use Rattle.master_parts.specs.declared.handles.HandleState.TheVariants.{Open, Closed}
-use Rattle.master_parts.specs.declared.open_handles.Place.{Place}
+use Rattle.master_parts.specs.declared.open_handles.PlaceOnNode.{PlaceOnNode}
 use Rattle.master_parts.specs.Keys.{handle_order}
 use Rattle.master_parts.specs.OpenHandles.{place_order, place_of, state_at, ArePlaced, is_open_in, is_known_open}
 use Rattle.master_parts.proofs.Found.{either_way, first_of_both, one_passes, any_found, found_any}
@@ -32,7 +32,7 @@ known entries sessions instance key h =
     ]) refl h
 
 -- the handle stands in its place on the instance
-placed_there : (entries : List (HandleKey × HandleState)) (places : List (Place × HandleKey)) (sessions : SessionTable Reply) (instance : ℕ) (key : HandleKey) (state : HandleState) → IsStrictlySortedBy place_order (keys_of places) → ArePlaced entries places → state_at entries key ≡ Some state → is_open_in sessions instance key state ≡ true → lookup (is_at (place_order (place_of instance key))) (places_on instance places) ≡ Some key
+placed_there : (entries : List (HandleKey × HandleState)) (places : List (PlaceOnNode × HandleKey)) (sessions : SessionTable Reply) (instance : ℕ) (key : HandleKey) (state : HandleState) → IsStrictlySortedBy place_order (keys_of places) → ArePlaced entries places → state_at entries key ≡ Some state → is_open_in sessions instance key state ≡ true → lookup (is_at (place_order (place_of instance key))) (places_on instance places) ≡ Some key
 placed_there entries places sessions instance key Closed sorted placed h t = absurd (cc)
 placed_there entries places sessions instance key (Open noted) sorted placed h t =
     let on : noted.handle.instance ≡ instance = same noted.handle.instance instance (first_of_both (noted.handle.instance == instance) (is_live sessions key.client) t) in
@@ -41,9 +41,9 @@ placed_there entries places sessions instance key (Open noted) sorted placed h t
     lookup_kept place_order place_total exact_place (λ e. range_contains place_order (Included (first_place instance)) (Excluded (first_place (instance + 1))) e.0) places (place_of instance key) sorted
     ∙ rw (found, on_instance instance key) refl
 
-pub open_by_places : (entries : List (HandleKey × HandleState)) (places : List (Place × HandleKey)) (sessions : SessionTable Reply) (instance : ℕ) → IsStrictlySortedBy handle_order (keys_of entries) → IsStrictlySortedBy place_order (keys_of places) → ArePlaced entries places → list_any (λ e. is_known_open entries sessions instance e.1) (places_on instance places) ≡ list_any (λ entry. is_open_in sessions instance entry.0 entry.1) entries
+pub open_by_places : (entries : List (HandleKey × HandleState)) (places : List (PlaceOnNode × HandleKey)) (sessions : SessionTable Reply) (instance : ℕ) → IsStrictlySortedBy handle_order (keys_of entries) → IsStrictlySortedBy place_order (keys_of places) → ArePlaced entries places → list_any (λ e. is_known_open entries sessions instance e.1) (places_on instance places) ≡ list_any (λ entry. is_open_in sessions instance entry.0 entry.1) entries
 open_by_places entries places sessions instance sorted in_order placed =
-    let test : Place × HandleKey → Bool = λ e. is_known_open entries sessions instance e.1 in
+    let test : PlaceOnNode × HandleKey → Bool = λ e. is_known_open entries sessions instance e.1 in
     let opens : HandleKey × HandleState → Bool = λ entry. is_open_in sessions instance entry.0 entry.1 in
     either_way (list_any test (places_on instance places)) (list_any opens entries)
     (λ h.
@@ -58,14 +58,14 @@ open_by_places entries places sessions instance sorted in_order placed =
 
 -- ---- what the steps of the loop come to
 
-module _ (entries : List (HandleKey × HandleState)) (places : List (Place × HandleKey)) (sessions : SessionTable Reply) (instance : ℕ) (sorted : IsStrictlySortedBy handle_order (keys_of entries)) (in_order : IsStrictlySortedBy place_order (keys_of places)) (placed : ArePlaced entries places) where
-  abbrev Knows : Place × HandleKey → Bool
+module _ (entries : List (HandleKey × HandleState)) (places : List (PlaceOnNode × HandleKey)) (sessions : SessionTable Reply) (instance : ℕ) (sorted : IsStrictlySortedBy handle_order (keys_of entries)) (in_order : IsStrictlySortedBy place_order (keys_of places)) (placed : ArePlaced entries places) where
+  abbrev Knows : PlaceOnNode × HandleKey → Bool
   Knows e = is_known_open entries sessions instance e.1
 
-  pub open_found : (left rest : List (Place × HandleKey)) (place : Place) (key : HandleKey) → left ≡ (place, key) ∷ rest → list_any Knows left ≡ list_any Knows (places_on instance places) → is_known_open entries sessions instance key ≡ true → true ≡ list_any (λ entry. is_open_in sessions instance entry.0 entry.1) entries
+  pub open_found : (left rest : List (PlaceOnNode × HandleKey)) (place : PlaceOnNode) (key : HandleKey) → left ≡ (place, key) ∷ rest → list_any Knows left ≡ list_any Knows (places_on instance places) → is_known_open entries sessions instance key ≡ true → true ≡ list_any (λ entry. is_open_in sessions instance entry.0 entry.1) entries
   open_found left rest place key step kept knows =
       let first : true ≡ list_any Knows ((place, key) ∷ rest) = rw knows refl in
       first ∙ ap (list_any Knows) (sym step) ∙ kept ∙ open_by_places entries places sessions instance sorted in_order placed
 
-  pub open_none : (left : List (Place × HandleKey)) → left ≡ [] → list_any Knows left ≡ list_any Knows (places_on instance places) → false ≡ list_any (λ entry. is_open_in sessions instance entry.0 entry.1) entries
+  pub open_none : (left : List (PlaceOnNode × HandleKey)) → left ≡ [] → list_any Knows left ≡ list_any Knows (places_on instance places) → false ≡ list_any (λ entry. is_open_in sessions instance entry.0 entry.1) entries
   open_none left none kept = ap (list_any Knows) (sym none) ∙ kept ∙ open_by_places entries places sessions instance sorted in_order placed

@@ -17,7 +17,7 @@ use Rattle.rows_cell.proofs.SortedLookups.{lookup_gone, lookup_kept}
 use Rattle.master_parts.specs.declared.handles.HandleKey.{HandleKey}
 use Rattle.master_parts.specs.declared.handles.HandleState.{HandleState}
 use Rattle.master_parts.specs.declared.handles.HandleState.TheVariants.{Open, Closed}
-use Rattle.master_parts.specs.declared.open_handles.Place.{Place}
+use Rattle.master_parts.specs.declared.open_handles.PlaceOnNode.{PlaceOnNode}
 use Rattle.master_parts.specs.Handles.{NotedHandle}
 use Rattle.master_parts.specs.Keys.{handle_order}
 use Rattle.master_parts.specs.OpenHandles.{place_order, place_of, state_at, with_place, ArePlaced, IsPlaced, IsNotOpenOn, is_among, AreAmong, HasPlaced, HasAll, HasOpenOn}
@@ -49,7 +49,7 @@ pub handle_total : IsTotalOrder handle_order
 handle_total = then_total (on_total (λ (k : HandleKey). k.client) nat_cmp_total) (on_total (λ (k : HandleKey). k.number) nat_cmp_total)
 
 pub place_total : IsTotalOrder place_order
-place_total = then_total (then_total (on_total (λ (p : Place). p.instance) nat_cmp_total) (on_total (λ (p : Place). p.client) nat_cmp_total)) (on_total (λ (p : Place). p.number) nat_cmp_total)
+place_total = then_total (then_total (on_total (λ (p : PlaceOnNode). p.instance) nat_cmp_total) (on_total (λ (p : PlaceOnNode). p.client) nat_cmp_total)) (on_total (λ (p : PlaceOnNode). p.number) nat_cmp_total)
 
 pub same_number : (n : ℕ) → nat_cmp n n ≡ Equal
 same_number n = tied_itself nat_cmp_total n
@@ -57,7 +57,7 @@ same_number n = tied_itself nat_cmp_total n
 pub same_handle : (k : HandleKey) → handle_order k k ≡ Equal
 same_handle k = rw (same_number k.client, same_number k.number) refl
 
-pub same_place : (p : Place) → place_order p p ≡ Equal
+pub same_place : (p : PlaceOnNode) → place_order p p ≡ Equal
 same_place p = rw (same_number p.instance, same_number p.client, same_number p.number) refl
 
 -- ---- a state is noted
@@ -65,7 +65,7 @@ same_place p = rw (same_number p.instance, same_number p.client, same_number p.n
 abbrev pub At : HandleKey → HandleKey → Bool
 At q = is_at (handle_order q)
 
-abbrev There : Place → Place → Bool
+abbrev There : PlaceOnNode → PlaceOnNode → Bool
 There p = is_at (place_order p)
 
 module _ {K V : Type 0} (cmp : K → K → Ordering) (exact : CmpEqualImpliesEq cmp) (same : (x : K) → cmp x x ≡ Equal) where
@@ -88,22 +88,22 @@ place_tells i j q k h =
     (ap (λ p. p.instance) e, ap (λ p. record { client = p.client; number = p.number }) e)
 
 -- one place more
-pub placed_more : (entries : List (HandleKey × HandleState)) (places : List (Place × HandleKey)) (key : HandleKey) (state : HandleState) → ArePlaced entries places → ArePlaced entries (with_place places key state)
+pub placed_more : (entries : List (HandleKey × HandleState)) (places : List (PlaceOnNode × HandleKey)) (key : HandleKey) (state : HandleState) → ArePlaced entries places → ArePlaced entries (with_place places key state)
 placed_more entries places key Closed placed = placed
 placed_more entries places key (Open new) placed = λ q noted h.
     found_apart place_order exact_place same_place places (place_of new.handle.instance key) key q (place_of noted.handle.instance q) (placed q noted h) (λ e. sym (place_tells noted.handle.instance new.handle.instance q key e).1)
 
-pub placed_kept : (entries : List (HandleKey × HandleState)) (places more : List (Place × HandleKey)) (key : HandleKey) (state : HandleState) → more ≡ with_place places key state → ArePlaced entries places → ArePlaced entries more
-placed_kept entries places more key state m placed = let Q : List (Place × HandleKey) → Type 0 = λ ps. ArePlaced entries ps in subst Q (sym m) (placed_more entries places key state placed)
+pub placed_kept : (entries : List (HandleKey × HandleState)) (places more : List (PlaceOnNode × HandleKey)) (key : HandleKey) (state : HandleState) → more ≡ with_place places key state → ArePlaced entries places → ArePlaced entries more
+placed_kept entries places more key state m placed = let Q : List (PlaceOnNode × HandleKey) → Type 0 = λ ps. ArePlaced entries ps in subst Q (sym m) (placed_more entries places key state placed)
 
-is_there : (places : List (Place × HandleKey)) (key : HandleKey) (state : HandleState) (noted : NotedHandle) → state ≡ Open noted → lookup (There (place_of noted.handle.instance key)) (with_place places key state) ≡ Some key
+is_there : (places : List (PlaceOnNode × HandleKey)) (key : HandleKey) (state : HandleState) (noted : NotedHandle) → state ≡ Open noted → lookup (There (place_of noted.handle.instance key)) (with_place places key state) ≡ Some key
 is_there places key state noted e =
     let P : HandleState → Type 0 = λ st. lookup (There (place_of noted.handle.instance key)) (with_place places key st) ≡ Some key in
     subst P (sym e) (found_put place_order exact_place same_place places (place_of noted.handle.instance key) key)
 
-pub placed_put : (entries : List (HandleKey × HandleState)) (places : List (Place × HandleKey)) (key : HandleKey) (state : HandleState) → ArePlaced entries places → ArePlaced (insert_entry handle_order entries key state) (with_place places key state)
+pub placed_put : (entries : List (HandleKey × HandleState)) (places : List (PlaceOnNode × HandleKey)) (key : HandleKey) (state : HandleState) → ArePlaced entries places → ArePlaced (insert_entry handle_order entries key state) (with_place places key state)
 placed_put entries places key state placed = λ q noted h.
-    let p : Place = place_of noted.handle.instance q in
+    let p : PlaceOnNode = place_of noted.handle.instance q in
     let more = placed_more entries places key state placed q noted in
     (elim (At q key) as (λ b. At q key ≡ b → cond b (Some state) (lookup (At q) entries) ≡ Some (Open noted) → lookup (There p) (with_place places key state) ≡ Some q) [
       | true ↦ (λ c k.
@@ -134,7 +134,7 @@ found_set (e ∷ es) key state w q h =
           ]) refl k)
     ]) refl h
 
-pub placed_restored : (entries : List (HandleKey × HandleState)) (places : List (Place × HandleKey)) (key : HandleKey) (former : Option HandleState) → IsStrictlySortedBy handle_order (keys_of entries) → IsPlaced places key former → ArePlaced entries places → ArePlaced (with_former handle_order entries key former) places
+pub placed_restored : (entries : List (HandleKey × HandleState)) (places : List (PlaceOnNode × HandleKey)) (key : HandleKey) (former : Option HandleState) → IsStrictlySortedBy handle_order (keys_of entries) → IsPlaced places key former → ArePlaced entries places → ArePlaced (with_former handle_order entries key former) places
 placed_restored entries places key None sorted is placed = λ q noted h.
     (elim (At q key) as (λ b. cond b None (lookup (At q) entries) ≡ Some (Open noted) → lookup (There (place_of noted.handle.instance q)) places ≡ Some q) [
       | true ↦ (λ k. absurd (cc))
@@ -149,9 +149,9 @@ placed_restored entries places key (Some state) sorted is placed = λ q noted h.
 
 -- ---- a place is given up
 
-pub placed_less : (entries : List (HandleKey × HandleState)) (places : List (Place × HandleKey)) (key : HandleKey) (instance : ℕ) → IsStrictlySortedBy place_order (keys_of places) → IsNotOpenOn (state_at entries key) instance → ArePlaced entries places → ArePlaced entries (remove_entry (There (place_of instance key)) places)
+pub placed_less : (entries : List (HandleKey × HandleState)) (places : List (PlaceOnNode × HandleKey)) (key : HandleKey) (instance : ℕ) → IsStrictlySortedBy place_order (keys_of places) → IsNotOpenOn (state_at entries key) instance → ArePlaced entries places → ArePlaced entries (remove_entry (There (place_of instance key)) places)
 placed_less entries places key instance sorted other placed = λ q noted h.
-    let p : Place = place_of noted.handle.instance q in
+    let p : PlaceOnNode = place_of noted.handle.instance q in
     lookup_gone place_order place_total exact_place places (place_of instance key) p sorted ∙
     ((elim (There p (place_of instance key)) as (λ b. There p (place_of instance key) ≡ b → cond b None (lookup (There p) places) ≡ Some q) [
       | true ↦ (λ c.
@@ -203,10 +203,10 @@ collect_last cmp pick all left old new none c p v h = ⊎_elim (λ l. l) (λ r. 
 
 -- ---- the places of an instance
 
-abbrev pub first_place : ℕ → Place
+abbrev pub first_place : ℕ → PlaceOnNode
 first_place instance = record { instance = instance; client = 0; number = 0 }
 
-abbrev pub places_on : ℕ → List (Place × HandleKey) → List (Place × HandleKey)
+abbrev pub places_on : ℕ → List (PlaceOnNode × HandleKey) → List (PlaceOnNode × HandleKey)
 places_on instance places = entries_between place_order (Included (first_place instance)) (Excluded (first_place (instance + 1))) places
 
 pub zero_first : (a b : Ordering) → is_le a ≡ true → is_le b ≡ true → is_le (ordering_then a b) ≡ true
@@ -229,16 +229,16 @@ on_instance instance key =
     let from : is_le (ordering_then (nat_cmp 0 key.client) (nat_cmp 0 key.number)) ≡ true = zero_first (nat_cmp 0 key.client) (nat_cmp 0 key.number) (from_zero key.client) (from_zero key.number) in
     rw (same_number instance, next_greater instance, from) refl
 
-pub placed_on : (instance : ℕ) (places : List (Place × HandleKey)) (keys : List (HandleKey × Unit {0})) → IsStrictlySortedBy place_order (keys_of places) → ((p : Place) (k : HandleKey) → lookup (There p) (places_on instance places) ≡ Some k → is_among keys k ≡ true) → HasPlaced places instance keys
+pub placed_on : (instance : ℕ) (places : List (PlaceOnNode × HandleKey)) (keys : List (HandleKey × Unit {0})) → IsStrictlySortedBy place_order (keys_of places) → ((p : PlaceOnNode) (k : HandleKey) → lookup (There p) (places_on instance places) ≡ Some k → is_among keys k ≡ true) → HasPlaced places instance keys
 placed_on instance places keys sorted h = λ at key found.
-    let p : Place = place_of instance at in
+    let p : PlaceOnNode = place_of instance at in
     h p key
     (lookup_kept place_order place_total exact_place (λ e. range_contains place_order (Included (first_place instance)) (Excluded (first_place (instance + 1))) e.0) places p sorted
     ∙ rw (found, on_instance instance at) refl)
 
 -- ---- the handles on an instance
 
-pub open_placed : (entries : List (HandleKey × HandleState)) (places : List (Place × HandleKey)) (instance : ℕ) (keys : List (HandleKey × Unit {0})) → ArePlaced entries places → HasPlaced places instance keys → HasOpenOn entries instance keys
+pub open_placed : (entries : List (HandleKey × HandleState)) (places : List (PlaceOnNode × HandleKey)) (instance : ℕ) (keys : List (HandleKey × Unit {0})) → ArePlaced entries places → HasPlaced places instance keys → HasOpenOn entries instance keys
 open_placed entries places instance keys placed has = λ key noted h on.
     let P : ℕ → Type 0 = λ i. lookup (There (place_of i key)) places ≡ Some key in
     has key key (subst P on (placed key noted h))
@@ -248,29 +248,29 @@ open_all entries instance keys has = λ key noted h on. has key (Open noted) h
 
 -- ---- what the steps of the table come to
 
-pub placed_after : {X E : Type 0} (result : Result X E) (entries after : List (HandleKey × HandleState)) (places more : List (Place × HandleKey)) (key : HandleKey) (state : HandleState) → more ≡ with_place places key state → OnOk result (after ≡ insert_entry handle_order entries key state) → OnErr result (after ≡ entries) → ArePlaced entries places → ArePlaced after more
+pub placed_after : {X E : Type 0} (result : Result X E) (entries after : List (HandleKey × HandleState)) (places more : List (PlaceOnNode × HandleKey)) (key : HandleKey) (state : HandleState) → more ≡ with_place places key state → OnOk result (after ≡ insert_entry handle_order entries key state) → OnErr result (after ≡ entries) → ArePlaced entries places → ArePlaced after more
 placed_after (Ok x) entries after places more key state m ok err placed =
     let P : List (HandleKey × HandleState) → Type 0 = λ es. ArePlaced es more in
-    let Q : List (Place × HandleKey) → Type 0 = λ ps. ArePlaced (insert_entry handle_order entries key state) ps in
+    let Q : List (PlaceOnNode × HandleKey) → Type 0 = λ ps. ArePlaced (insert_entry handle_order entries key state) ps in
     subst P (sym ok) (subst Q (sym m) (placed_put entries places key state placed))
 placed_after (Err e) entries after places more key state m ok err placed =
     let P : List (HandleKey × HandleState) → Type 0 = λ es. ArePlaced es more in
-    let Q : List (Place × HandleKey) → Type 0 = λ ps. ArePlaced entries ps in
+    let Q : List (PlaceOnNode × HandleKey) → Type 0 = λ ps. ArePlaced entries ps in
     subst P (sym err) (subst Q (sym m) (placed_more entries places key state placed))
 
-pub placed_again : (entries same after : List (HandleKey × HandleState)) (places there : List (Place × HandleKey)) (key : HandleKey) (former : Option HandleState) → same ≡ entries → there ≡ places → after ≡ with_former handle_order same key former → IsStrictlySortedBy handle_order (keys_of entries) → IsPlaced places key former → ArePlaced entries places → ArePlaced after there
+pub placed_again : (entries same after : List (HandleKey × HandleState)) (places there : List (PlaceOnNode × HandleKey)) (key : HandleKey) (former : Option HandleState) → same ≡ entries → there ≡ places → after ≡ with_former handle_order same key former → IsStrictlySortedBy handle_order (keys_of entries) → IsPlaced places key former → ArePlaced entries places → ArePlaced after there
 placed_again entries same after places there key former e f g sorted is placed =
     let P : List (HandleKey × HandleState) → Type 0 = λ es. ArePlaced es there in
-    let Q : List (Place × HandleKey) → Type 0 = λ ps. ArePlaced (with_former handle_order entries key former) ps in
+    let Q : List (PlaceOnNode × HandleKey) → Type 0 = λ ps. ArePlaced (with_former handle_order entries key former) ps in
     subst P (sym (g ∙ ap (λ l. with_former handle_order l key former) e)) (subst Q (sym f) (placed_restored entries places key former sorted is placed))
 
-pub placed_settled : (entries : List (HandleKey × HandleState)) (places after : List (Place × HandleKey)) (key : HandleKey) (instance : ℕ) (place : Place) (state : Option HandleState) → after ≡ remove_entry (There place) places → place ≡ place_of instance key → state ≡ state_at entries key → IsNotOpenOn state instance → IsStrictlySortedBy place_order (keys_of places) → ArePlaced entries places → ArePlaced entries after
+pub placed_settled : (entries : List (HandleKey × HandleState)) (places after : List (PlaceOnNode × HandleKey)) (key : HandleKey) (instance : ℕ) (place : PlaceOnNode) (state : Option HandleState) → after ≡ remove_entry (There place) places → place ≡ place_of instance key → state ≡ state_at entries key → IsNotOpenOn state instance → IsStrictlySortedBy place_order (keys_of places) → ArePlaced entries places → ArePlaced entries after
 placed_settled entries places after key instance place state removed e f other sorted placed =
     let P : Option HandleState → Type 0 = λ o. IsNotOpenOn o instance in
-    let Q : List (Place × HandleKey) → Type 0 = λ ps. ArePlaced entries ps in
+    let Q : List (PlaceOnNode × HandleKey) → Type 0 = λ ps. ArePlaced entries ps in
     subst Q (sym (removed ∙ ap (λ p. remove_entry (There p) places) e)) (placed_less entries places key instance sorted (subst P f other) placed)
 
-pub range_on : (instance next : ℕ) (first end : Place) (places stored items it : List (Place × HandleKey)) → it ≡ items → items ≡ entries_between place_order (Included first) (Excluded end) stored → stored ≡ places → first ≡ first_place instance → end ≡ first_place next → next ≡ instance + 1 → it ≡ places_on instance places
+pub range_on : (instance next : ℕ) (first end : PlaceOnNode) (places stored items it : List (PlaceOnNode × HandleKey)) → it ≡ items → items ≡ entries_between place_order (Included first) (Excluded end) stored → stored ≡ places → first ≡ first_place instance → end ≡ first_place next → next ≡ instance + 1 → it ≡ places_on instance places
 range_on instance next first end places stored items it a b c d e f =
     let last : end ≡ first_place (instance + 1) = e ∙ ap first_place f in
     a ∙ b
@@ -278,6 +278,6 @@ range_on instance next first end places stored items it a b c d e f =
     ∙ ap (λ p. entries_between place_order (Included p) (Excluded end) places) d
     ∙ ap (λ p. entries_between place_order (Included (first_place instance)) (Excluded p) places) last
 
-pub open_if : {X E : Type 0} (result : Result X E) (entries view : List (HandleKey × HandleState)) (places : List (Place × HandleKey)) (instance : ℕ) (keys : List (HandleKey × Unit {0})) → entries ≡ view → ArePlaced entries places → OnOk result (HasPlaced places instance keys) → OnOk result (HasOpenOn view instance keys)
+pub open_if : {X E : Type 0} (result : Result X E) (entries view : List (HandleKey × HandleState)) (places : List (PlaceOnNode × HandleKey)) (instance : ℕ) (keys : List (HandleKey × Unit {0})) → entries ≡ view → ArePlaced entries places → OnOk result (HasPlaced places instance keys) → OnOk result (HasOpenOn view instance keys)
 open_if (Ok x) entries view places instance keys e placed has = let P : List (HandleKey × HandleState) → Type 0 = λ es. HasOpenOn es instance keys in subst P e (open_placed entries places instance keys placed has)
 open_if (Err x) entries view places instance keys e placed has = tt

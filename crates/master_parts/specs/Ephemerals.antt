@@ -5,7 +5,7 @@ use Rattle.std.specs.Option.{option_map, option_map_or}
 use Rattle.names_cell.specs.Text.{parent_of}
 use Rattle.node_core.specs.declared.nodes.Node.{Node}
 use Rattle.node_core.specs.Nodes.{Nodes, get_node, has_children}
-use Rattle.master_parts.specs.declared.pending.Idle.{Idle}
+use Rattle.master_parts.specs.declared.pending.Orphan.{Orphan}
 use Rattle.master_parts.specs.declared.pending.Task.{Task}
 use Rattle.master_parts.specs.declared.pending.Task.TheVariants as tasks
 use Rattle.master_parts.specs.EphemeralNames.{is_ephemeral, NameTable}
@@ -36,24 +36,24 @@ has_its_turn t instance = list_any (λ w. tidies instance w.change.body) t.queue
 abbrev pub goes : TableState → List ℕ × Node → Bool
 goes t entry = is_left t entry.0 entry.1 && not (has_its_turn t entry.1.instance)
 
-abbrev pub idle_of : List ℕ × Node → Idle
+abbrev pub idle_of : List ℕ × Node → Orphan
 idle_of entry = record { name = entry.0; instance = entry.1.instance }
 
 -- the first by name
-abbrev pub first_to_go : TableState → Option Idle
+abbrev pub first_to_go : TableState → Option Orphan
 first_to_go t = option_map idle_of (find (goes t) t.nodes)
 
 -- ---- by names
 
 -- the node of a name, where it is to go
-abbrev pub idle_at : TableState → List ℕ → Option Idle
+abbrev pub idle_at : TableState → List ℕ → Option Orphan
 idle_at t name = option_map_or (λ node. if goes t (name, node) then Some (idle_of (name, node)) else None) (get_node t.nodes name) None
 
-abbrev pub or_next : Option Idle → Option Idle → Option Idle
+abbrev pub or_next : Option Orphan → Option Orphan → Option Orphan
 or_next (Some idle) next = Some idle
 or_next None next = next
 
 -- the first of these names whose node is to go
-abbrev pub first_idle : TableState → NameTable → Option Idle
+abbrev pub first_idle : TableState → NameTable → Option Orphan
 first_idle t [] = None
 first_idle t (entry ∷ entries) = or_next (idle_at t entry.0) (first_idle t entries)

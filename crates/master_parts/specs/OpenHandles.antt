@@ -14,18 +14,18 @@ use Rattle.lock_core.specs.State.{LockState, Holders, owner_order, hold_of}
 use Rattle.tags_cell.specs.declared.messages.outs.Reply.{Reply}
 use Rattle.master_parts.specs.declared.handles.HandleKey.{HandleKey}
 use Rattle.master_parts.specs.declared.handles.HandleState.{HandleState}
-use Rattle.master_parts.specs.declared.open_handles.Place.{Place}
+use Rattle.master_parts.specs.declared.open_handles.PlaceOnNode.{PlaceOnNode}
 use Rattle.master_parts.specs.Handles.{NotedHandle}
 use Rattle.master_parts.specs.Keys.{handle_order, key_of}
 use Rattle.master_parts.specs.Claims.{owner_of}
 use Rattle.master_parts.specs.declared.handles.HandleState.TheVariants as states
 
 -- by instance, then client, then number
-abbrev pub place_order : Place → Place → Ordering
+abbrev pub place_order : PlaceOnNode → PlaceOnNode → Ordering
 place_order a b = ordering_then (ordering_then (nat_cmp a.instance b.instance) (nat_cmp a.client b.client)) (nat_cmp a.number b.number)
 
 -- where a handle on an instance stands
-abbrev pub place_of : ℕ → HandleKey → Place
+abbrev pub place_of : ℕ → HandleKey → PlaceOnNode
 place_of instance key = record { instance = instance; client = key.client; number = key.number }
 
 -- how a handle stands, if it is known
@@ -33,18 +33,18 @@ abbrev pub state_at : List (HandleKey × HandleState) → HandleKey → Option H
 state_at entries key = lookup (is_at (handle_order key)) entries
 
 -- a handle that is open gets its place
-abbrev pub with_place : List (Place × HandleKey) → HandleKey → HandleState → List (Place × HandleKey)
+abbrev pub with_place : List (PlaceOnNode × HandleKey) → HandleKey → HandleState → List (PlaceOnNode × HandleKey)
 with_place places key (states.Open noted) = insert_entry place_order places (place_of noted.handle.instance key) key
 with_place places key states.Closed = places
 
 -- each handle that is open on a node stands in its place
-abbrev pub ArePlaced : List (HandleKey × HandleState) → List (Place × HandleKey) → Type 0
+abbrev pub ArePlaced : List (HandleKey × HandleState) → List (PlaceOnNode × HandleKey) → Type 0
 ArePlaced entries places =
     (key : HandleKey) (noted : NotedHandle) → state_at entries key ≡ Some (states.Open noted)
     → lookup (is_at (place_order (place_of noted.handle.instance key))) places ≡ Some key
 
 -- a handle in this state stands in its place, where it is open
-abbrev pub IsPlaced : List (Place × HandleKey) → HandleKey → Option HandleState → Type 0
+abbrev pub IsPlaced : List (PlaceOnNode × HandleKey) → HandleKey → Option HandleState → Type 0
 IsPlaced places key state =
     (noted : NotedHandle) → state ≡ Some (states.Open noted) → lookup (is_at (place_order (place_of noted.handle.instance key))) places ≡ Some key
 
@@ -61,7 +61,7 @@ abbrev pub AreAmong : List (HandleKey × Unit {0}) → List (HandleKey × Unit {
 AreAmong some all = (key : HandleKey) → is_among some key ≡ true → is_among all key ≡ true
 
 -- the keys that stand in the places of an instance are among these
-abbrev pub HasPlaced : List (Place × HandleKey) → ℕ → List (HandleKey × Unit {0}) → Type 0
+abbrev pub HasPlaced : List (PlaceOnNode × HandleKey) → ℕ → List (HandleKey × Unit {0}) → Type 0
 HasPlaced places instance keys =
     (at key : HandleKey) → lookup (is_at (place_order (place_of instance at))) places ≡ Some key → is_among keys key ≡ true
 

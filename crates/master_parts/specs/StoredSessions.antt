@@ -5,7 +5,7 @@ use Rattle.session_core.specs.declared.records.Session.{Session}
 use Rattle.session_core.specs.Session.{recovered_session}
 use Rattle.session_core.specs.Sessions.{SessionTable}
 use Rattle.tags_cell.specs.declared.messages.outs.Reply.{Reply}
-use Rattle.rows_cell.specs.declared.tables.Session as stored
+use Rattle.rows_cell.specs.declared.tables.SessionRow as stored
 
 -- a session of the rows lives for the recovery timeout at least
 abbrev pub taken_over : ℕ → ℕ × stored.Session → ℕ × Session Reply

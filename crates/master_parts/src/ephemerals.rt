@@ -4,7 +4,7 @@ ghost use Rattle.std.specs.Option.{option_map};
 ghost use Rattle.master_parts.specs.Ephemerals.{is_left, tidies, goes, idle_of, idle_at, first_idle};
 
 use crate::nodes::is_ephemeral;
-use crate::pending::{Idle, Task};
+use crate::pending::{Orphan, Task};
 use crate::tables::Tables;
 use collections::Table;
 use names_cell::Name;
@@ -15,7 +15,7 @@ use std::alloc::AllocError;
 pub(crate) fn first_among(
     tables: &Tables,
     names: &Table<Name, ()>,
-) -> Result<Option<Idle>, AllocError>
+) -> Result<Option<Orphan>, AllocError>
     ensures { IfOk result (λ idle. idle ≡ first_idle tables.now names.now) }
 {
     for (name, _) in names.as_map() {
@@ -26,7 +26,7 @@ pub(crate) fn first_among(
     Ok(None)
 }
 
-pub(crate) fn first_of_all(tables: &Tables) -> Result<Option<Idle>, AllocError>
+pub(crate) fn first_of_all(tables: &Tables) -> Result<Option<Orphan>, AllocError>
     ensures { IfOk result (λ idle. idle ≡ option_map idle_of (find (goes tables.now) tables.now.nodes)) }
 {
     for (name, node) in tables.nodes().map().as_map() {
@@ -38,7 +38,7 @@ pub(crate) fn first_of_all(tables: &Tables) -> Result<Option<Idle>, AllocError>
 }
 
 // The node of a name, where it is to go.
-pub(crate) fn idle_at(tables: &Tables, name: &Name) -> Result<Option<Idle>, AllocError>
+pub(crate) fn idle_at(tables: &Tables, name: &Name) -> Result<Option<Orphan>, AllocError>
     ensures { IfOk result (λ idle. idle ≡ idle_at tables.now name.now) }
 {
     let Some(node) = tables.nodes().map().get(name) else {
@@ -83,10 +83,10 @@ pub(crate) fn tidies(instance: u64, task: &Task) -> bool
     }
 }
 
-fn idle_of(name: &Name, node: &Node) -> Result<Idle, AllocError>
+fn idle_of(name: &Name, node: &Node) -> Result<Orphan, AllocError>
     ensures { IfOk result (λ idle. idle ≡ idle_of (name.now, node.now)) }
 {
-    Ok(Idle {
+    Ok(Orphan {
         name: name.clone()?,
         instance: node.instance,
     })

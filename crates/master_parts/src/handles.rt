@@ -151,10 +151,10 @@ impl OpenHandle {
     }
 
     /// What is noted of it.
-    pub fn note(self) -> Note
+    pub fn note(self) -> HandleNote
         ensures { result ≡ open_note self.handle self.bytes }
     {
-        Note {
+        HandleNote {
             key: HandleKey::of(&self.handle),
             state: HandleState::Open(self),
         }
@@ -172,7 +172,7 @@ pub enum HandleState {
 
 /// What a master notes of a handle.
 #[derive(Drop)]
-pub struct Note {
+pub struct HandleNote {
     pub key: HandleKey,
     pub state: HandleState,
 }

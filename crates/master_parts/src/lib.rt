@@ -20,11 +20,11 @@ mod walks;
 pub use calls::{
     bytes_of, create_fault, delay_of, denied, denied_without, is_leave, node_fault, set_answer,
 };
-pub use handles::{HandleKey, HandleState, Note, OpenHandle, claim_of, owner_of};
-pub use listeners::Subject;
+pub use handles::{HandleKey, HandleNote, HandleState, OpenHandle, claim_of, owner_of};
+pub use listeners::ListenSubject;
 pub use nodes::{Nodes, is_ephemeral};
-pub use notices::{Notice, Telling, event_of, instance_of};
+pub use notices::{Notice, SessionEvent, event_of, instance_of};
 pub use open_handles::Handles;
-pub use pending::{Asked, Idle, Taken, Task, Work, answered_by};
+pub use pending::{Orphan, Taken, Task, WaitingRequest, Work, answered_by};
 pub use rows::{lock_rows, row_edits};
 pub use tables::Tables;

@@ -44,12 +44,12 @@ impl NameIndex {
         ensures others { StayIndexed map.now self.old.names self.new.names }
     {
         match seat_of(&self.names, map, name, instance) {
-            Seat::Own => Ok(()),
-            Seat::Taken => {
+            InstanceNote::Own => Ok(()),
+            InstanceNote::Taken => {
                 self.complete = false;
                 Ok(())
             }
-            Seat::Free => note(&mut self.names, instance, name),
+            InstanceNote::Free => note(&mut self.names, instance, name),
         }
     }
 
@@ -84,7 +84,7 @@ impl NameIndex {
 }
 
 // What is noted of an instance.
-enum Seat {
+enum InstanceNote {
     // This name.
     Own,
     // Another name, at which it stands.
@@ -93,20 +93,20 @@ enum Seat {
     Free,
 }
 
-fn seat_of(names: &Table<u64, Name>, map: &Map, name: &Name, instance: u64) -> Seat
-    ensures own { result ≡ Seat.Own → indexed_name names.now instance ≡ Some name.now }
-    ensures free { result ≡ Seat.Free → (n : List ℕ) → indexed_name names.now instance ≡ Some n → stands_at map.now n instance ≡ false }
+fn seat_of(names: &Table<u64, Name>, map: &Map, name: &Name, instance: u64) -> InstanceNote
+    ensures own { result ≡ InstanceNote.Own → indexed_name names.now instance ≡ Some name.now }
+    ensures free { result ≡ InstanceNote.Free → (n : List ℕ) → indexed_name names.now instance ≡ Some n → stands_at map.now n instance ≡ false }
 {
     let Some(noted) = names.get(&instance) else {
-        return Seat::Free;
+        return InstanceNote::Free;
     };
     if noted == name {
-        return Seat::Own;
+        return InstanceNote::Own;
     }
     if stands_at(map, noted, instance) {
-        Seat::Taken
+        InstanceNote::Taken
     } else {
-        Seat::Free
+        InstanceNote::Free
     }
 }
 

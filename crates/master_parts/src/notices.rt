@@ -28,7 +28,7 @@ pub enum Notice {
 
 /// An event for the session of a client.
 #[derive(Drop)]
-pub struct Telling {
+pub struct SessionEvent {
     pub client: u64,
     pub event: Event,
 }

@@ -12,7 +12,7 @@ ghost use Rattle.master_parts.specs.Listeners.{HasSeats, HasAsking};
 ghost use Rattle.master_parts.specs.OpenHandles.{place_of, with_place, state_at, ArePlaced, IsPlaced, IsNotOpenOn, AreAmong, HasPlaced, HasAll, HasOpenOn, HasHoldersOn, HasOwner, HasOwners, IsOwn, is_open_in, is_known_open};
 
 use crate::handles::{HandleKey, HandleState};
-use crate::listeners::{Listeners, Subject};
+use crate::listeners::{ListenSubject, Listeners};
 use collections::Table;
 use lock_core::{Hold, Lock, Owner};
 use session_core::Sessions;
@@ -22,17 +22,17 @@ use tags_cell::{Ordinal, Reply};
 
 /// Where a handle stands: its node's instance first, so that all handles on a node stand next to each other.
 #[derive(Clone, Copy, PartialEq, Eq, PartialOrd, Ord)]
-pub struct Place {
+pub struct PlaceOnNode {
     pub instance: u64,
     pub client: u64,
     pub number: u64,
 }
 
-impl Place {
-    fn of(instance: u64, key: &HandleKey) -> Place
+impl PlaceOnNode {
+    fn of(instance: u64, key: &HandleKey) -> PlaceOnNode
         ensures { result ≡ place_of instance key.now }
     {
-        Place {
+        PlaceOnNode {
             instance,
             client: key.client.get(),
             number: key.number.get(),
@@ -40,10 +40,10 @@ impl Place {
     }
 
     // No handle on the instance stands before it.
-    fn first(instance: u64) -> Place
+    fn first(instance: u64) -> PlaceOnNode
         ensures { result ≡ record { instance = instance; client = 0; number = 0 } }
     {
-        Place {
+        PlaceOnNode {
             instance,
             client: 0,
             number: 0,
@@ -57,7 +57,7 @@ impl Place {
 pub struct Handles {
     states: Table<HandleKey, HandleState>,
     // The place of each open handle, and of some that are closed.
-    places: Table<Place, HandleKey>,
+    places: Table<PlaceOnNode, HandleKey>,
     // The seats of those that asked to be told of events.
     listeners: Listeners,
     // Whether each open handle has its place and its seats.
@@ -157,7 +157,7 @@ impl Handles {
             return;
         }
         let _count = self.places.as_map().len();
-        self.places.remove(&Place::of(instance, key));
+        self.places.remove(&PlaceOnNode::of(instance, key));
         self.listeners.remove(key, instance);
     }
 
@@ -198,7 +198,7 @@ impl Handles {
     /// states are looked up. Costs one look-up for each that asked.
     pub fn add_asking(
         &self,
-        subject: Subject,
+        subject: ListenSubject,
         instance: u64,
         keys: &mut Table<HandleKey, ()>,
     ) -> Result<(), AllocError>
@@ -234,7 +234,7 @@ impl Handles {
 
 // A handle that is open gets its place.
 fn add_place(
-    places: &mut Table<Place, HandleKey>,
+    places: &mut Table<PlaceOnNode, HandleKey>,
     key: &HandleKey,
     state: &HandleState,
 ) -> Result<(), AllocError>
@@ -242,19 +242,23 @@ fn add_place(
     ensures err { OnErr result (places.new ≡ places.old) }
 {
     if let HandleState::Open(noted) = state {
-        places.put(Place::of(noted.instance(), key), *key)?;
+        places.put(PlaceOnNode::of(noted.instance(), key), *key)?;
     }
     Ok(())
 }
 
 // Whether a handle has its place, where it is open.
-fn is_placed(places: &Table<Place, HandleKey>, key: &HandleKey, state: &Option<HandleState>) -> bool
+fn is_placed(
+    places: &Table<PlaceOnNode, HandleKey>,
+    key: &HandleKey,
+    state: &Option<HandleState>,
+) -> bool
     ensures { result ≡ true → IsPlaced places.now key.now state.now }
 {
     let Some(HandleState::Open(noted)) = state else {
         return true;
     };
-    match places.get(&Place::of(noted.instance(), key)) {
+    match places.get(&PlaceOnNode::of(noted.instance(), key)) {
         Some(found) => found.is(key),
         None => false,
     }
@@ -262,7 +266,7 @@ fn is_placed(places: &Table<Place, HandleKey>, key: &HandleKey, state: &Option<H
 
 // Whether a handle has its place and its seats, where it is open.
 fn is_found(
-    places: &Table<Place, HandleKey>,
+    places: &Table<PlaceOnNode, HandleKey>,
     listeners: &Listeners,
     key: &HandleKey,
     state: &Option<HandleState>,
@@ -326,7 +330,7 @@ fn any_open_in(
 // The same by the places of the instance.
 fn any_placed_open(
     states: &Table<HandleKey, HandleState>,
-    places: &Table<Place, HandleKey>,
+    places: &Table<PlaceOnNode, HandleKey>,
     instance: u64,
     next: u64,
     sessions: &Sessions<Reply>,
@@ -336,8 +340,8 @@ fn any_placed_open(
     ensures { result ≡ list_any (λ entry. is_open_in sessions.now instance entry.0 entry.1) states.now }
 {
     let _count = states.as_map().len();
-    let first = Place::first(instance);
-    let end = Place::first(next);
+    let first = PlaceOnNode::first(instance);
+    let end = PlaceOnNode::first(next);
     for (_, key) in places.as_map().range(first..end) {
         if is_known_open(states, instance, sessions, key) {
             return true;
@@ -363,7 +367,7 @@ fn is_known_open(
 
 // The keys that stand in the places of an instance.
 fn add_placed(
-    places: &Table<Place, HandleKey>,
+    places: &Table<PlaceOnNode, HandleKey>,
     instance: u64,
     next: u64,
     keys: &mut Table<HandleKey, ()>,
@@ -372,8 +376,8 @@ fn add_placed(
     ensures kept { OnOk result (AreAmong keys.old keys.new) }
     ensures found { OnOk result (HasPlaced places.now instance keys.new) }
 {
-    let first = Place::first(instance);
-    let end = Place::first(next);
+    let first = PlaceOnNode::first(instance);
+    let end = PlaceOnNode::first(next);
     for (_, key) in places.as_map().range(first..end) {
         keys.put(*key, ())?;
     }

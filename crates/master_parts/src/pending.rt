@@ -5,7 +5,7 @@ ghost use Rattle.master_parts.specs.Answered.{answered_by};
 use collections::{Bytes, Items, Same};
 use names_cell::{Name, Principal};
 use node_core::Line;
-use session_core::Kept;
+use session_core::LastCall;
 use std::alloc::AllocError;
 use tags_cell::{Call, ClientNumber, MessageNumber, Out, Reply};
 
@@ -40,18 +40,18 @@ impl Same for Work {
 
 /// What a client asked for.
 #[derive(Drop)]
-pub struct Asked {
+pub struct WaitingRequest {
     pub client: ClientNumber,
     /// The number of the Start or of the call.
     pub number: MessageNumber,
     pub work: Work,
 }
 
-impl Clone for Asked {
+impl Clone for WaitingRequest {
     ghost is_clone = { λ s t. t ≡ s };
 
-    fn clone(&self) -> Result<Asked, AllocError> {
-        Ok(Asked {
+    fn clone(&self) -> Result<WaitingRequest, AllocError> {
+        Ok(WaitingRequest {
             client: self.client,
             number: self.number,
             work: self.work.clone()?,
@@ -59,29 +59,29 @@ impl Clone for Asked {
     }
 }
 
-impl Same for Asked {
+impl Same for WaitingRequest {
     ghost exact = { λ x y h. h };
 }
 
 /// An ephemeral node that nobody holds open (Burrows 2006, section 2.3).
 #[derive(Drop)]
-pub struct Idle {
+pub struct Orphan {
     pub name: Name,
     pub instance: u64,
 }
 
-impl Clone for Idle {
+impl Clone for Orphan {
     ghost is_clone = { λ s t. t ≡ s };
 
-    fn clone(&self) -> Result<Idle, AllocError> {
-        Ok(Idle {
+    fn clone(&self) -> Result<Orphan, AllocError> {
+        Ok(Orphan {
             name: self.name.clone()?,
             instance: self.instance,
         })
     }
 }
 
-impl Same for Idle {
+impl Same for Orphan {
     ghost exact = { λ x y h. h };
 }
 
@@ -89,9 +89,9 @@ impl Same for Idle {
 #[derive(Drop)]
 pub enum Task {
     /// A client asked for it.
-    Asked(Asked),
+    Asked(WaitingRequest),
     /// The cell deletes the node by itself, unless somebody holds it open again by then.
-    Tidies(Idle),
+    Tidies(Orphan),
 }
 
 impl Clone for Task {
@@ -110,10 +110,10 @@ impl Same for Task {
 }
 
 /// What is kept of a call that has its reply.
-pub fn answered_by(reply: Reply) -> Kept<Reply>
+pub fn answered_by(reply: Reply) -> LastCall<Reply>
     ensures { result ≡ answered_by reply }
 {
-    Kept {
+    LastCall {
         number: reply.number,
         reply: Some(reply),
     }

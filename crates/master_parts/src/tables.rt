@@ -22,7 +22,7 @@ use crate::ephemerals::{first_among, first_of_all, idle_at, is_left};
 use crate::handles::{HandleKey, HandleState};
 use crate::nodes::Nodes;
 use crate::open_handles::Handles;
-use crate::pending::{Idle, Task};
+use crate::pending::{Orphan, Task};
 use crate::tasks::Tasks;
 use crate::walks::{
     add_parent, candidates_of, forget_node, lose_node, note_node, wake_held, wake_open, wake_tidied,
@@ -32,7 +32,7 @@ use gate_core::{Pending, Queue};
 use names_cell::{Name, Principal};
 use node_core::{Event, Fault, Node};
 use rights_core::{Ending, Grant};
-use session_core::{Kept, Sessions};
+use session_core::{LastCall, Sessions};
 use std::alloc::{AllocError, Global};
 use std::marker::Model;
 use tags_cell::{Beat, ClientNumber, Reply};
@@ -135,7 +135,7 @@ impl Tables {
     /// The first ephemeral node by name that is to go: nobody holds it open, it has no children and isn't the root, and
     /// its deletion doesn't wait yet. It looks at those alone that may be to go since `note_quiet` looked last; at all
     /// ephemeral nodes where memory was wanting since, or a step was undone.
-    pub fn first_to_go(&self) -> Result<Option<Idle>, AllocError>
+    pub fn first_to_go(&self) -> Result<Option<Orphan>, AllocError>
         ensures { IfOk result (λ idle. idle ≡ first_to_go self.now) }
     {
         match self.candidates.names() {
@@ -148,7 +148,7 @@ impl Tables {
         }
     }
 
-    fn first_of_ephemerals(&self) -> Result<Option<Idle>, AllocError>
+    fn first_of_ephemerals(&self) -> Result<Option<Orphan>, AllocError>
         ensures { IfOk result (λ idle. idle ≡ first_to_go self.now) }
     {
         match self.nodes.ephemerals() {
@@ -355,7 +355,7 @@ impl Tables {
     }
 
     /// The last call of a client, and its reply once it has one. Takes no memory.
-    pub fn keep(&mut self, client: ClientNumber, kept: Kept<Reply>)
+    pub fn keep(&mut self, client: ClientNumber, kept: LastCall<Reply>)
         ensures { self.new ≡ record self.old { sessions = with_session self.old.sessions client (keeping kept) } }
     {
         self.sessions.keep(client, kept);

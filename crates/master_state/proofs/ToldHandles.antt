@@ -13,9 +13,9 @@ use Rattle.rows_cell.proofs.SortedLookups.{same_lookups, found_none}
 use Rattle.master_parts.specs.declared.handles.HandleKey.{HandleKey}
 use Rattle.master_parts.specs.declared.handles.HandleState.{HandleState}
 use Rattle.master_parts.specs.declared.handles.HandleState.TheVariants.{Open, Closed}
-use Rattle.master_parts.specs.declared.handles.Note.{Note}
+use Rattle.master_parts.specs.declared.handles.HandleNote.{HandleNote}
 use Rattle.master_parts.specs.declared.notices.Notice.{Notice}
-use Rattle.master_parts.specs.declared.notices.Telling.{Telling}
+use Rattle.master_parts.specs.declared.notices.SessionEvent.{SessionEvent}
 use Rattle.master_state.specs.Concerned.{HasTold, HasConcerned, telling_at}
 use Rattle.master_parts.specs.Handles.{NotedHandle}
 use Rattle.master_parts.specs.Keys.{handle_order}
@@ -95,7 +95,7 @@ looked_up {K} {V} {U} {T} cmp total exact f es ks sorted keys_sorted covered =
 -- ---- what is told by handles that are looked up
 
 -- what a key gives
-abbrev pub told_by : MasterState → Option Note → List Notice → HandleKey × Unit {0} → Option Telling
+abbrev pub told_by : MasterState → Option HandleNote → List Notice → HandleKey × Unit {0} → Option SessionEvent
 told_by s note notices entry = telling_at s note notices entry.0
 
 pub tell_start : {X Y : Type 0} (f : X → Option Y) (all left : List X) (told : List Y) → told ≡ [] → left ≡ all → told ++ filter_map f left ≡ filter_map f all
@@ -120,17 +120,17 @@ some_told f true o h = absurd (cc)
 some_told f false None h = absurd (cc)
 some_told f false (Some x) h = refl
 
-nobody : (b : Bool) → is_some (cond b None (let none : Option Telling = None in none)) ≡ true → ⊥
+nobody : (b : Bool) → is_some (cond b None (let none : Option SessionEvent = None in none)) ≡ true → ⊥
 nobody true h = cc
 nobody false h = cc
 
-covered : (s : MasterState) (note : Option Note) (notices : List Notice) (keys : List (HandleKey × Unit {0})) → HasConcerned s notices keys → (q : HandleKey) (state : HandleState) → state_at s.handles q ≡ Some state → is_some (telling_by s note notices (q, state)) ≡ true → is_among keys q ≡ true
+covered : (s : MasterState) (note : Option HandleNote) (notices : List Notice) (keys : List (HandleKey × Unit {0})) → HasConcerned s notices keys → (q : HandleKey) (state : HandleState) → state_at s.handles q ≡ Some state → is_some (telling_by s note notices (q, state)) ≡ true → is_among keys q ≡ true
 covered s note notices keys has q (Open noted) h told =
     has q noted h (some_told (λ event. record { client = q.client; event = event }) (is_noted note q) (event_for s noted.handle notices) told)
 covered s note notices keys has q Closed h told = absurd (nobody (is_noted note q) told)
 
 -- all that is told
-pub told_all : (s : MasterState) (note : Option Note) (notices : List Notice) (keys left : List (HandleKey × Unit {0})) (told : List Telling) → IsStrictlySortedBy handle_order (keys_of s.handles) → IsStrictlySortedBy handle_order (keys_of keys) → HasConcerned s notices keys → left ≡ [] → told ++ filter_map (told_by s note notices) left ≡ filter_map (told_by s note notices) keys → told ≡ tellings_to s note notices
+pub told_all : (s : MasterState) (note : Option HandleNote) (notices : List Notice) (keys left : List (HandleKey × Unit {0})) (told : List SessionEvent) → IsStrictlySortedBy handle_order (keys_of s.handles) → IsStrictlySortedBy handle_order (keys_of keys) → HasConcerned s notices keys → left ≡ [] → told ++ filter_map (told_by s note notices) left ≡ filter_map (told_by s note notices) keys → told ≡ tellings_to s note notices
 told_all s note notices keys left told sorted keys_sorted has none h =
     tell_end (told_by s note notices) left told (filter_map (told_by s note notices) keys) none h
     ∙ looked_up handle_order handle_total exact_handle (telling_by s note notices) s.handles keys sorted keys_sorted (covered s note notices keys has)

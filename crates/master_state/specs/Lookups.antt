@@ -29,14 +29,14 @@ use Rattle.tags_cell.specs.declared.messages.beats.Beat.{Beat}
 use Rattle.tags_cell.specs.declared.messages.outs.CallResult.{CallResult}
 use Rattle.tags_cell.specs.declared.messages.outs.Reply.{Reply}
 use Rattle.master_parts.specs.declared.pending.Taken.{Taken}
-use Rattle.session_core.specs.declared.records.Kept.{Kept}
+use Rattle.session_core.specs.declared.records.LastCall.{LastCall}
 use Rattle.session_core.specs.declared.records.Session.{Session}
 use Rattle.session_core.specs.Sessions.{has_spent_events}
 use Rattle.lock_core.specs.State.{LockState, hold_of}
 use Rattle.lock_core.specs.Locks.{lock_at, sequencer_of, checked}
 use Rattle.master_parts.specs.declared.handles.HandleState.{HandleState}
 use Rattle.master_parts.specs.declared.handles.HandleKey.{HandleKey}
-use Rattle.master_parts.specs.declared.handles.Note.{Note}
+use Rattle.master_parts.specs.declared.handles.HandleNote.{HandleNote}
 use Rattle.master_parts.specs.Keys.{handle_order, key_of}
 use Rattle.master_parts.specs.Claims.{owner_of}
 use Rattle.master_parts.specs.Ephemerals.{is_held_open, must_stay}
@@ -62,7 +62,7 @@ use Rattle.master_parts.specs.declared.handles.HandleState.TheVariants as states
 abbrev pub session_of : MasterState → ℕ → Option (Session Reply)
 session_of s client = of_sessions.session_of s.sessions client
 
-abbrev pub kept_of : MasterState → ℕ → Option (Kept Reply)
+abbrev pub kept_of : MasterState → ℕ → Option (LastCall Reply)
 kept_of s client = of_sessions.kept_of s.sessions client
 
 abbrev pub is_live : MasterState → ℕ → Bool
@@ -110,7 +110,7 @@ abbrev pub repeated_reply : Option Reply → Taken
 repeated_reply None = nothing
 repeated_reply (Some reply) = sends reply
 
-abbrev pub repeated : Kept Reply → Taken
+abbrev pub repeated : LastCall Reply → Taken
 repeated kept = repeated_reply kept.reply
 
 -- ---- rights to keep a name in a cache
@@ -209,7 +209,7 @@ opened_answer space (Ok handle) = results.Opened (record { bytes = handle_bytes 
 opened_answer space (Err fault) = results.Refused fault
 
 -- a new handle is open
-abbrev pub opened_note : NameSpace → Result Handle Fault → Option Note
+abbrev pub opened_note : NameSpace → Result Handle Fault → Option HandleNote
 opened_note space (Ok handle) = Some (open_note handle (handle_bytes space.secret handle))
 opened_note space (Err fault) = None
 

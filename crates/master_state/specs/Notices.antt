@@ -8,9 +8,9 @@ use Rattle.tags_cell.specs.declared.messages.outs.Reply.{Reply}
 use Rattle.session_core.specs.Sessions.{SessionTable, with_session}
 use Rattle.master_parts.specs.declared.handles.HandleKey.{HandleKey}
 use Rattle.master_parts.specs.declared.handles.HandleState.{HandleState}
-use Rattle.master_parts.specs.declared.handles.Note.{Note}
+use Rattle.master_parts.specs.declared.handles.HandleNote.{HandleNote}
 use Rattle.master_parts.specs.declared.notices.Notice.{Notice}
-use Rattle.master_parts.specs.declared.notices.Telling.{Telling}
+use Rattle.master_parts.specs.declared.notices.SessionEvent.{SessionEvent}
 use Rattle.master_state.specs.NameSpace.{name_space}
 use Rattle.master_state.specs.State.{MasterState}
 use Rattle.master_state.specs.Lookups.{holds_lock}
@@ -45,26 +45,26 @@ event_for s handle [] = None
 event_for s handle (notice ∷ rest) = option_or (event_on s handle notice) (event_for s handle rest)
 
 -- the step notes something of this handle: that it is open, or closed
-abbrev pub is_noted : Option Note → HandleKey → Bool
+abbrev pub is_noted : Option HandleNote → HandleKey → Bool
 is_noted note key = option_map_or (λ n. is_key n.key key) note false
 
-abbrev pub telling_as : MasterState → List Notice → HandleKey → HandleState → Option Telling
+abbrev pub telling_as : MasterState → List Notice → HandleKey → HandleState → Option SessionEvent
 telling_as s notices key (states.Open noted) = option_map (λ event. record { client = key.client; event = event }) (event_for s noted.handle notices)
 telling_as s notices key states.Closed = None
 
 -- who opens or closes a handle by the step isn't told by that handle
-abbrev pub telling_by : MasterState → Option Note → List Notice → HandleKey × HandleState → Option Telling
+abbrev pub telling_by : MasterState → Option HandleNote → List Notice → HandleKey × HandleState → Option SessionEvent
 telling_by s note notices entry = if is_noted note entry.0 then None else telling_as s notices entry.0 entry.1
 
 -- in the order of the handles: by client, and then by number
-abbrev pub tellings_to : MasterState → Option Note → List Notice → List Telling
+abbrev pub tellings_to : MasterState → Option HandleNote → List Notice → List SessionEvent
 tellings_to s note notices = filter_map (telling_by s note notices) s.handles
 
 -- ---- what is left of it
 
-abbrev pub with_telling : SessionTable Reply → Telling → SessionTable Reply
+abbrev pub with_telling : SessionTable Reply → SessionEvent → SessionTable Reply
 with_telling table telling = with_session table telling.client (of_session.told telling.event)
 
 -- a client whose session has ended is told of nothing
-abbrev pub with_tellings : MasterState → List Telling → MasterState
+abbrev pub with_tellings : MasterState → List SessionEvent → MasterState
 with_tellings s tellings = record s { sessions = fold with_telling s.sessions tellings }

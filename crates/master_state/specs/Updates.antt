@@ -24,14 +24,14 @@ use Rattle.master_state.specs.declared.updates.SessionUpdate.{SessionUpdate}
 use Rattle.master_state.specs.declared.updates.SessionUpdate.TheVariants.{Begins, Prolongs, Ends, Answers}
 use Rattle.master_state.specs.declared.updates.KeptPut.{KeptPut}
 use Rattle.master_state.specs.declared.updates.LockPut.{LockPut}
-use Rattle.master_state.specs.declared.updates.Former.{Former}
+use Rattle.master_state.specs.declared.updates.FormerParts.{FormerParts}
 use Rattle.master_state.specs.declared.updates.MapRest.{MapRest}
 use Rattle.master_state.specs.declared.updates.Rest.{Rest}
 use Rattle.master_parts.specs.Keys.{handle_order}
 use Rattle.master_parts.specs.Locks.{lock_rows}
 use Rattle.master_state.specs.State.{MasterState}
 use Rattle.master_state.specs.Lookups.{session_of}
-use Rattle.master_parts.specs.declared.handles.Note.{Note}
+use Rattle.master_parts.specs.declared.handles.HandleNote.{HandleNote}
 use Rattle.master_state.specs.Partings.{ending_by}
 use Rattle.rights_core.specs.Rights as of_rights
 use Rattle.gate_core.specs.Gate as of_gate
@@ -39,7 +39,7 @@ use Rattle.gate_core.specs.Gate as of_gate
 -- ---- what may want memory
 
 -- what the master notes of a handle, if anything
-abbrev pub with_note : MasterState → Option Note → MasterState
+abbrev pub with_note : MasterState → Option HandleNote → MasterState
 with_note s None = s
 with_note s (Some note) = record s { handles = insert_entry handle_order s.handles note.key note.state }
 
@@ -94,7 +94,7 @@ with_formers locks (former ∷ formers) = with_former nat_cmp (with_formers lock
 abbrev pub without_locks : MasterState → List (ℕ × Option LockState) → MasterState
 without_locks s formers = record s { locks = with_formers s.locks formers }
 
-abbrev pub undone : MasterState → Former → MasterState
+abbrev pub undone : MasterState → FormerParts → MasterState
 undone s former = without_begun (without_note (without_node (without_locks s former.locks) former.node) former.note) former.session
 
 -- ---- what is done behind the commit

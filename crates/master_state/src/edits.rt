@@ -12,7 +12,7 @@ use collections::Items;
 use master_parts::{lock_rows, row_edits};
 use names_cell::{Name, Principal};
 use node_core::{Mod, Node};
-use rows_cell::{Edit, LockKey, LockRow, Session};
+use rows_cell::{Edit, LockKey, LockRow, SessionRow};
 use std::alloc::{AllocError, Global};
 
 /// What is committed for an update.
@@ -48,7 +48,7 @@ fn put_session(client: u64, principal: &Principal, live: bool) -> Result<Edit, A
     ensures { IfOk result (λ edit. edit ≡ PutSession client (record { principal = principal.now; live = live })) }
 {
     let principal = principal.clone()?;
-    Ok(Edit::PutSession(client, Session { principal, live }))
+    Ok(Edit::PutSession(client, SessionRow { principal, live }))
 }
 
 fn change_edits(alloc: Global, change: &Option<Change>) -> Result<Items<Edit>, AllocError>

@@ -20,9 +20,9 @@ pub use edits::edits_of;
 pub use lapses::{lapses_puts, lapses_replies, parting_lines};
 pub use masters::Master;
 pub use replies::{
-    Told, line_if, locked_line, locked_lines, puts_of, replies_to, told_by, turn_replies,
+    StepReply, line_if, locked_line, locked_lines, puts_of, replies_to, told_by, turn_replies,
 };
 pub use updates::{
-    Change, Former, Grown, KeptPut, LockPut, MapRest, Rest, SessionUpdate, Update, finish, grow,
-    settle, settle_note, undo,
+    Change, FormerParts, Grown, KeptPut, LockPut, MapRest, Rest, SessionUpdate, Update, finish,
+    grow, settle, settle_note, undo,
 };

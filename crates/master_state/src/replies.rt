@@ -13,18 +13,22 @@ use tags_cell::{CallResult, ClientNumber, Out, Reply};
 
 /// What is kept, printed and sent.
 #[derive(Drop)]
-pub struct Told {
+pub struct StepReply {
     pub kept: Items<KeptPut>,
     pub taken: Taken,
 }
 
 /// The replies are kept and sent, beside these lines.
-pub fn told_by(alloc: Global, lines: Items<Line>, replies: Items<Reply>) -> Result<Told, AllocError>
+pub fn told_by(
+    alloc: Global,
+    lines: Items<Line>,
+    replies: Items<Reply>,
+) -> Result<StepReply, AllocError>
     ensures { IfOk result (λ told. told ≡ record { kept = kept_puts replies; taken = record { lines = lines; outs = sent replies } }) }
 {
     let outs = sent(alloc, replies.as_slice())?;
     let kept = kept_puts(alloc, replies)?;
-    Ok(Told {
+    Ok(StepReply {
         kept,
         taken: Taken { lines, outs },
     })

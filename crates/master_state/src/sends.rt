@@ -10,7 +10,7 @@ use master_parts::Taken;
 use names_cell::{Name, Principal};
 use node_core::{Fault, Line, NUMBER_LIMIT};
 use rights_core::{Ending, Grant};
-use session_core::Kept;
+use session_core::LastCall;
 use std::alloc::AllocError;
 use tags_cell::{Beat, CallResult, ClientNumber, MessageNumber, Out, Refused, Reply};
 
@@ -125,7 +125,7 @@ impl Master {
     }
 
     /// The reply to the last call again, or nothing while it waits.
-    pub fn repeated(&self, kept: &Kept<Reply>) -> Result<Taken, AllocError>
+    pub fn repeated(&self, kept: &LastCall<Reply>) -> Result<Taken, AllocError>
         ensures { IfOk result (λ taken. taken ≡ repeated kept.now) }
     {
         match &kept.reply {

@@ -9,7 +9,9 @@ ghost use Rattle.master_state.specs.Concerned.{HasTold, HasConcerned, telling_at
 
 use crate::masters::Master;
 use collections::{Items, Table};
-use master_parts::{HandleKey, HandleState, Note, Notice, Subject, Telling, event_of, instance_of};
+use master_parts::{
+    HandleKey, HandleNote, HandleState, ListenSubject, Notice, SessionEvent, event_of, instance_of,
+};
 use node_core::Event;
 use std::alloc::AllocError;
 use tags_cell::Handle;
@@ -21,9 +23,9 @@ impl Master {
     /// and where a node is gone all that are open on it.
     pub fn tellings(
         &self,
-        note: &Option<Note>,
+        note: &Option<HandleNote>,
         notices: &[Notice],
-    ) -> Result<Items<Telling>, AllocError>
+    ) -> Result<Items<SessionEvent>, AllocError>
         ensures { IfOk result (λ tellings. tellings ≡ tellings_to self.now note.now notices.now) }
     {
         let keys = self.concerned(notices)?;
@@ -33,10 +35,10 @@ impl Master {
     // By the handles of these keys.
     fn tellings_among(
         &self,
-        note: &Option<Note>,
+        note: &Option<HandleNote>,
         notices: &[Notice],
         keys: &Table<HandleKey, ()>,
-    ) -> Result<Items<Telling>, AllocError>
+    ) -> Result<Items<SessionEvent>, AllocError>
         requires { HasConcerned self.now notices.now keys.now }
         ensures { IfOk result (λ tellings. tellings ≡ tellings_to self.now note.now notices.now) }
     {
@@ -52,7 +54,7 @@ impl Master {
 
     /// Queues the events in the sessions of their clients; one whose session has ended is told of nothing. Takes no
     /// memory.
-    pub fn tell(&mut self, tellings: Items<Telling>)
+    pub fn tell(&mut self, tellings: Items<SessionEvent>)
         ensures { self.new ≡ with_tellings self.old tellings }
     {
         for telling in tellings.into_vec() {
@@ -60,10 +62,10 @@ impl Master {
         }
     }
 
-    fn tell_one(&mut self, telling: Telling)
+    fn tell_one(&mut self, telling: SessionEvent)
         ensures { self.new ≡ record self.old { sessions = with_telling self.old.sessions telling } }
     {
-        let Telling { client, event } = telling;
+        let SessionEvent { client, event } = telling;
         self.tables.tell(client, event);
     }
 
@@ -92,9 +94,11 @@ impl Master {
             Notice::Invalid(instance) => self.handles().add_open_on(*instance, keys),
             Notice::Contents(instance, _) => {
                 self.handles()
-                    .add_asking(Subject::Contents, *instance, keys)
+                    .add_asking(ListenSubject::Contents, *instance, keys)
             }
-            Notice::Locked(instance) => self.handles().add_asking(Subject::Lock, *instance, keys),
+            Notice::Locked(instance) => self
+                .handles()
+                .add_asking(ListenSubject::Lock, *instance, keys),
             Notice::ChildAdded(instance, _) => self.add_viewers(*instance, keys),
             Notice::ChildRemoved(instance, _) => self.add_viewers(*instance, keys),
             Notice::ChildModified(instance, _) => self.add_viewers(*instance, keys),
@@ -104,9 +108,10 @@ impl Master {
     // Those who asked to be told of the children of a directory.
     fn add_viewers(&self, instance: u64, keys: &mut Table<HandleKey, ()>) -> Result<(), AllocError>
         ensures kept { OnOk result (AreAmong keys.old keys.new) }
-        ensures found { OnOk result (HasAsking self.now.handles Subject.Children instance keys.new) }
+        ensures found { OnOk result (HasAsking self.now.handles ListenSubject.Children instance keys.new) }
     {
-        self.handles().add_asking(Subject::Children, instance, keys)
+        self.handles()
+            .add_asking(ListenSubject::Children, instance, keys)
     }
 
     // Nobody holds a lock that isn't there.
@@ -122,10 +127,10 @@ impl Master {
 
     fn telling_at(
         &self,
-        note: &Option<Note>,
+        note: &Option<HandleNote>,
         notices: &[Notice],
         key: &HandleKey,
-    ) -> Result<Option<Telling>, AllocError>
+    ) -> Result<Option<SessionEvent>, AllocError>
         ensures { IfOk result (λ telling. telling ≡ telling_at self.now note.now notices.now key.now) }
     {
         match self.handles().get(key) {
@@ -137,11 +142,11 @@ impl Master {
     // Who opens or closes a handle by the step isn't told by that handle.
     fn telling_by(
         &self,
-        note: &Option<Note>,
+        note: &Option<HandleNote>,
         notices: &[Notice],
         key: &HandleKey,
         state: &HandleState,
-    ) -> Result<Option<Telling>, AllocError>
+    ) -> Result<Option<SessionEvent>, AllocError>
         ensures { IfOk result (λ telling. telling ≡ telling_by self.now note.now notices.now (key.now, state.now)) }
     {
         if is_noted(note, key) {
@@ -158,11 +163,11 @@ impl Master {
         handle: &Handle,
         notices: &[Notice],
         key: &HandleKey,
-    ) -> Result<Option<Telling>, AllocError>
+    ) -> Result<Option<SessionEvent>, AllocError>
         ensures { IfOk result (λ telling. telling ≡ option_map (λ event. record { client = key.now.client; event = event }) (event_for self.now handle.now notices.now)) }
     {
         match self.event_for(handle, notices)? {
-            Some(event) => Ok(Some(Telling {
+            Some(event) => Ok(Some(SessionEvent {
                 client: key.client.get(),
                 event,
             })),
@@ -219,7 +224,7 @@ impl Master {
 }
 
 // Whether the step notes something of this handle.
-fn is_noted(note: &Option<Note>, key: &HandleKey) -> bool
+fn is_noted(note: &Option<HandleNote>, key: &HandleKey) -> bool
     ensures { result ≡ is_noted note.now key.now }
 {
     match note {

@@ -11,10 +11,10 @@ use crate::masters::Master;
 use crate::partings::ending_by;
 use collections::Items;
 use lock_core::{Lock, Parting};
-use master_parts::{HandleKey, HandleState, Note};
+use master_parts::{HandleKey, HandleNote, HandleState};
 use names_cell::{Name, Principal};
 use node_core::{Mod, Node};
-use session_core::Kept;
+use session_core::LastCall;
 use std::alloc::AllocError;
 use tags_cell::{ClientNumber, Reply};
 
@@ -35,7 +35,7 @@ pub enum SessionUpdate {
 #[derive(Drop)]
 pub struct KeptPut {
     pub client: ClientNumber,
-    pub kept: Kept<Reply>,
+    pub kept: LastCall<Reply>,
 }
 
 /// A lock that changes: what of it the rows hold is committed.
@@ -62,7 +62,7 @@ pub struct Update {
     pub session: Option<SessionUpdate>,
     /// The reply to the call, and those to calls that waited for a lock.
     pub kept: Items<KeptPut>,
-    pub note: Option<Note>,
+    pub note: Option<HandleNote>,
     /// A change of the map, which is committed.
     pub change: Option<Change>,
     /// The locks that change.
@@ -77,7 +77,7 @@ pub struct Update {
 
 /// What takes an update back that was begun: the client whose session began, and what stood at each key before.
 #[derive(Drop)]
-pub struct Former {
+pub struct FormerParts {
     pub session: Option<ClientNumber>,
     pub note: Option<(HandleKey, Option<HandleState>)>,
     pub node: Option<(Name, Option<Node>)>,
@@ -108,7 +108,7 @@ pub struct Rest {
 /// An update that was begun: how it is taken back, and what is left of it.
 #[derive(Drop)]
 pub struct Grown {
-    pub former: Former,
+    pub former: FormerParts,
     pub rest: Rest,
 }
 
@@ -163,10 +163,10 @@ pub fn grow(master: &mut Master, update: Update) -> Result<Grown, AllocError>
 }
 
 /// Takes an update back that was begun and not finished. Takes no memory.
-pub fn undo(master: &mut Master, former: Former)
+pub fn undo(master: &mut Master, former: FormerParts)
     ensures { master.new ≡ undone master.old former }
 {
-    let Former {
+    let FormerParts {
         session,
         note,
         node,
@@ -179,10 +179,10 @@ pub fn undo(master: &mut Master, former: Former)
 }
 
 /// What was kept for taking an update back is forgotten. To be called behind the commit. Takes no memory.
-pub fn settle(master: &mut Master, former: Former)
+pub fn settle(master: &mut Master, former: FormerParts)
     ensures { master.new ≡ master.old }
 {
-    let Former { note, .. } = former;
+    let FormerParts { note, .. } = former;
     if let Some((key, state)) = note {
         settle_note(master, &key, state);
     }
@@ -311,7 +311,7 @@ fn finish_map(master: &mut Master, rest: Option<MapRest>)
 // The note, the node and the locks.
 fn grow_parts(
     master: &mut Master,
-    note: Option<Note>,
+    note: Option<HandleNote>,
     change: Option<Change>,
     locks: Items<LockPut>,
 ) -> Result<GrownParts, AllocError>
@@ -400,7 +400,7 @@ fn restore_lock(master: &mut Master, instance: u64, former: Option<Lock>)
 // The note and the node.
 fn grow_map(
     master: &mut Master,
-    note: Option<Note>,
+    note: Option<HandleNote>,
     change: Option<Change>,
 ) -> Result<GrownMap, AllocError>
     ensures ok { OnOk result (master.new ≡ with_node (with_note master.old note) change) }
@@ -420,7 +420,7 @@ fn grow_map(
 
 fn put_note(
     master: &mut Master,
-    note: Option<Note>,
+    note: Option<HandleNote>,
 ) -> Result<Option<(HandleKey, Option<HandleState>)>, AllocError>
     ensures ok { OnOk result (master.new ≡ with_note master.old note) }
     ensures back { IfOk result (λ former. without_note master.new former ≡ master.old) }
@@ -429,7 +429,7 @@ fn put_note(
     match note {
         None => Ok(None),
         Some(note) => {
-            let Note { key, state } = note;
+            let HandleNote { key, state } = note;
             let HandleKey { client, number } = key;
             let former = master.tables.put_handle(key, state)?;
             Ok(Some((HandleKey { client, number }, former)))
@@ -525,7 +525,7 @@ fn grown_of(begun: Option<ClientNumber>, parts: GrownParts, rest: Rest) -> Grown
         ..
     } = rest;
     Grown {
-        former: Former {
+        former: FormerParts {
             session: begun,
             note,
             node,

@@ -5,12 +5,12 @@ ghost use Rattle.cache_core.specs.Caches.{new_cache};
 use crate::hoard::Hoard;
 use crate::stops::Stop;
 use crate::texts::write_lines;
-use client_core::{Asked, Beaten, Client, Given, Outcome};
+use client_core::{AskOutcome, Beaten, Client, Given, Outcome};
 use collections::Items;
 use lease_core::Clock;
 use names_cell::{Name, Principal};
 use node_core::{Fault, Line};
-use share_cell::{Hit, Keeper, Kept, Viewer};
+use share_cell::{Hit, Keeper, LateAnswer, Viewer};
 use std::alloc::{AllocError, Global};
 use std::sync::Wait;
 use tags_cell::{ClientNumber, Out, Request};
@@ -64,7 +64,7 @@ fn new_keeper<W: Wait>(rt: &W, alloc: Global) -> Result<(Keeper, Vec<Viewer>), S
     }
 }
 
-fn resumed(told: Result<Option<Kept>, AllocError>) -> Result<Kept, Fault> {
+fn resumed(told: Result<Option<LateAnswer>, AllocError>) -> Result<LateAnswer, Fault> {
     match told {
         Ok(Some(kept)) => Ok(kept),
         Ok(None) => Err(Fault::Unknown),
@@ -73,11 +73,11 @@ fn resumed(told: Result<Option<Kept>, AllocError>) -> Result<Kept, Fault> {
 }
 
 // The lines of a call, and the message for the master.
-fn parts(kept: Kept) -> (Items<Line>, Option<Request>) {
+fn parts(kept: LateAnswer) -> (Items<Line>, Option<Request>) {
     match kept {
-        Kept::Beaten(Beaten { lines, request }) => (lines, request),
-        Kept::Asked(Asked { lines, outcome }) => (lines, request_in(outcome)),
-        Kept::Given(Given { lines, refused: _ }) => (lines, None),
+        LateAnswer::Beaten(Beaten { lines, request }) => (lines, request),
+        LateAnswer::Asked(AskOutcome { lines, outcome }) => (lines, request_in(outcome)),
+        LateAnswer::Given(Given { lines, refused: _ }) => (lines, None),
     }
 }
 
@@ -134,15 +134,15 @@ impl Seat {
     }
 
     // Does a step of the client's; where the keeper is late, ends the one that was begun.
-    fn keep<W: Wait>(&mut self, rt: &W, step: &Step) -> Result<Kept, Fault> {
+    fn keep<W: Wait>(&mut self, rt: &W, step: &Step) -> Result<LateAnswer, Fault> {
         if self.keeper.late() {
             return resumed(self.keeper.resume(rt));
         }
         match step {
-            Step::Beat(_) => Ok(Kept::Beaten(self.keeper.beat(rt, 0)?)),
-            Step::Ask(_, asked) => Ok(Kept::Asked(self.keeper.ask(rt, 0, asked)?)),
+            Step::Beat(_) => Ok(LateAnswer::Beaten(self.keeper.beat(rt, 0)?)),
+            Step::Ask(_, asked) => Ok(LateAnswer::Asked(self.keeper.ask(rt, 0, asked)?)),
             Step::Give(number) => match out_at(self.sent.as_slice(), *number) {
-                Some(out) => Ok(Kept::Given(self.keeper.give(rt, 0, out)?)),
+                Some(out) => Ok(LateAnswer::Given(self.keeper.give(rt, 0, out)?)),
                 None => Err(Fault::NoSuchMessage),
             },
             _ => Err(Fault::Unknown),
@@ -231,7 +231,7 @@ impl Seat {
         Ok(())
     }
 
-    fn tell(&mut self, kept: Kept, text: &mut String) -> Result<(), Stop> {
+    fn tell(&mut self, kept: LateAnswer, text: &mut String) -> Result<(), Stop> {
         let (lines, request) = parts(kept);
         let sent = self.send(request);
         let written = write_lines(text, &lines);

@@ -20,17 +20,17 @@ use std::sync::Wait;
 use std::sync::ledger::Ledger;
 use tags_cell::Request;
 use threads::{give_up, new_cell};
-use watch_cell::{Blanks, Closed, Event, Opening, Pass, Receipt, Watch};
+use watch_cell::{Blanks, Closed, Opening, Pass, Receipt, Watch, WatchEvent};
 use world_steps::Step;
 
 // A pass that takes messages, and one that sweeps.
 const SEATS: u64 = 2;
 
 // What a step asks the master for.
-fn event_of(seat: &Seat, step: &Step) -> Result<Event, Fault> {
+fn event_of(seat: &Seat, step: &Step) -> Result<WatchEvent, Fault> {
     match step {
-        Step::Take(number) => Ok(Event::Take(0, seat.request(*number)?)),
-        Step::Sweep => Ok(Event::Sweep(0)),
+        Step::Take(number) => Ok(WatchEvent::Take(0, seat.request(*number)?)),
+        Step::Sweep => Ok(WatchEvent::Sweep(0)),
         _ => Err(Fault::Unknown),
     }
 }
@@ -128,8 +128,8 @@ fn ends_session<O: Opening, I: Ledger, A: Ledger, E: Ledger, C: Ledger, W: Wait>
     let Some(pass) = passes.first_mut() else {
         return Err(Stop::Apart("there is no pass"));
     };
-    drop(watch.call(rt, pass, Event::Take(0, request))?);
-    let receipt = watch.call(rt, pass, Event::Sweep(0))?;
+    drop(watch.call(rt, pass, WatchEvent::Take(0, request))?);
+    let receipt = watch.call(rt, pass, WatchEvent::Sweep(0))?;
     let ends = has_end(&receipt.reply().lines);
     drop(receipt);
     Ok(ends)

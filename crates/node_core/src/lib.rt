@@ -28,7 +28,7 @@ pub use laws::{
 };
 pub use lines::Line;
 pub use listings::Listing;
-pub use maps::{CONTENT_LIMIT, Map, NUMBER_LIMIT, Outcome};
+pub use maps::{CONTENT_LIMIT, Map, MapOutcome, NUMBER_LIMIT};
 pub use nodes::Node;
 pub use refusals::Fault;
 pub use room::room_fault;

@@ -31,7 +31,7 @@ pub const NUMBER_LIMIT: u64 = 0x7fff_ffff_ffff_ffff;
 
 /// What a change of the map found.
 #[derive(Drop)]
-pub struct Outcome {
+pub struct MapOutcome {
     /// The node that stood at the name before, if any.
     pub former: Option<Node>,
 }
@@ -252,7 +252,7 @@ impl Map {
 
     /// Does a change where it fits, and else gives the first reason why it doesn't; the map is then as it was. A Put
     /// of a node that is there costs a look-up in a tree.
-    pub fn apply(&mut self, change: &Mod) -> Result<Outcome, NodeFault>
+    pub fn apply(&mut self, change: &Mod) -> Result<MapOutcome, NodeFault>
         ensures after { OnOk result (after self.old change.now ≡ Some self.new) }
         ensures former { IfOk result (λ outcome. outcome.former ≡ get_node self.old (name_of change.now)) }
         ensures fault { IfErr result (λ e. e ≢ NodeFault.NoMemory → misfit self.old change.now ≡ Some e) }
@@ -264,7 +264,7 @@ impl Map {
         }
     }
 
-    fn put(&mut self, name: &Name, node: &Node) -> Result<Outcome, NodeFault>
+    fn put(&mut self, name: &Name, node: &Node) -> Result<MapOutcome, NodeFault>
         ensures fits { OnOk result (put_misfit self.old name.now node.now ≡ None) }
         ensures changed { OnOk result (self.new ≡ insert_entry (slice_cmp nat_cmp) self.old name.now node.now) }
         ensures former { IfOk result (λ outcome. outcome.former ≡ get_node self.old name.now) }
@@ -277,10 +277,10 @@ impl Map {
         let name = name.clone()?;
         let node = node.clone()?;
         let former = self.set(name, node)?;
-        Ok(Outcome { former })
+        Ok(MapOutcome { former })
     }
 
-    fn remove(&mut self, name: &Name) -> Result<Outcome, NodeFault>
+    fn remove(&mut self, name: &Name) -> Result<MapOutcome, NodeFault>
         ensures fits { OnOk result (gone_misfit self.old name.now ≡ None) }
         ensures changed { OnOk result (self.new ≡ remove_entry (is_at (slice_cmp nat_cmp name.now)) self.old) }
         ensures former { IfOk result (λ outcome. outcome.former ≡ get_node self.old name.now) }
@@ -291,7 +291,7 @@ impl Map {
             return Err(fault);
         }
         let former = self.unset(name);
-        Ok(Outcome { former })
+        Ok(MapOutcome { former })
     }
 
     // The first fault of a Put.

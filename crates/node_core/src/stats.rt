@@ -3,7 +3,7 @@ ghost use Rattle.std.specs.Prelude.{◌≡◌, Some};
 ghost use Rattle.node_core.specs.Texts.{stat_text};
 
 use crate::kinds::{Kind, Life};
-use crate::texts::{AclNames, Header};
+use crate::texts::{AclNamesText, Header};
 use collections::Same;
 use names_cell::Component;
 use std::alloc::AllocError;
@@ -55,7 +55,7 @@ impl fmt::Display for Stat {
     fn fmt<W: fmt::Write>(&self, f: &mut fmt::Formatter<W>) -> fmt::Result {
         let header = Header::of_stat(self);
         let lock = self.lock_generation;
-        let acls = AclNames::of_stat(self);
+        let acls = AclNamesText::of_stat(self);
         let life = self.life;
         let length = self.length;
         write!(f, "{header} {lock} {acls} {life} {length}")

@@ -63,31 +63,31 @@ impl fmt::Display for Header {
 
 /// The names of the three ACLs of a node.
 #[derive(Clone, Copy)]
-pub(crate) struct AclNames<'a> {
+pub(crate) struct AclNamesText<'a> {
     read: &'a Component,
     write: &'a Component,
     change: &'a Component,
 }
 
-impl<'a> AclNames<'a> {
-    pub(crate) fn of_node(node: &'a Node) -> AclNames<'a>
+impl<'a> AclNamesText<'a> {
+    pub(crate) fn of_node(node: &'a Node) -> AclNamesText<'a>
         ensures read { result.read.now ≡ node.now.read }
         ensures write { result.write.now ≡ node.now.write }
         ensures change { result.change.now ≡ node.now.change }
     {
-        AclNames {
+        AclNamesText {
             read: &node.read,
             write: &node.write,
             change: &node.change,
         }
     }
 
-    pub(crate) fn of_stat(stat: &'a Stat) -> AclNames<'a>
+    pub(crate) fn of_stat(stat: &'a Stat) -> AclNamesText<'a>
         ensures read { result.read.now ≡ stat.now.read }
         ensures write { result.write.now ≡ stat.now.write }
         ensures change { result.change.now ≡ stat.now.change }
     {
-        AclNames {
+        AclNamesText {
             read: &stat.read,
             write: &stat.write,
             change: &stat.change,
@@ -95,7 +95,7 @@ impl<'a> AclNames<'a> {
     }
 }
 
-impl fmt::Display for AclNames<'_> {
+impl fmt::Display for AclNamesText<'_> {
     ghost output = { λ x. Some (acls_text x.read.now x.write.now x.change.now) };
 
     fn fmt<W: fmt::Write>(&self, f: &mut fmt::Formatter<W>) -> fmt::Result {

@@ -6,7 +6,7 @@ ghost use Rattle.node_core.specs.Nodes.{name_of};
 use crate::kinds::Kind;
 use crate::listings::Listing;
 use crate::nodes::Node;
-use crate::texts::{AclNames, Header, Hex, Listed};
+use crate::texts::{AclNamesText, Header, Hex, Listed};
 use collections::Same;
 use names_cell::Name;
 use std::alloc::AllocError;
@@ -56,7 +56,7 @@ impl fmt::Display for Shown<'_> {
 
     fn fmt<W: fmt::Write>(&self, f: &mut fmt::Formatter<W>) -> fmt::Result {
         let header = Header::of_node(self.node);
-        let acls = AclNames::of_node(self.node);
+        let acls = AclNamesText::of_node(self.node);
         let life = self.node.life;
         write!(f, "{header} {acls} {life}")?;
         match self.node.kind {

@@ -40,7 +40,7 @@ use Rattle.tags_cell.specs.declared.messages.outs.CallResult.{CallResult}
 use Rattle.tags_cell.specs.declared.messages.outs.CallResult.TheVariants as results
 use Rattle.tags_cell.specs.Numbers.{is_client_number}
 use Rattle.lock_core.specs.Locks.{lock_at}
-use Rattle.master_parts.specs.declared.pending.Idle.{Idle}
+use Rattle.master_parts.specs.declared.pending.Orphan.{Orphan}
 use Rattle.master_parts.specs.declared.pending.Work.TheVariants as works
 use Rattle.cell_core.specs.declared.effects.Effect.{Effect}
 use Rattle.master_state.specs.NameSpace.{name_space, caller}
@@ -196,7 +196,7 @@ module _ (cell : List ℕ) (rows : Rows) (s : MasterState) (k : IsKept cell rows
       }
 
   -- an ephemeral node that nobody holds open
-  still_fits : (idle : Idle) (o : Option Node) → get_node s.nodes idle.name ≡ o → option_map_or (λ view. view.instance == idle.instance && is_idle_node s idle.name view) o false ≡ true → GoesFit rows s (gone_change s idle) idle.instance (lock_at s.locks idle.instance).waiters
+  still_fits : (idle : Orphan) (o : Option Node) → get_node s.nodes idle.name ≡ o → option_map_or (λ view. view.instance == idle.instance && is_idle_node s idle.name view) o false ≡ true → GoesFit rows s (gone_change s idle) idle.instance (lock_at s.locks idle.instance).waiters
   still_fits idle None found h = absurd cc
   still_fits idle (Some view) found h =
       let t = and_parts (view.instance == idle.instance) (is_idle_node s idle.name view) h in
@@ -205,7 +205,7 @@ module _ (cell : List ℕ) (rows : Rows) (s : MasterState) (k : IsKept cell rows
       let w = some_node (stored_node rows.nodes idle.name) view (stored idle.name (Some view) found) in
       goes_fits idle.name idle.instance w.0 w.1 (ap (λ (v : Node). v.instance) w.2 ∙ eqb-true view.instance idle.instance t.0) (not-true stays goes)
 
-  pub tidied_fits : (idle : Idle) → is_still_idle s idle ≡ true → GoesFit rows s (gone_change s idle) idle.instance (lock_at s.locks idle.instance).waiters
+  pub tidied_fits : (idle : Orphan) → is_still_idle s idle ≡ true → GoesFit rows s (gone_change s idle) idle.instance (lock_at s.locks idle.instance).waiters
   tidied_fits idle still = still_fits idle (get_node s.nodes idle.name) refl still
 
 module _ (cell : List ℕ) (rows : Rows) (s : MasterState) (k : IsKept cell rows s) (client : ℕ) (live : is_live s client ≡ true) (numbered : is_client_number client ≡ true) where

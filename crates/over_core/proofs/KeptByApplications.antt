@@ -32,15 +32,15 @@ use Rattle.tags_cell.specs.declared.messages.outs.CallResult.{CallResult}
 use Rattle.tags_cell.specs.declared.messages.outs.CallResult.TheVariants as results
 use Rattle.tags_cell.specs.declared.messages.outs.Reply.{Reply}
 use Rattle.gate_core.specs.declared.pending.Waiting.{Waiting}
-use Rattle.session_core.specs.declared.records.Kept.{Kept}
+use Rattle.session_core.specs.declared.records.LastCall.{LastCall}
 use Rattle.session_core.specs.Sessions.{kept_of}
 use Rattle.lock_core.specs.declared.claims.Claim.{Claim}
 use Rattle.lock_core.specs.Locks.{LockTable, lock_at}
 use Rattle.master_state.specs.declared.updates.Change.{Change}
 use Rattle.master_state.specs.declared.updates.LockPut.{LockPut}
-use Rattle.master_parts.specs.declared.handles.Note.{Note}
-use Rattle.master_parts.specs.declared.pending.Asked.{Asked}
-use Rattle.master_parts.specs.declared.pending.Idle.{Idle}
+use Rattle.master_parts.specs.declared.handles.HandleNote.{HandleNote}
+use Rattle.master_parts.specs.declared.pending.WaitingRequest.{WaitingRequest}
+use Rattle.master_parts.specs.declared.pending.Orphan.{Orphan}
 use Rattle.master_parts.specs.declared.pending.Task.{Task}
 use Rattle.master_parts.specs.declared.pending.Task.TheVariants as tasks
 use Rattle.master_state.specs.State.{MasterState}
@@ -243,7 +243,7 @@ module _ (cell : List ℕ) (rows : Rows) (s : MasterState) (k : IsKept cell rows
 
 -- ---- a node that goes by itself
 
-pub tidied_application : (cell : List ℕ) (rows : Rows) (s : MasterState) (k : IsKept cell rows s) (front back : List (Waiting Task)) (idle : Idle) (turn : IsNextApplied s front (tasks.Tidies idle) back) → is_still_idle s idle ≡ true
+pub tidied_application : (cell : List ℕ) (rows : Rows) (s : MasterState) (k : IsKept cell rows s) (front back : List (Waiting Task)) (idle : Orphan) (turn : IsNextApplied s front (tasks.Tidies idle) back) → is_still_idle s idle ≡ true
     → IsKept cell (changed_rows rows (edit_of (Gone idle.name) ∷ NextInstance s.next_instance ∷ [])) (without_lock (told (mapped (rest s front back) (gone_change s idle)) (gone_replies s idle)) (Some idle.instance))
 tidied_application cell rows s k front back idle turn still =
     let after : Rows = changed_rows rows (edit_of (Gone idle.name) ∷ NextInstance s.next_instance ∷ []) in
@@ -257,7 +257,7 @@ tidied_application cell rows s k front back idle turn still =
 
 -- ---- what a client asked for
 
-module _ (cell : List ℕ) (rows : Rows) (s : MasterState) (k : IsKept cell rows s) (front back : List (Waiting Task)) (asked : Asked) (turn : IsNextApplied s front (tasks.Asked asked) back) where
+module _ (cell : List ℕ) (rows : Rows) (s : MasterState) (k : IsKept cell rows s) (front back : List (Waiting Task)) (asked : WaitingRequest) (turn : IsNextApplied s front (tasks.Asked asked) back) where
   abbrev w : Waiting Task
   w = asked_waiting turn.number turn.touched asked
 
@@ -282,22 +282,22 @@ module _ (cell : List ℕ) (rows : Rows) (s : MasterState) (k : IsKept cell rows
   none_else call = none_beside front turn.number turn.touched asked back s.locks s.sessions call before
 
   -- a call that ends
-  pub ended_application : (note : Option Note) (answer : CallResult) → is_call asked.work ≡ true → IsKept cell rows (ended (rest s front back) asked note answer)
+  pub ended_application : (note : Option HandleNote) (answer : CallResult) → is_call asked.work ≡ true → IsKept cell rows (ended (rest s front back) asked note answer)
   ended_application note answer call =
-      let kept : Kept Reply = answered_by (reply_of t asked.client asked.number answer) in
+      let kept : LastCall Reply = answered_by (reply_of t asked.client asked.number answer) in
       note_kept cell rows (recorded t asked.client kept) note (recorded_kept cell rows t asked.client kept (none_else call) beside)
 
-  pub applied_application : (note : Option Note) (change : Change) (answer : CallResult) → is_call asked.work ≡ true → PutsFit rows change → IsKept cell (changed_rows rows (edit_of change.change ∷ NextInstance change.next_instance ∷ [])) (ended (mapped (rest s front back) change) asked note answer)
+  pub applied_application : (note : Option HandleNote) (change : Change) (answer : CallResult) → is_call asked.work ≡ true → PutsFit rows change → IsKept cell (changed_rows rows (edit_of change.change ∷ NextInstance change.next_instance ∷ [])) (ended (mapped (rest s front back) change) asked note answer)
   applied_application note change answer call fits =
       let after : Rows = changed_rows rows (edit_of change.change ∷ NextInstance change.next_instance ∷ []) in
-      let kept : Kept Reply = answered_by (reply_of t asked.client asked.number answer) in
+      let kept : LastCall Reply = answered_by (reply_of t asked.client asked.number answer) in
       note_kept cell after (recorded (mapped t change) asked.client kept) note (recorded_kept cell after (mapped t change) asked.client kept (none_else call) (mapped_kept cell rows t beside change fits))
 
   pub deleted_application : (change : Change) (instance : ℕ) (waiters : List Claim) (answer : CallResult) → is_call asked.work ≡ true → GoesFit rows s change instance waiters
       → IsKept cell (changed_rows rows (edit_of change.change ∷ NextInstance change.next_instance ∷ [])) (without_lock (told (ended (mapped (rest s front back) change) asked None answer) (replies_to s (results.Refused faults.StaleInstance) waiters)) (Some instance))
   deleted_application change instance waiters answer call fits =
       let after : Rows = changed_rows rows (edit_of change.change ∷ NextInstance change.next_instance ∷ []) in
-      let kept : Kept Reply = answered_by (reply_of t asked.client asked.number answer) in
+      let kept : LastCall Reply = answered_by (reply_of t asked.client asked.number answer) in
       let gone : MasterState = without_lock (mapped t change) (Some instance) in
       let left : LockTable = remove_entry (is_at (nat_cmp instance)) s.locks in
       let own : outstanding gone asked.client ≡ 0 =
@@ -310,7 +310,7 @@ module _ (cell : List ℕ) (rows : Rows) (s : MasterState) (k : IsKept cell rows
   pub locked_application : (put : LockPut) (answer : CallResult) → is_call asked.work ≡ true → TakesFit rows s put → IsKept cell (changed_rows rows (relocking s (put ∷ []))) (ended (with_locks (rest s front back) (put ∷ [])) asked None answer)
   locked_application put answer call fits =
       let after : Rows = changed_rows rows (relocking s (put ∷ [])) in
-      let kept : Kept Reply = answered_by (reply_of t asked.client asked.number answer) in
+      let kept : LastCall Reply = answered_by (reply_of t asked.client asked.number answer) in
       let less : (q : ℕ) → waits_count q put.lock ≤ waits_count q (lock_at s.locks put.instance) = λ q. same_less (waits_count q put.lock) (waits_count q (lock_at s.locks put.instance)) (ap (claims_count q) fits.same) in
       recorded_kept cell after (with_locks t (put ∷ [])) asked.client kept (none_put (front ++ back) s.locks put.instance put.lock asked.client k.locks.in_order (less asked.client) (none_else call))
       (one_relocked cell rows t put beside fits.is_put (one_put (front ++ back) s.locks s.sessions put.instance put.lock k.locks.in_order less beside.one_call))
@@ -324,11 +324,11 @@ module _ (cell : List ℕ) (rows : Rows) (s : MasterState) (k : IsKept cell rows
       one_relocked cell rows t put beside fits.is_put (one_awaited front w back s.locks s.sessions put.instance put.lock k.locks.in_order more before)
 
   -- the caller leaves it, and others get it
-  pub left_by_application : (note : Option Note) (leave : Leave) (answer : CallResult) → is_call asked.work ≡ true → LeavesFit rows s leave
+  pub left_by_application : (note : Option HandleNote) (leave : Leave) (answer : CallResult) → is_call asked.work ≡ true → LeavesFit rows s leave
       → IsKept cell (changed_rows rows (relocking s (left_put leave ∷ []))) (told (ended (with_locks (rest s front back) (left_put leave ∷ [])) asked note answer) (turn_replies s leave.turn))
   left_by_application note leave answer call fits =
       let after : Rows = changed_rows rows (relocking s (left_put leave ∷ [])) in
-      let kept : Kept Reply = answered_by (reply_of t asked.client asked.number answer) in
+      let kept : LastCall Reply = answered_by (reply_of t asked.client asked.number answer) in
       let relocked : MasterState = with_locks t (left_put leave ∷ []) in
       let waited : (q : ℕ) → told_of q leave.turn + waits_count q leave.turn.lock ≤ waits_count q (lock_at s.locks leave.instance) = λ q.
       let P : ℕ → Type 0 = λ n. n ≤ waits_count q (lock_at s.locks leave.instance) in

@@ -15,7 +15,7 @@ use Rattle.node_core.specs.declared.refusals.Fault.{Fault}
 use Rattle.node_core.specs.declared.refusals.Fault.TheVariants as faults
 use Rattle.node_core.specs.Limits.{number_limit}
 use Rattle.node_core.specs.Nodes.{with_parent}
-use Rattle.rows_cell.specs.declared.tables.Session as stored
+use Rattle.rows_cell.specs.declared.tables.SessionRow as stored
 use Rattle.rows_cell.specs.declared.tables.Rows.{Rows}
 use Rattle.rows_cell.specs.declared.tables.Edit.{Edit}
 use Rattle.rows_cell.specs.declared.tables.Edit.TheVariants.{PutSession}
@@ -35,11 +35,11 @@ use Rattle.session_core.specs.Session as of_session
 use Rattle.session_core.specs.Session.{session_until, prolonged, answered, unparked}
 use Rattle.session_core.specs.Sessions.{with_new, is_live}
 use Rattle.session_core.proofs.RowsOfSessions.{rows_of-insert_entry}
-use Rattle.master_parts.specs.declared.notices.Telling.{Telling}
+use Rattle.master_parts.specs.declared.notices.SessionEvent.{SessionEvent}
 use Rattle.master_state.specs.NameSpace.{name_space, caller}
 use Rattle.master_state.specs.Notices.{with_tellings}
-use Rattle.master_parts.specs.declared.pending.Asked.{Asked}
-use Rattle.master_parts.specs.declared.pending.Idle.{Idle}
+use Rattle.master_parts.specs.declared.pending.WaitingRequest.{WaitingRequest}
+use Rattle.master_parts.specs.declared.pending.Orphan.{Orphan}
 use Rattle.master_parts.specs.declared.pending.Task.{Task}
 use Rattle.master_parts.specs.declared.pending.Task.TheVariants as tasks
 use Rattle.master_parts.specs.declared.pending.Work.{Work}
@@ -125,7 +125,7 @@ has_room false false number h = (refl, refl)
 
 module _ (cell : List ℕ) (rows : Rows) where
   -- no recovery goes on, and there is room for one more change
-  tidies_kept : (s : MasterState) (idle : Idle) → next_idle s ≡ Some idle → IsKept cell rows s → IsKept cell rows (tidied s idle)
+  tidies_kept : (s : MasterState) (idle : Orphan) → next_idle s ≡ Some idle → IsKept cell rows s → IsKept cell rows (tidied s idle)
   tidies_kept s idle due k =
       let may : may_tidy s ≡ true = where_some (may_tidy s) _ idle due in
       let t = and_parts (not s.recovering && nat_le (s.serving_from + spared_for) s.clock) (is_ok (push_answer s.gate)) may in
@@ -170,7 +170,7 @@ module _ (cell : List ℕ) (rows : Rows) where
   -- ---- every arm
 
   -- what a call that waited does fits
-  application_fits : (s : MasterState) → IsKept cell rows s → (front back : List (Waiting Task)) (asked : Asked) (call : Call) (sequencer : Option (List ℕ)) (effected : Effect) → IsNextApplied s front (tasks.Asked asked) back → asked.work ≡ works.Calls call sequencer → is_live s.sessions asked.client ≡ true → effect (name_space s) (caller s asked.client) s.clock asked.number call sequencer ≡ effected → EffectFits rows s asked.client effected
+  application_fits : (s : MasterState) → IsKept cell rows s → (front back : List (Waiting Task)) (asked : WaitingRequest) (call : Call) (sequencer : Option (List ℕ)) (effected : Effect) → IsNextApplied s front (tasks.Asked asked) back → asked.work ≡ works.Calls call sequencer → is_live s.sessions asked.client ≡ true → effect (name_space s) (caller s asked.client) s.clock asked.number call sequencer ≡ effected → EffectFits rows s asked.client effected
   application_fits s k front back asked call sequencer effected turn work live made =
       let P : Effect → Type 0 = EffectFits rows s asked.client in
       let Q : Work → Type 0 = IsOwnCall s.secret asked.client in
@@ -242,7 +242,7 @@ told_by_beats : (client : ℕ) (event : Event) (session : Session Reply) → IsB
 told_by_beats client event session h = λ some. let P : ℕ → Type 0 = λ count. 1 ≤ count in h (subst P (told_acknowledged event session) some)
 
 -- events are in no row, and nothing else of the master changes
-pub tellings_kept : (cell : List ℕ) (rows : Rows) (s : MasterState) (tellings : List Telling) → IsKept cell rows s → IsKept cell rows (with_tellings s tellings)
+pub tellings_kept : (cell : List ℕ) (rows : Rows) (s : MasterState) (tellings : List SessionEvent) → IsKept cell rows s → IsKept cell rows (with_tellings s tellings)
 tellings_kept cell rows s tellings k = stays cell rows s (with_tellings s tellings) k (record {
   name = refl;
   secret = refl;

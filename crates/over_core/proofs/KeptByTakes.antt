@@ -31,16 +31,16 @@ use Rattle.rights_core.proofs.WholeList.{rights_are_recorded_once}
 use Rattle.gate_core.specs.declared.pending.Pending.{Pending}
 use Rattle.gate_core.specs.declared.pending.Waiting.{Waiting}
 use Rattle.gate_core.specs.Gate.{IsOrderly}
-use Rattle.session_core.specs.declared.records.Kept.{Kept}
+use Rattle.session_core.specs.declared.records.LastCall.{LastCall}
 use Rattle.session_core.specs.declared.records.Session.{Session}
 use Rattle.session_core.specs.Session.{beat_fault, live_beat_fault, beaten, events_of, keeping}
 use Rattle.session_core.specs.Sessions.{session_of, kept_of, is_live, has_spent_events, with_session}
 use Rattle.session_core.specs.Laws.{issued_at}
 use Rattle.session_core.proofs.IssuedBy.{rows_stay_issued}
 use Rattle.session_core.proofs.RowsOfSessions.{rows_stay}
-use Rattle.master_parts.specs.declared.handles.Note.{Note}
+use Rattle.master_parts.specs.declared.handles.HandleNote.{HandleNote}
 use Rattle.master_parts.specs.declared.pending.Taken.{Taken}
-use Rattle.master_parts.specs.declared.pending.Asked.{Asked}
+use Rattle.master_parts.specs.declared.pending.WaitingRequest.{WaitingRequest}
 use Rattle.master_parts.specs.declared.pending.Task.{Task}
 use Rattle.master_parts.specs.declared.pending.Task.TheVariants as tasks
 use Rattle.master_parts.specs.declared.pending.Work.TheVariants as works
@@ -50,7 +50,7 @@ use Rattle.master_state.specs.Lookups.{is_full, acknowledgement, stamped_reply, 
 use Rattle.cell_core.specs.Step.{queued, parked, recorded, with_right, granting, asking, asking_for, names_of, task_of, with_call, waits, take_step}
 use Rattle.master_state.specs.Updates.{with_note}
 use Rattle.master_parts.specs.Answered.{answered_by}
-use Rattle.cell_core.specs.declared.asking.Touched.{Touched}
+use Rattle.cell_core.specs.declared.asking.TouchedNames.{TouchedNames}
 use Rattle.cell_core.specs.Names.{call_touched, names_touched}
 use Rattle.cell_core.specs.Cases.{IsBehind, IsNew, IsAdmitted, TakeCase, taken_by}
 use Rattle.cell_core.specs.Cases.TakeCase.{StartRefused, StartRecovering, StartFull, StartQueued, OldBeat, BeatRefused, BeatParked, OldEpoch, NoSession, LeftBefore, Repeated, OlderCall, Outstanding, Recovering, Answered, Granted, Waits}
@@ -167,7 +167,7 @@ same_calls (Some number) before = refl
 -- ---- a new call
 
 -- none of the client's calls waits: its last call, if it made one, has its reply
-answered_call : (o : Option (Kept Reply)) (number : ℕ) → IsBehind o number → unanswered o ≡ 0
+answered_call : (o : Option (LastCall Reply)) (number : ℕ) → IsBehind o number → unanswered o ≡ 0
 answered_call None number h = refl
 answered_call (Some kept) number h = let is = h.1 in rw is refl
 
@@ -177,7 +177,7 @@ none_outstanding s client number h one = none_counts (outstanding s client) (una
 -- ---- a note
 
 -- a note changes nothing but the handles
-pub unnoted : {X : Type 0} (f : MasterState → X) → ((s : MasterState) (note : Note) → f (with_note s (Some note)) ≡ f s) → (s : MasterState) (note : Option Note) → f (with_note s note) ≡ f s
+pub unnoted : {X : Type 0} (f : MasterState → X) → ((s : MasterState) (note : HandleNote) → f (with_note s (Some note)) ≡ f s) → (s : MasterState) (note : Option HandleNote) → f (with_note s note) ≡ f s
 unnoted f same s None = refl
 unnoted f same s (Some note) = same s note
 
@@ -212,7 +212,7 @@ module _ (cell : List ℕ) (rows : Rows) where
       stepped_kept s client step same issues keeps lives (one_same s.gate.waiting s.locks s.sessions (with_session s.sessions client step) (λ q. reads_step keeps_in s.sessions client step calls q) k.one_call) k
 
   -- another last call of a client of which none waits
-  pub recorded_kept : (s : MasterState) (client : ℕ) (kept : Kept Reply) → outstanding s client ≡ 0 → IsKept cell rows s → IsKept cell rows (recorded s client kept)
+  pub recorded_kept : (s : MasterState) (client : ℕ) (kept : LastCall Reply) → outstanding s client ≡ 0 → IsKept cell rows s → IsKept cell rows (recorded s client kept)
   recorded_kept s client kept none k =
       stepped_kept s client (keeping kept) (λ before. refl) (λ before. refl) (λ before found h. h) (λ before. refl) (one_recorded s.gate.waiting s.locks s.sessions client kept none k.one_call) k
 
@@ -264,7 +264,7 @@ module _ (cell : List ℕ) (rows : Rows) where
       ended_kept (record s { sessions = with_session s.sessions beat.client (beaten beat s.clock) }) beat.client (acknowledgement beat)
       (same_call_kept s beat.client (beaten beat s.clock) (λ before. refl) (λ before. refl) (λ before found h acknowledged. beat_number (session_of s.sessions beat.client) before beat found fits) (λ before. refl) (λ before. refl) k)
 
-  pub note_kept : (s : MasterState) (note : Option Note) → IsKept cell rows s → IsKept cell rows (with_note s note)
+  pub note_kept : (s : MasterState) (note : Option HandleNote) → IsKept cell rows s → IsKept cell rows (with_note s note)
   note_kept s None k = k
   note_kept s (Some note) k = stays cell rows s (with_note s (Some note)) k (record {
     name = refl;
@@ -374,11 +374,11 @@ module _ (cell : List ℕ) (rows : Rows) where
   client_of request other is h = let P : Request → Type 0 = λ r. is_client_number (request_client r) ≡ true in subst P is h
 
   -- a call that waits behind its note
-  waits_kept : (s : MasterState) (message : CallMessage) (note : Option Note) (touched : Option Touched) → s.recovering ≡ false → nat_le number_limit s.gate.pushed ≡ false → IsAdmitted s message note touched → is_client_number message.client ≡ true → is_live s.sessions message.client ≡ true → outstanding s message.client ≡ 0 → IsKept cell rows s → IsKept cell rows (waits (with_note s note) message touched).0
+  waits_kept : (s : MasterState) (message : CallMessage) (note : Option HandleNote) (touched : Option TouchedNames) → s.recovering ≡ false → nat_le number_limit s.gate.pushed ≡ false → IsAdmitted s message note touched → is_client_number message.client ≡ true → is_live s.sessions message.client ≡ true → outstanding s message.client ≡ 0 → IsKept cell rows s → IsKept cell rows (waits (with_note s note) message touched).0
   waits_kept s message note touched serving spare admitted in_range live none k =
       let t = with_note s note in
       let client = message.client in
-      let last : Kept Reply = record { number = message.number; reply = None } in
+      let last : LastCall Reply = record { number = message.number; reply = None } in
       let before : MasterState = recorded t client last in
       let noted = note_kept s note k in
       let none_noted : outstanding t client ≡ 0 = unnoted (λ x. outstanding x client) (λ x n. refl) s note ∙ none in
@@ -394,11 +394,11 @@ module _ (cell : List ℕ) (rows : Rows) where
       (recorded_kept t client last none_noted noted))
 
   -- a call that is answered at once
-  answering_kept : (s : MasterState) (client : ℕ) (note : Option Note) (last : Kept Reply) → outstanding s client ≡ 0 → IsKept cell rows s → IsKept cell rows (recorded (with_note s note) client last)
+  answering_kept : (s : MasterState) (client : ℕ) (note : Option HandleNote) (last : LastCall Reply) → outstanding s client ≡ 0 → IsKept cell rows s → IsKept cell rows (recorded (with_note s note) client last)
   answering_kept s client note last none k = recorded_kept (with_note s note) client last (unnoted (λ x. outstanding x client) (λ x n. refl) s note ∙ none) (note_kept s note k)
 
   -- an answer that may be kept in a cache
-  granting_kept : (s : MasterState) (message : CallMessage) (note : Option Note) (answer : CallResult) (name : List ℕ) → is_live s.sessions message.client ≡ true → outstanding s message.client ≡ 0 → IsKept cell rows s → IsKept cell rows (granting (with_note s note) message.client message.number answer name).0
+  granting_kept : (s : MasterState) (message : CallMessage) (note : Option HandleNote) (answer : CallResult) (name : List ℕ) → is_live s.sessions message.client ≡ true → outstanding s message.client ≡ 0 → IsKept cell rows s → IsKept cell rows (granting (with_note s note) message.client message.number answer name).0
   granting_kept s message note answer name live none k =
       let t = with_note s note in
       recorded_kept (with_right t message.client name) message.client (answered_by (stamped_reply t message.client message.number answer)) (unnoted (λ x. outstanding x message.client) (λ x n. refl) s note ∙ none)
@@ -412,7 +412,7 @@ module _ (cell : List ℕ) (rows : Rows) where
   case_kept s request (StartRecovering start is may recovering) spare k in_range = k
   case_kept s request (StartFull start is may serving full) spare k in_range = k
   case_kept s request (StartQueued start is may serving room) spare k in_range =
-      let started : Asked = record { client = start.client; number = start.number; work = works.Starts start.principal s.clock } in
+      let started : WaitingRequest = record { client = start.client; number = start.number; work = works.Starts start.principal s.clock } in
       let task : Task = tasks.Asked started in
       queued_kept s [] task serving room spare refl tt (client_of request _ is in_range) (one_started s.gate.waiting s.locks s.sessions (record { number = s.gate.pushed + 1; change = record { touched = []; body = task } }) (λ q. refl) k.one_call) k
   case_kept s request (OldBeat beat is other) spare k in_range = k

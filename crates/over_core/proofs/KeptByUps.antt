@@ -10,7 +10,7 @@ use Rattle.std.specs.Cmp.Lexicographic.{slice_cmp}
 use Rattle.std.specs.Ordering.{nat_cmp}
 use Rattle.std.proofs.lemmas.List.Elements.{All-nil}
 use Rattle.rows_cell.specs.declared.settings.MasterTerms.{MasterTerms}
-use Rattle.rows_cell.specs.declared.tables.Session as stored
+use Rattle.rows_cell.specs.declared.tables.SessionRow as stored
 use Rattle.rows_cell.specs.declared.tables.Rows.{Rows}
 use Rattle.rows_cell.specs.Keys.{lock_order}
 use Rattle.rows_cell.specs.declared.tables.Edit.TheVariants.{Epoch}

@@ -15,7 +15,7 @@ use Rattle.lock_core.specs.State.{LockState}
 use Rattle.lock_core.specs.Turns.{time_left}
 use Rattle.lock_core.specs.Locks as locks
 use Rattle.tags_cell.specs.Numbers.{is_client_number}
-use Rattle.master_parts.specs.declared.pending.Idle.{Idle}
+use Rattle.master_parts.specs.declared.pending.Orphan.{Orphan}
 use Rattle.master_state.specs.State.{MasterState, next_change}
 use Rattle.master_state.specs.Lookups.{noted}
 use Rattle.master_parts.specs.Ephemerals.{idle_of}
@@ -32,12 +32,12 @@ use Rattle.over_core.specs.Deadlines.{quiet_at, IsAfter, IsBusyBy, IsDeadline, Q
 
 -- ---- nothing to do, part by part
 
-first_of_parts : Bool → Option ℕ → Option ℕ → Option ℕ → Option Idle → Option ℕ → Action
+first_of_parts : Bool → Option ℕ → Option ℕ → Option ℕ → Option Orphan → Option ℕ → Action
 first_of_parts recovered expired change reopened idle due =
     if recovered then Recover
     else option_map_or Expire expired (option_map_or Apply change (option_map_or Reopen reopened (option_map_or Tidy idle (option_map_or Answer due Quiet))))
 
-record AreNone (recovered : Bool) (expired change reopened : Option ℕ) (idle : Option Idle) (due : Option ℕ) : Type 0 where
+record AreNone (recovered : Bool) (expired change reopened : Option ℕ) (idle : Option Orphan) (due : Option ℕ) : Type 0 where
   is_recovered : recovered ≡ false
   is_expired : expired ≡ None
   is_change : change ≡ None
@@ -45,7 +45,7 @@ record AreNone (recovered : Bool) (expired change reopened : Option ℕ) (idle :
   is_idle : idle ≡ None
   is_due : due ≡ None
 
-none_of : (recovered : Bool) (expired change reopened : Option ℕ) (idle : Option Idle) (due : Option ℕ) → is_quiet (first_of_parts recovered expired change reopened idle due) ≡ true
+none_of : (recovered : Bool) (expired change reopened : Option ℕ) (idle : Option Orphan) (due : Option ℕ) → is_quiet (first_of_parts recovered expired change reopened idle due) ≡ true
     → AreNone recovered expired change reopened idle due
 unfolding first_of_parts
 none_of true e a l i d h = absurd cc
@@ -56,7 +56,7 @@ none_of false None None None (Some x) d h = absurd cc
 none_of false None None None None (Some x) h = absurd cc
 none_of false None None None None None h = record { is_recovered = refl; is_expired = refl; is_change = refl; is_reopened = refl; is_idle = refl; is_due = refl }
 
-quiet_of : (recovered : Bool) (expired change reopened : Option ℕ) (idle : Option Idle) (due : Option ℕ) → AreNone recovered expired change reopened idle due
+quiet_of : (recovered : Bool) (expired change reopened : Option ℕ) (idle : Option Orphan) (due : Option ℕ) → AreNone recovered expired change reopened idle due
     → is_quiet (first_of_parts recovered expired change reopened idle due) ≡ true
 unfolding first_of_parts
 quiet_of recovered expired change reopened idle due none =

@@ -32,7 +32,7 @@ use Rattle.lock_core.specs.Locks.{LockTable, lock_at, with_lock}
 use Rattle.lock_core.specs.Counted.{claims_in, claim_count}
 use Rattle.lock_core.proofs.ClaimTurns.{counted_lock, counted_gone, counted_settled, counted_left}
 use Rattle.master_parts.specs.NameIndex.{name_of}
-use Rattle.master_parts.specs.declared.handles.Note.{Note}
+use Rattle.master_parts.specs.declared.handles.HandleNote.{HandleNote}
 use Rattle.master_parts.specs.declared.pending.Taken.{Taken}
 use Rattle.master_parts.specs.declared.pending.Task.TheVariants as tasks
 use Rattle.master_state.specs.declared.updates.LockPut.{LockPut}
@@ -259,7 +259,7 @@ asked_same names s =
     let only = asks_only names s in
     (ap (λ (m : MasterState). m.limits) only, ap (λ (m : MasterState). m.nodes) only, ap (λ (m : MasterState). m.locks) only)
 
-noted_same : (s : MasterState) (note : Option Note) → AreSame s (with_note s note)
+noted_same : (s : MasterState) (note : Option HandleNote) → AreSame s (with_note s note)
 noted_same s note = (unnoted (λ x. x.limits) (λ x n. refl) s note, unnoted (λ x. x.nodes) (λ x n. refl) s note, unnoted (λ x. x.locks) (λ x n. refl) s note)
 
 same_on : (s mid new : MasterState) → AreSame s mid → AreSame mid new → AreSame s new
@@ -306,7 +306,7 @@ module _ (cell : List ℕ) (rows : Rows) (s : MasterState) (k : IsKept cell rows
       (puts_within s (lapses_puts s (lapses_of parting s client)) sorted (lapses_below s parting client s.locks (own_locks s.locks sorted)))
 
   -- with what is noted of a handle
-  noted_stays : (t : MasterState) (note : Option Note) → StaysWithin s t → StaysWithin s (with_note t note)
+  noted_stays : (t : MasterState) (note : Option HandleNote) → StaysWithin s t → StaysWithin s (with_note t note)
   noted_stays t note h = stays_on s t (with_note t note) h (same_stays t (with_note t note) (noted_same t note))
 
   pub case_within : (c : SweepCase s) → StaysWithin s (swept_by s c).0

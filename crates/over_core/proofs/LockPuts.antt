@@ -15,7 +15,7 @@ use Rattle.collections.proofs.Entries.{lookup_put}
 use Rattle.node_core.specs.Nodes.{Nodes}
 use Rattle.node_core.specs.Limits.{number_end, lock_delay_limit}
 use Rattle.rows_cell.specs.declared.tables.StoredNode.{StoredNode}
-use Rattle.rows_cell.specs.declared.tables.Session as stored
+use Rattle.rows_cell.specs.declared.tables.SessionRow as stored
 use Rattle.rows_cell.specs.declared.tables.Rows.{Rows}
 use Rattle.rows_cell.specs.Keys.{lock_order}
 use Rattle.rows_cell.specs.Rows.{stored_node}

@@ -14,14 +14,14 @@ use Rattle.std.proofs.lemmas.List.Sums.{sum_by-cons, sum_by-append, sum_by_push}
 use Rattle.std.proofs.lemmas.Map.Entries.{sum_by-insert_entry, sum_by-remove_entry}
 use Rattle.gate_core.specs.declared.pending.Waiting.{Waiting}
 use Rattle.tags_cell.specs.declared.messages.outs.Reply.{Reply}
-use Rattle.session_core.specs.declared.records.Kept.{Kept}
+use Rattle.session_core.specs.declared.records.LastCall.{LastCall}
 use Rattle.session_core.specs.declared.records.Session.{Session}
 use Rattle.session_core.specs.Session.{keeping}
 use Rattle.session_core.specs.Sessions.{SessionTable, session_of, kept_of, is_live, with_session}
 use Rattle.session_core.proofs.OneClient.{kept_session, other_session}
 use Rattle.lock_core.specs.State.{LockState, lock_of}
 use Rattle.lock_core.specs.Locks.{LockTable, lock_at, with_lock}
-use Rattle.master_parts.specs.declared.pending.Asked.{Asked}
+use Rattle.master_parts.specs.declared.pending.WaitingRequest.{WaitingRequest}
 use Rattle.master_parts.specs.declared.pending.Task.{Task}
 use Rattle.master_parts.specs.declared.pending.Task.TheVariants as tasks
 use Rattle.over_core.specs.Kept.{is_call, is_call_by, call_count, waits_count, is_unanswered, unanswered}
@@ -75,7 +75,7 @@ pub one_same : (waiting : List (Waiting Task)) (locks : LockTable) (old new : Se
 one_same waiting locks old new same h q = to_same (count_in waiting locks q) (unanswered (kept_of old q)) (unanswered (kept_of new q)) (h q) (ap unanswered (sym (same q)))
 
 -- another last call of a client of which none waits
-pub one_recorded : (waiting : List (Waiting Task)) (locks : LockTable) (sessions : SessionTable Reply) (client : ℕ) (kept : Kept Reply) → count_in waiting locks client ≡ 0 → AreOne waiting locks sessions → AreOne waiting locks (with_session sessions client (keeping kept))
+pub one_recorded : (waiting : List (Waiting Task)) (locks : LockTable) (sessions : SessionTable Reply) (client : ℕ) (kept : LastCall Reply) → count_in waiting locks client ≡ 0 → AreOne waiting locks sessions → AreOne waiting locks (with_session sessions client (keeping kept))
 one_recorded waiting locks sessions client kept none h q =
     (elim (q == client) as (λ b. (q == client) ≡ b → count_in waiting locks q ≤ unanswered (kept_of (with_session sessions client (keeping kept)) q)) [
       | true ↦ (λ c. at_least_none (count_in waiting locks q) (unanswered (kept_of (with_session sessions client (keeping kept)) q)) (ap (count_in waiting locks) (same_client q client c) ∙ none))
@@ -93,7 +93,7 @@ plus_one : (a b c d e : ℕ) → a ≡ b + c → c ≤ 1 → b + d ≡ 0 → e �
 plus_one a b c d e h k l m = omega (arith, h, k, l, m)
 
 -- what a client asked for, where it waits
-abbrev pub asked_waiting : ℕ → List (List ℕ) → Asked → Waiting Task
+abbrev pub asked_waiting : ℕ → List (List ℕ) → WaitingRequest → Waiting Task
 asked_waiting number touched asked = record { number = number; change = record { touched = touched; body = tasks.Asked asked } }
 
 -- a change that waits and is no call
@@ -109,11 +109,11 @@ there sessions client live =
       | Some session ↦ (λ h. refl)
     ]) live
 
-unreplied : (kept : Kept Reply) → kept.reply ≡ None → unanswered (Some kept) ≡ 1
+unreplied : (kept : LastCall Reply) → kept.reply ≡ None → unanswered (Some kept) ≡ 1
 unreplied kept h = rw h refl
 
 -- a call that waits, of a client of which none waited
-pub one_called : (waiting : List (Waiting Task)) (locks : LockTable) (sessions : SessionTable Reply) (client : ℕ) (kept : Kept Reply) (number : ℕ) (touched : List (List ℕ)) (asked : Asked) → asked.client ≡ client → kept.reply ≡ None → is_live sessions client ≡ true → count_in waiting locks client ≡ 0
+pub one_called : (waiting : List (Waiting Task)) (locks : LockTable) (sessions : SessionTable Reply) (client : ℕ) (kept : LastCall Reply) (number : ℕ) (touched : List (List ℕ)) (asked : WaitingRequest) → asked.client ≡ client → kept.reply ≡ None → is_live sessions client ≡ true → count_in waiting locks client ≡ 0
     → AreOne waiting locks sessions → AreOne (waiting ++ asked_waiting number touched asked ∷ []) locks (with_session sessions client (keeping kept))
 one_called waiting locks sessions client kept number touched asked own pending live none h q =
     let w : Waiting Task = asked_waiting number touched asked in
@@ -157,7 +157,7 @@ own_call : (work : Bool) (client : ℕ) → work ≡ true → one_if (work && cl
 own_call work client h = rw (h, one_itself client) refl
 
 -- a call that has left the gate: no other of its client waits
-pub none_beside : (front : List (Waiting Task)) (number : ℕ) (touched : List (List ℕ)) (asked : Asked) (back : List (Waiting Task)) (locks : LockTable) (sessions : SessionTable Reply) → is_call asked.work ≡ true → AreOne (front ++ asked_waiting number touched asked ∷ back) locks sessions
+pub none_beside : (front : List (Waiting Task)) (number : ℕ) (touched : List (List ℕ)) (asked : WaitingRequest) (back : List (Waiting Task)) (locks : LockTable) (sessions : SessionTable Reply) → is_call asked.work ≡ true → AreOne (front ++ asked_waiting number touched asked ∷ back) locks sessions
     → count_in (front ++ back) locks asked.client ≡ 0
 none_beside front number touched asked back locks sessions call h =
     let w : Waiting Task = asked_waiting number touched asked in

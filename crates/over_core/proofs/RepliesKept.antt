@@ -11,7 +11,7 @@ use Rattle.tags_cell.specs.Numbers.{is_client_number}
 use Rattle.tags_cell.specs.declared.messages.outs.CallResult.{CallResult}
 use Rattle.tags_cell.specs.declared.messages.outs.CallResult.TheVariants as results
 use Rattle.tags_cell.specs.declared.messages.outs.Reply.{Reply}
-use Rattle.session_core.specs.declared.records.Kept.{Kept}
+use Rattle.session_core.specs.declared.records.LastCall.{LastCall}
 use Rattle.lock_core.specs.declared.claims.Claim.{Claim}
 use Rattle.lock_core.specs.declared.turns.Turn.{Turn}
 use Rattle.lock_core.specs.declared.turns.Lapse.{Lapse}
@@ -37,8 +37,8 @@ AreTo P replies = AllByRecursion (λ (reply : Reply). P reply.client) replies
 
 reply_is_to : (P : ℕ → Type 0) (s : MasterState) (answer : CallResult) (client : ℕ) → P client → AreTo P (reply_to s answer client)
 reply_is_to P s answer client h =
-    elim (is_client_number client) as (λ b. AreTo P (cond b (option_map_or (λ (kept : Kept Reply). reply_of s client kept.number answer ∷ []) (kept_of s client) []) [])) [
-      | true ↦ elim (kept_of s client) as (λ o. AreTo P (option_map_or (λ (kept : Kept Reply). reply_of s client kept.number answer ∷ []) o [])) [ None ↦ tt | Some kept ↦ (h, tt) ]
+    elim (is_client_number client) as (λ b. AreTo P (cond b (option_map_or (λ (kept : LastCall Reply). reply_of s client kept.number answer ∷ []) (kept_of s client) []) [])) [
+      | true ↦ elim (kept_of s client) as (λ o. AreTo P (option_map_or (λ (kept : LastCall Reply). reply_of s client kept.number answer ∷ []) o [])) [ None ↦ tt | Some kept ↦ (h, tt) ]
       | false ↦ tt
     ]
 

@@ -6,7 +6,7 @@ use Rattle.std.specs.Map.{keys_of, lookup}
 use Rattle.std.specs.BTreeMap.{is_at}
 use Rattle.std.specs.Ordering.{nat_cmp}
 use Rattle.tags_cell.specs.declared.messages.outs.Reply.{Reply}
-use Rattle.session_core.specs.declared.records.Kept.{Kept}
+use Rattle.session_core.specs.declared.records.LastCall.{LastCall}
 use Rattle.session_core.specs.declared.records.Session.{Session}
 use Rattle.session_core.specs.Sessions.{SessionTable, session_of, with_session, with_new, issued_by}
 use Rattle.session_core.specs.Laws.{issued_at}
@@ -19,7 +19,7 @@ use Rattle.over_core.proofs.EachSession.{other_key}
 abbrev pub lives_in : Option (Session Reply) → Bool
 lives_in found = option_map_or (λ session. session.live) found false
 
-abbrev pub keeps_in : Option (Session Reply) → Option (Kept Reply)
+abbrev pub keeps_in : Option (Session Reply) → Option (LastCall Reply)
 keeps_in found = option_and_then (λ session. session.kept) found
 
 stepped : {X : Type 0} (reads : Option (Session Reply) → X) (o : Option (Session Reply)) (step : Session Reply → Session Reply) → ((before : Session Reply) → reads (Some (step before)) ≡ reads (Some before)) → reads (option_map step o) ≡ reads o

@@ -21,7 +21,7 @@ use Rattle.lock_core.specs.declared.turns.Lapse.{Lapse}
 use Rattle.lock_core.specs.declared.turns.Turn.{Turn}
 use Rattle.lock_core.specs.Turns.{is_nobody, reopened}
 use Rattle.lock_core.specs.Locks.{lock_at}
-use Rattle.master_parts.specs.declared.handles.Note.{Note}
+use Rattle.master_parts.specs.declared.handles.HandleNote.{HandleNote}
 use Rattle.master_parts.specs.declared.pending.Taken.{Taken}
 use Rattle.master_parts.specs.declared.pending.Task.TheVariants as tasks
 use Rattle.master_state.specs.State.{MasterState}
@@ -35,7 +35,7 @@ use Rattle.master_state.specs.Lapses.{lapse_lines, lapses_lines, lapses_of, part
 use Rattle.cell_core.specs.declared.effects.Leave.{Leave}
 use Rattle.cell_core.specs.Outcomes.{leave_lines}
 use Rattle.cell_core.proofs.TakeCases.{taken_case}
-use Rattle.master_parts.specs.declared.notices.Telling.{Telling}
+use Rattle.master_parts.specs.declared.notices.SessionEvent.{SessionEvent}
 use Rattle.master_state.specs.Notices.{with_tellings}
 use Rattle.rows_cell.specs.declared.tables.Rows.{Rows}
 use Rattle.over_core.specs.declared.swept.Swept.{Swept}
@@ -107,7 +107,7 @@ module _ (client : ℕ) (name : List ℕ) (rights : List CacheRight) where
 
 -- ---- the master
 
-note_rights : (s : MasterState) (note : Option Note) → (with_note s note).rights ≡ s.rights
+note_rights : (s : MasterState) (note : Option HandleNote) → (with_note s note).rights ≡ s.rights
 note_rights s None = refl
 note_rights s (Some note) = refl
 
@@ -231,7 +231,7 @@ taken_tells s new now request taken h is =
     subst P (sym c.1) (take_tells there request c.0 h)
 
 -- what clients are told of changes no right
-told_rights : (s : MasterState) (tellings : List Telling) → (with_tellings s tellings).rights ≡ s.rights
+told_rights : (s : MasterState) (tellings : List SessionEvent) → (with_tellings s tellings).rights ≡ s.rights
 told_rights s tellings = refl
 
 -- a sweep that was made

@@ -31,9 +31,9 @@ use Rattle.lock_core.specs.Turns.{reopened}
 use Rattle.lock_core.specs.Locks.{lock_at, due}
 use Rattle.master_state.specs.declared.updates.LockPut.{LockPut}
 use Rattle.master_state.specs.declared.updates.SessionUpdate.TheVariants.{Answers}
-use Rattle.master_parts.specs.declared.handles.Note.{Note}
-use Rattle.master_parts.specs.declared.pending.Asked.{Asked}
-use Rattle.master_parts.specs.declared.pending.Idle.{Idle}
+use Rattle.master_parts.specs.declared.handles.HandleNote.{HandleNote}
+use Rattle.master_parts.specs.declared.pending.WaitingRequest.{WaitingRequest}
+use Rattle.master_parts.specs.declared.pending.Orphan.{Orphan}
 use Rattle.master_parts.specs.declared.pending.Task.{Task}
 use Rattle.master_parts.specs.declared.pending.Task.TheVariants as tasks
 use Rattle.master_parts.specs.declared.pending.Work.{Work}
@@ -43,7 +43,7 @@ use Rattle.master_state.specs.State.{MasterState, next_change, task_at}
 use Rattle.master_state.specs.Lookups.{session_of, is_live, may_start, turned_away, noted}
 use Rattle.master_state.specs.Updates.{edits_of}
 use Rattle.cell_core.specs.Ephemerals.{next_idle, is_still_idle}
-use Rattle.master_parts.specs.declared.notices.Telling.{Telling}
+use Rattle.master_parts.specs.declared.notices.SessionEvent.{SessionEvent}
 use Rattle.cell_core.specs.Effect.{effect, gone_by_itself}
 use Rattle.over_core.specs.Plans.{tellings_of, no_update, no_plan, session_plan, alive_out, leaving, plan_session, plan_start, plan_effect, plan_asked, plan_call, plan_of, plan_work, plan_task, answer_or_quiet, tidy_or_later, reopen_or_later, apply_or_later, first_action, parting_plan, plan_leave, plan_live}
 use Rattle.over_core.specs.Sweep.{is_quiet, beats_action, beats_answered, beats_step, swept_by_plan, acted, telling, swept, action_edits, is_over, sweep_edits, sweep_step}
@@ -175,13 +175,13 @@ module _ (s : MasterState) (front : List (Waiting Task)) (w : Waiting Task) (bac
   found : task_at w.number s.gate.waiting ≡ Some w.change.body
   found = ap (task_at w.number) stands ∙ (numbered 0 s.gate.pushed front w back rising).0
 
-  spared_case : (idle : Idle) → w.change.body ≡ tasks.Tidies idle → is_still_idle s idle ≡ false → IsPlan s w.number no_plan
+  spared_case : (idle : Orphan) → w.change.body ≡ tasks.Tidies idle → is_still_idle s idle ≡ false → IsPlan s w.number no_plan
   spared_case idle body held = (Spared front back idle (turn_of (tasks.Tidies idle) body) held, rw left_behind refl, refl)
 
-  tidied_case : (idle : Idle) → w.change.body ≡ tasks.Tidies idle → is_still_idle s idle ≡ true → IsPlan s w.number (plan_effect s 0 0 (gone_by_itself (name_space s) idle))
+  tidied_case : (idle : Orphan) → w.change.body ≡ tasks.Tidies idle → is_still_idle s idle ≡ true → IsPlan s w.number (plan_effect s 0 0 (gone_by_itself (name_space s) idle))
   tidied_case idle body still = (Tidied front back idle (turn_of (tasks.Tidies idle) body) still, rw left_behind refl, refl)
 
-module _ (s : MasterState) (front : List (Waiting Task)) (w : Waiting Task) (back : List (Waiting Task)) (stands : s.gate.waiting ≡ front ++ w ∷ back) (free : is_free s.rights w ≡ true) (orderly : IsOrderly s.gate) (asked : Asked) (body : w.change.body ≡ tasks.Asked asked) where
+module _ (s : MasterState) (front : List (Waiting Task)) (w : Waiting Task) (back : List (Waiting Task)) (stands : s.gate.waiting ≡ front ++ w ∷ back) (free : is_free s.rights w ≡ true) (orderly : IsOrderly s.gate) (asked : WaitingRequest) (body : w.change.body ≡ tasks.Asked asked) where
   turn : IsNextApplied s front (tasks.Asked asked) back
   turn = turn_of s front w back stands free orderly (tasks.Asked asked) body
 
@@ -213,11 +213,11 @@ module _ (s : MasterState) (front : List (Waiting Task)) (w : Waiting Task) (bac
       asked.work ≡ works.Calls call sequencer → is_live s asked.client ≡ true → effect (name_space s) (caller s asked.client) s.clock asked.number call sequencer ≡ effect_by shape
       → IsPlan s w.number (plan_effect s asked.client asked.number (effect_by shape))
 
-  ended_case : (call : Call) (sequencer : Option (List ℕ)) (note : Option Note) (answer : CallResult) → IsDoneBy call sequencer (Ends note answer)
+  ended_case : (call : Call) (sequencer : Option (List ℕ)) (note : Option HandleNote) (answer : CallResult) → IsDoneBy call sequencer (Ends note answer)
   ended_case call sequencer None answer work live made = (Ended front back asked call sequencer None answer turn work live made, rw behind refl, refl)
   ended_case call sequencer (Some note) answer work live made = (Ended front back asked call sequencer (Some note) answer turn work live made, rw behind refl, refl)
 
-  applied_case : (call : Call) (sequencer : Option (List ℕ)) (note : Option Note) (change : Mod) (next : ℕ) (answer : CallResult) → IsDoneBy call sequencer (Applies note (record { change = change; next_instance = next }) answer)
+  applied_case : (call : Call) (sequencer : Option (List ℕ)) (note : Option HandleNote) (change : Mod) (next : ℕ) (answer : CallResult) → IsDoneBy call sequencer (Applies note (record { change = change; next_instance = next }) answer)
   applied_case call sequencer None (Put name view) next answer work live made = (Applied front back asked call sequencer None (record { change = Put name view; next_instance = next }) answer turn work live made, rw behind refl, refl)
   applied_case call sequencer None (Gone name) next answer work live made = (Applied front back asked call sequencer None (record { change = Gone name; next_instance = next }) answer turn work live made, rw behind refl, refl)
   applied_case call sequencer (Some note) (Put name view) next answer work live made = (Applied front back asked call sequencer (Some note) (record { change = Put name view; next_instance = next }) answer turn work live made, rw behind refl, refl)
@@ -233,7 +233,7 @@ module _ (s : MasterState) (front : List (Waiting Task)) (w : Waiting Task) (bac
   awaited_case : (call : Call) (sequencer : Option (List ℕ)) (put : LockPut) → IsDoneBy call sequencer (Awaits put)
   awaited_case call sequencer put work live made = (Awaited front back asked call sequencer put turn work live made, rw behind refl, bare (relocking s (put ∷ [])))
 
-  left_case : (call : Call) (sequencer : Option (List ℕ)) (note : Option Note) (leave : Leave) (answer : CallResult) → IsDoneBy call sequencer (Leaves note leave answer)
+  left_case : (call : Call) (sequencer : Option (List ℕ)) (note : Option HandleNote) (leave : Leave) (answer : CallResult) → IsDoneBy call sequencer (Leaves note leave answer)
   left_case call sequencer None leave answer work live made = (Left front back asked call sequencer None leave answer turn work live made, rw behind refl, bare (relocking s (left_put leave ∷ [])))
   left_case call sequencer (Some note) leave answer work live made = (Left front back asked call sequencer (Some note) leave answer turn work live made, rw behind refl, bare (relocking s (left_put leave ∷ [])))
 
@@ -376,7 +376,7 @@ module _ (s : MasterState) (order : HasSessionsInOrder s) (orderly : IsOrderly s
   late_case None parked kept closed none live going = (Quiet (inl (rw (going, live, none, closed, kept, parked) refl)), refl, refl)
   late_case (Some client) parked kept closed none live going = answer_case client parked
 
-  idle_case : (o : Option Idle) → next_idle s ≡ o → due s.locks s.clock ≡ None → next_change s ≡ None → lowest s.sessions (is_client_expired s.clock) ≡ None → (s.recovering && all_heard s.sessions) ≡ false → IsDone s (option_map_or actions.Tidy o (answer_or_quiet s))
+  idle_case : (o : Option Orphan) → next_idle s ≡ o → due s.locks s.clock ≡ None → next_change s ≡ None → lowest s.sessions (is_client_expired s.clock) ≡ None → (s.recovering && all_heard s.sessions) ≡ false → IsDone s (option_map_or actions.Tidy o (answer_or_quiet s))
   idle_case None is closed none live going = late_case (lowest s.sessions (is_client_due s.sessions.lease s.clock)) refl is closed none live going
   idle_case (Some idle) is closed none live going = (Tidies idle (record { first_idle = is }), refl, refl)
 
@@ -405,10 +405,10 @@ sweep_case s order orderly =
     ]) refl
 
 -- what the clients of open handles are told of an action, and of the first one
-abbrev pub action_tellings : MasterState → Action → List Telling
+abbrev pub action_tellings : MasterState → Action → List SessionEvent
 action_tellings s action = tellings_of s (plan_of s action)
 
-abbrev pub first_tellings : MasterState → List Telling
+abbrev pub first_tellings : MasterState → List SessionEvent
 first_tellings s = action_tellings s (first_action s)
 
 -- a sweep that is made does the first action that there is

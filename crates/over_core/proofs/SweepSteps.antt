@@ -6,7 +6,7 @@ use Rattle.node_core.specs.declared.refusals.Fault.TheVariants as faults
 use Rattle.master_parts.specs.declared.handles.HandleKey.{HandleKey}
 use Rattle.master_parts.specs.declared.handles.HandleState.{HandleState}
 use Rattle.master_parts.specs.declared.handles.HandleState.TheVariants as states
-use Rattle.master_parts.specs.declared.pending.Idle.{Idle}
+use Rattle.master_parts.specs.declared.pending.Orphan.{Orphan}
 use Rattle.cell_core.specs.Ephemerals.{tidied}
 use Rattle.master_state.specs.State.{MasterState}
 use Rattle.master_state.specs.Lookups.{noted}
@@ -26,7 +26,7 @@ none_told : (s : MasterState) → tellings_of s no_plan ≡ []
 none_told s = tells_nobody s s.handles
 
 -- the deletion of an ephemeral node is queued, and nobody is told
-pub tidied_first : (s new : MasterState) (idle : Idle) (result : Swept) → Tidy idle ≡ first_action s → new ≡ tidied s idle → result ≡ record { lines = []; outs = []; quiet = false } → swept s (first_action s) ≡ (new, result)
+pub tidied_first : (s new : MasterState) (idle : Orphan) (result : Swept) → Tidy idle ≡ first_action s → new ≡ tidied s idle → result ≡ record { lines = []; outs = []; quiet = false } → swept s (first_action s) ≡ (new, result)
 tidied_first s new idle result first queued printed =
     let pair : MasterState → Swept → MasterState × Swept = λ m r. (m, r) in
     let P : Action → Type 0 = λ a. swept s a ≡ (new, result) in

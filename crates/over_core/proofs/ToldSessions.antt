@@ -17,7 +17,7 @@ use Rattle.session_core.specs.Session.{events_of, told, has_heard}
 use Rattle.session_core.specs.Sessions.{SessionTable, session_of, with_session, all_heard}
 use Rattle.session_core.proofs.OneClient.{own_session, other_session}
 use Rattle.session_core.proofs.RowsOfSessions.{rows_of, rows_stay}
-use Rattle.master_parts.specs.declared.notices.Telling.{Telling}
+use Rattle.master_parts.specs.declared.notices.SessionEvent.{SessionEvent}
 use Rattle.master_state.specs.Notices.{with_telling}
 use Rattle.over_core.proofs.EachSession.{Each, EachWithout, step_each, step_without}
 use Rattle.over_core.proofs.SessionReads.{reads_step}
@@ -38,7 +38,7 @@ pub told_heard : (event : Event) (session : Session Reply) → has_heard (told e
 told_heard event session = ap (λ count. not session.live || nat_le 1 count) (told_acknowledged event session)
 
 -- the events that a client is told of, in order
-abbrev pub told_to : ℕ → List Telling → List Event
+abbrev pub told_to : ℕ → List SessionEvent → List Event
 told_to client [] = []
 told_to client (telling ∷ rest) = if telling.client == client then telling.event ∷ told_to client rest else told_to client rest
 
@@ -77,7 +77,7 @@ one_more event rest (Some session) = refl
 other_client : (client q : ℕ) → (client == q) ≡ false → q ≢ client
 other_client client q h same = grind (arith, nat_tests)
 
-pub told_session : (tellings : List Telling) (table : SessionTable Reply) (q : ℕ) → session_of (fold with_telling table tellings) q ≡ option_map (told_all (told_to q tellings)) (session_of table q)
+pub told_session : (tellings : List SessionEvent) (table : SessionTable Reply) (q : ℕ) → session_of (fold with_telling table tellings) q ≡ option_map (told_all (told_to q tellings)) (session_of table q)
 told_session [] table q = no_more (session_of table q)
 told_session (telling ∷ rest) table q =
     told_session rest (with_telling table telling) q
@@ -90,21 +90,21 @@ told_session (telling ∷ rest) table q =
     ]) refl
 
 -- what no event changes is read as before
-pub reads_told : {X : Type 0} (reads : Option (Session Reply) → X) → ((event : Event) (before : Session Reply) → reads (Some (told event before)) ≡ reads (Some before)) → (tellings : List Telling) (table : SessionTable Reply) (q : ℕ) → reads (session_of (fold with_telling table tellings) q) ≡ reads (session_of table q)
+pub reads_told : {X : Type 0} (reads : Option (Session Reply) → X) → ((event : Event) (before : Session Reply) → reads (Some (told event before)) ≡ reads (Some before)) → (tellings : List SessionEvent) (table : SessionTable Reply) (q : ℕ) → reads (session_of (fold with_telling table tellings) q) ≡ reads (session_of table q)
 reads_told reads keeps [] table q = refl
 reads_told reads keeps (telling ∷ rest) table q = reads_told reads keeps rest (with_telling table telling) q ∙ reads_step reads table telling.client (told telling.event) (keeps telling.event) q
 
-pub told_each : (P : ℕ → Session Reply → Type 0) → ((client : ℕ) (event : Event) (before : Session Reply) → P client before → P client (told event before)) → (tellings : List Telling) (table : SessionTable Reply) → Each P table → Each P (fold with_telling table tellings)
+pub told_each : (P : ℕ → Session Reply → Type 0) → ((client : ℕ) (event : Event) (before : Session Reply) → P client before → P client (told event before)) → (tellings : List SessionEvent) (table : SessionTable Reply) → Each P table → Each P (fold with_telling table tellings)
 told_each P keeps [] table h = h
 told_each P keeps (telling ∷ rest) table h = told_each P keeps rest (with_telling table telling) (step_each P table telling.client (told telling.event) (λ before there. keeps telling.client telling.event before) h)
 
-pub told_without : (P : ℕ → Type 0) (tellings : List Telling) (table : SessionTable Reply) → EachWithout P table → EachWithout P (fold with_telling table tellings)
+pub told_without : (P : ℕ → Type 0) (tellings : List SessionEvent) (table : SessionTable Reply) → EachWithout P table → EachWithout P (fold with_telling table tellings)
 told_without P [] table h = h
 told_without P (telling ∷ rest) table h = told_without P rest (with_telling table telling) (step_without P table telling.client (told telling.event) h)
 
 -- ---- the table
 
-pub rows_told : {B : Type 0} (f : Session Reply → B) → ((event : Event) (before : Session Reply) → f (told event before) ≡ f before) → (tellings : List Telling) (table : SessionTable Reply) → rows_of f (fold with_telling table tellings).sessions ≡ rows_of f table.sessions
+pub rows_told : {B : Type 0} (f : Session Reply → B) → ((event : Event) (before : Session Reply) → f (told event before) ≡ f before) → (tellings : List SessionEvent) (table : SessionTable Reply) → rows_of f (fold with_telling table tellings).sessions ≡ rows_of f table.sessions
 rows_told f keeps [] table = refl
 rows_told f keeps (telling ∷ rest) table = rows_told f keeps rest (with_telling table telling) ∙ rows_stay f table telling.client (told telling.event) (keeps telling.event)
 
@@ -114,7 +114,7 @@ lease_of_one s client step = elim (session_of s client) as (λ (o : Option (Sess
   | Some session ↦ refl
 ]
 
-pub lease_told : (tellings : List Telling) (table : SessionTable Reply) → (fold with_telling table tellings).lease ≡ table.lease
+pub lease_told : (tellings : List SessionEvent) (table : SessionTable Reply) → (fold with_telling table tellings).lease ≡ table.lease
 lease_told [] table = refl
 lease_told (telling ∷ rest) table = lease_told rest (with_telling table telling) ∙ lease_of_one table telling.client (told telling.event)
 
@@ -124,7 +124,7 @@ clients_of_one s client step = elim (session_of s client) as (λ (o : Option (Se
   | Some session ↦ keys-set_value (is_at (nat_cmp client)) s.sessions (step session)
 ]
 
-pub clients_told : (tellings : List Telling) (table : SessionTable Reply) → keys_of (fold with_telling table tellings).sessions ≡ keys_of table.sessions
+pub clients_told : (tellings : List SessionEvent) (table : SessionTable Reply) → keys_of (fold with_telling table tellings).sessions ≡ keys_of table.sessions
 clients_told [] table = refl
 clients_told (telling ∷ rest) table = clients_told rest (with_telling table telling) ∙ clients_of_one table telling.client (told telling.event)
 
@@ -133,7 +133,7 @@ all_rows : (es : List (ℕ × Session Reply)) → list_all (λ (e : ℕ × Bool)
 all_rows [] = refl
 all_rows (e ∷ es) = ap (λ b. has_heard e.1 && b) (all_rows es)
 
-pub all_heard_told : (tellings : List Telling) (table : SessionTable Reply) → all_heard (fold with_telling table tellings) ≡ all_heard table
+pub all_heard_told : (tellings : List SessionEvent) (table : SessionTable Reply) → all_heard (fold with_telling table tellings) ≡ all_heard table
 all_heard_told tellings table =
     sym (all_rows (fold with_telling table tellings).sessions)
     ∙ ap (list_all (λ (e : ℕ × Bool). e.1)) (rows_told has_heard told_heard tellings table)

@@ -33,15 +33,15 @@ use Rattle.master_state.specs.NameSpace.{name_space, caller}
 use Rattle.master_state.specs.State.{MasterState}
 use Rattle.master_state.specs.Lookups.{may, missing_right, is_of_cell, sequencer_fault, lock_under, node_of_handle, new_handle, answer_on}
 use Rattle.master_parts.specs.Calls.{create_fault, bytes_of}
-use Rattle.cell_core.specs.declared.asking.Touched.{Touched}
-use Rattle.cell_core.specs.declared.asking.Touched.TheVariants.{Alone, WithParent}
+use Rattle.cell_core.specs.declared.asking.TouchedNames.{TouchedNames}
+use Rattle.cell_core.specs.declared.asking.TouchedNames.TheVariants.{Alone, WithParent}
 use Rattle.cell_core.specs.Step.{touched_by, names_of}
 use Rattle.cell_core.specs.Names.{call_touched}
 use Rattle.cell_core.specs.declared.effects.Effect.{Effect}
 use Rattle.cell_core.specs.Effect.{answered, refused, changes_to, is_last, new_node_fault, content_fault, lock_fault, unless, new_node, acls_of, create_put, create_made, create_numbered, create_permitted, create_in, create_under, create_new, create_over, create_effect, create_tested, create_under_sequencer, open_effect, lock_taken, acquired_by, acquire_by, try_by, release_by, generation_fits, with_content, with_acls, put_at, deleted, delete_at, change_at, change_on, effect_on, handle_effect, effect}
 
 -- a change, if there is one, touches these names of the map
-abbrev IsOn : Nodes → Option Touched → Option Change → Type 0
+abbrev IsOn : Nodes → Option TouchedNames → Option Change → Type 0
 IsOn nodes named None = Unit {0}
 IsOn nodes named (Some change) = names_of named ≡ touched nodes change.change
 
@@ -52,18 +52,18 @@ of_handle (Some v) instance node h =
     (elim (v.instance == instance) as (λ b. ◌≡◌ {A = Option Node} (cond b (Some v) None) (Some node) → ◌≡◌ {A = Option Node} (Some v) (Some node)) [ true ↦ (λ k. k) | false ↦ (λ k. cc) ]) h
 
 module _ (s : MasterState) where
-  abbrev Touches : Option Touched → Effect → Type 0
+  abbrev Touches : Option TouchedNames → Effect → Type 0
   Touches named effected = IsOn s.nodes named effected.change
 
-  either : (named : Option Touched) (b : Bool) (x y : Effect) → Touches named x → Touches named y → Touches named (cond b x y)
+  either : (named : Option TouchedNames) (b : Bool) (x y : Effect) → Touches named x → Touches named y → Touches named (cond b x y)
   either named true x y h k = h
   either named false x y h k = k
 
-  by_option : {X : Type 0} (named : Option Touched) (o : Option X) (f : X → Effect) (y : Effect) → ((x : X) → Touches named (f x)) → Touches named y → Touches named (option_map_or f o y)
+  by_option : {X : Type 0} (named : Option TouchedNames) (o : Option X) (f : X → Effect) (y : Effect) → ((x : X) → Touches named (f x)) → Touches named y → Touches named (option_map_or f o y)
   by_option named None f y h k = k
   by_option named (Some x) f y h k = h x
 
-  by_found : {X : Type 0} (named : Option Touched) (o : Option X) (f : X → Effect) (y : Effect) → ((x : X) → o ≡ Some x → Touches named (f x)) → (o ≡ None → Touches named y) → Touches named (option_map_or f o y)
+  by_found : {X : Type 0} (named : Option TouchedNames) (o : Option X) (f : X → Effect) (y : Effect) → ((x : X) → o ≡ Some x → Touches named (f x)) → (o ≡ None → Touches named y) → Touches named (option_map_or f o y)
   by_found named None f y h k = k refl
   by_found named (Some x) f y h k = h x refl
 
@@ -78,7 +78,7 @@ module _ (s : MasterState) where
   changes name old node here = sym (ap (λ (o : Option Node). cond (is_none o) (with_parent name) (name ∷ [])) here)
 
   module _ (opening : Open) (absent : get_node s.nodes opening.name ≡ None) where
-    abbrev new : Option Touched
+    abbrev new : Option TouchedNames
     new = Some (WithParent opening.name)
 
     made_touches : (node : Node) (r : Result Handle Fault) → Touches new (create_made (name_space s) opening node r)
@@ -115,7 +115,7 @@ module _ (s : MasterState) where
 
   tested_touches : (client number : ℕ) (opening : Open) (create : Create) → Touches (Some (WithParent opening.name)) (create_tested (name_space s) (caller s client) number opening create)
   tested_touches client number opening create =
-      let new : Option Touched = Some (WithParent opening.name) in
+      let new : Option TouchedNames = Some (WithParent opening.name) in
       by_option new (create_fault opening create.node) (λ answer. answered answer) (create_effect (name_space s) (caller s client) number opening create) (λ answer. tt)
       (by_found new (get_node s.nodes opening.name) (λ node. create_over (name_space s) (caller s client) number opening create.disposition node) (create_new (name_space s) (caller s client) number opening create)
       (λ node here. over_touches client number opening create.disposition node) (λ absent. new_touches opening absent client number create))
@@ -146,19 +146,19 @@ module _ (s : MasterState) where
 
   -- ---- a lock
 
-  asked_touches : (named : Option Touched) (handle : Handle) (claim : Claim) (given : Acquired) → Touches named (acquired_by handle claim given)
+  asked_touches : (named : Option TouchedNames) (handle : Handle) (claim : Claim) (given : Acquired) → Touches named (acquired_by handle claim given)
   asked_touches named handle claim (asked.Held lock) = tt
   asked_touches named handle claim (asked.Waits lock) = tt
 
-  acquired_touches : (named : Option Touched) (handle : Handle) (claim : Claim) (room : Option Fault) (r : Result Acquired Fault) → Touches named (acquire_by handle claim room r)
+  acquired_touches : (named : Option TouchedNames) (handle : Handle) (claim : Claim) (room : Option Fault) (r : Result Acquired Fault) → Touches named (acquire_by handle claim room r)
   acquired_touches named handle claim room (Ok given) = by_option named room (λ fault. refused fault) (acquired_by handle claim given) (λ fault. tt) (asked_touches named handle claim given)
   acquired_touches named handle claim room (Err fault) = tt
 
-  tried_touches : (named : Option Touched) (handle : Handle) (claim : Claim) (room : Option Fault) (r : Result LockState Fault) → Touches named (try_by handle claim room r)
+  tried_touches : (named : Option TouchedNames) (handle : Handle) (claim : Claim) (room : Option Fault) (r : Result LockState Fault) → Touches named (try_by handle claim room r)
   tried_touches named handle claim room (Ok lock) = by_option named room (λ fault. refused fault) (lock_taken handle claim lock) (λ fault. tt) tt
   tried_touches named handle claim room (Err fault) = tt
 
-  released_touches : (named : Option Touched) (handle : Handle) (r : Result Turn Fault) → Touches named (release_by handle r)
+  released_touches : (named : Option TouchedNames) (handle : Handle) (r : Result Turn Fault) → Touches named (release_by handle r)
   released_touches named handle (Ok turn) = tt
   released_touches named handle (Err fault) = tt
 

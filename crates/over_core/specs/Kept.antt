@@ -24,7 +24,7 @@ use Rattle.master_parts.specs.Calls.{bytes_of}
 use Rattle.cell_core.specs.Names.{names_touched}
 use Rattle.tags_cell.specs.declared.messages.outs.Reply.{Reply}
 use Rattle.session_core.specs.declared.records.Session.{Session}
-use Rattle.session_core.specs.declared.records.Kept.{Kept}
+use Rattle.session_core.specs.declared.records.LastCall.{LastCall}
 use Rattle.session_core.specs.Session.{events_of}
 use Rattle.session_core.specs.Sessions.{SessionTable, session_of, kept_of, is_live}
 use Rattle.tags_cell.specs.Numbers.{is_client_number}
@@ -157,10 +157,10 @@ abbrev pub outstanding : MasterState → ℕ → ℕ
 outstanding s client = sum_by (call_count client) s.gate.waiting + sum_by (waits_count client) (values_of s.locks)
 
 -- the last call of a client has no reply yet
-abbrev pub is_unanswered : Option (Kept Reply) → Bool
+abbrev pub is_unanswered : Option (LastCall Reply) → Bool
 is_unanswered kept = option_map_or (λ call. is_none call.reply) kept false
 
-abbrev pub unanswered : Option (Kept Reply) → ℕ
+abbrev pub unanswered : Option (LastCall Reply) → ℕ
 unanswered kept = if is_unanswered kept then 1 else 0
 
 -- a client waits with one call at most, and then its last call has no reply yet

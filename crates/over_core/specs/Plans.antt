@@ -1,7 +1,7 @@
 -- What a master does by itself: the first action that there is, and what is planned for it.
 use Rattle.std.specs.Prelude.{List, ◌++◌, ℕ, true, false, ◌&&◌, [], ◌∷◌, map, Option, Some, None, if◌then◌else◌}
 use Rattle.master_parts.specs.declared.notices.Notice.{Notice}
-use Rattle.master_parts.specs.declared.notices.Telling.{Telling}
+use Rattle.master_parts.specs.declared.notices.SessionEvent.{SessionEvent}
 use Rattle.master_state.specs.NameSpace.{name_space, caller}
 use Rattle.master_state.specs.Notices.{tellings_to}
 use Rattle.master_state.specs.State.{MasterState, next_change, task_at}
@@ -26,7 +26,7 @@ use Rattle.master_state.specs.declared.updates.Update.{Update}
 use Rattle.master_state.specs.declared.updates.SessionUpdate.{SessionUpdate}
 use Rattle.master_state.specs.declared.updates.SessionUpdate.TheVariants.{Begins, Prolongs, Ends, Answers}
 use Rattle.cell_core.specs.declared.effects.Effect.{Effect}
-use Rattle.master_parts.specs.declared.pending.Idle.{Idle}
+use Rattle.master_parts.specs.declared.pending.Orphan.{Orphan}
 use Rattle.master_parts.specs.declared.pending.Task.{Task}
 use Rattle.master_parts.specs.declared.pending.Work.{Work}
 use Rattle.master_state.specs.Lookups.{session_of, may_start, is_live, nothing, turned_away, reply_of}
@@ -53,7 +53,7 @@ abbrev pub notices_of : MasterState → Plan → List Notice
 notices_of s plan = change_notices s plan.update.change ++ locks_notices s.locks plan.update.locks ++ contest_notices plan.contested
 
 -- what the clients of open handles are told of what is planned
-abbrev pub tellings_of : MasterState → Plan → List Telling
+abbrev pub tellings_of : MasterState → Plan → List SessionEvent
 tellings_of s plan = tellings_to s plan.update.note (notices_of s plan)
 
 -- ---- what is done first
@@ -181,7 +181,7 @@ plan_work s client number (works.Starts principal received) = plan_start s clien
 plan_work s client number (works.Calls call sequencer) = plan_call s client number call sequencer
 
 -- an ephemeral node goes, unless somebody holds it open again
-abbrev pub plan_tidied : MasterState → Idle → Plan
+abbrev pub plan_tidied : MasterState → Orphan → Plan
 plan_tidied s idle = if is_still_idle s idle then plan_effect s 0 0 (gone_by_itself (name_space s) idle) else no_plan
 
 -- what a client asked for, or what the cell does by itself, of client 0 and number 0

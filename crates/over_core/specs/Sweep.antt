@@ -1,6 +1,6 @@
 -- A sweep: what is planned for its first action is done and committed, and the clients are told of it.
 use Rattle.std.specs.Prelude.{◌≡◌, ◌⊎◌, ◌≤◌, List, ℕ, Bool, true, false, not, ◌||◌, ◌&&◌, [], ◌∷◌, ◌++◌, is_some, Result, Ok, Err, if◌then◌else◌}
-use Rattle.master_parts.specs.declared.notices.Telling.{Telling}
+use Rattle.master_parts.specs.declared.notices.SessionEvent.{SessionEvent}
 use Rattle.master_parts.specs.declared.pending.Taken.{Taken}
 use Rattle.master_state.specs.Notices.{with_tellings}
 use Rattle.master_state.specs.State.{MasterState}
@@ -44,7 +44,7 @@ acted s (Tidy idle) = (tidied s idle, record { lines = []; outs = []; quiet = fa
 acted s action = swept_by_plan s (plan_of s action) (is_quiet action)
 
 -- behind all else the clients of open handles are told of it
-abbrev pub telling : List Telling → MasterState × Swept → MasterState × Swept
+abbrev pub telling : List SessionEvent → MasterState × Swept → MasterState × Swept
 telling tellings done = (with_tellings done.0 tellings, done.1)
 
 abbrev pub swept : MasterState → Action → MasterState × Swept

@@ -13,9 +13,9 @@ use Rattle.tags_cell.specs.declared.messages.outs.Reply.{Reply}
 use Rattle.gate_core.specs.declared.pending.Waiting.{Waiting}
 use Rattle.gate_core.specs.Gate.{is_free}
 use Rattle.master_state.specs.declared.updates.Change.{Change}
-use Rattle.master_parts.specs.declared.handles.Note.{Note}
-use Rattle.master_parts.specs.declared.pending.Asked.{Asked}
-use Rattle.master_parts.specs.declared.pending.Idle.{Idle}
+use Rattle.master_parts.specs.declared.handles.HandleNote.{HandleNote}
+use Rattle.master_parts.specs.declared.pending.WaitingRequest.{WaitingRequest}
+use Rattle.master_parts.specs.declared.pending.Orphan.{Orphan}
 use Rattle.master_parts.specs.declared.pending.Task.{Task}
 use Rattle.lock_core.specs.declared.claims.Claim.{Claim}
 use Rattle.lock_core.specs.declared.partings.Parting.{Parting}
@@ -81,7 +81,7 @@ pub record IsToReopen (s : MasterState) (instance : ℕ) : Type 0 where
   pub lowest_due : due s.locks s.clock ≡ Some instance
 
 -- an ephemeral node is the one whose deletion is to be queued now
-pub record IsToGo (s : MasterState) (idle : Idle) : Type 0 where
+pub record IsToGo (s : MasterState) (idle : Orphan) : Type 0 where
   pub first_idle : next_idle s ≡ Some idle
 
 pub data SweepCase (s : MasterState) : Type 0 where
@@ -91,32 +91,32 @@ pub data SweepCase (s : MasterState) : Type 0 where
   Expires : (client : ℕ) (session : Session Reply) → IsDueToEnd s client session → SweepCase s
   AnswersBeat : (client : ℕ) (session : Session Reply) (beat : Parked) → IsDue s client session beat → SweepCase s
   -- A START'S TURN
-  TurnedAway : (front back : List (Waiting Task)) (asked : Asked) (principal : List ℕ) (received : ℕ) → IsNextApplied s front (tasks.Asked asked) back → asked.work ≡ works.Starts principal received → may_start s asked.client principal ≡ false → SweepCase s
-  StartedAgain : (front back : List (Waiting Task)) (asked : Asked) (principal : List ℕ) (received : ℕ) (session : Session Reply) → IsNextApplied s front (tasks.Asked asked) back → asked.work ≡ works.Starts principal received → session_of s asked.client ≡ Some session → session.live ≡ true → SweepCase s
-  Started : (front back : List (Waiting Task)) (asked : Asked) (principal : List ℕ) (received : ℕ) → IsNextApplied s front (tasks.Asked asked) back → asked.work ≡ works.Starts principal received → session_of s asked.client ≡ None → SweepCase s
+  TurnedAway : (front back : List (Waiting Task)) (asked : WaitingRequest) (principal : List ℕ) (received : ℕ) → IsNextApplied s front (tasks.Asked asked) back → asked.work ≡ works.Starts principal received → may_start s asked.client principal ≡ false → SweepCase s
+  StartedAgain : (front back : List (Waiting Task)) (asked : WaitingRequest) (principal : List ℕ) (received : ℕ) (session : Session Reply) → IsNextApplied s front (tasks.Asked asked) back → asked.work ≡ works.Starts principal received → session_of s asked.client ≡ Some session → session.live ≡ true → SweepCase s
+  Started : (front back : List (Waiting Task)) (asked : WaitingRequest) (principal : List ℕ) (received : ℕ) → IsNextApplied s front (tasks.Asked asked) back → asked.work ≡ works.Starts principal received → session_of s asked.client ≡ None → SweepCase s
   -- A LOCK
   Reopens : (instance : ℕ) → IsToReopen s instance → SweepCase s
   -- AN EPHEMERAL NODE
-  Tidies : (idle : Idle) → IsToGo s idle → SweepCase s
-  Spared : (front back : List (Waiting Task)) (idle : Idle) → IsNextApplied s front (tasks.Tidies idle) back → is_still_idle s idle ≡ false → SweepCase s
-  Tidied : (front back : List (Waiting Task)) (idle : Idle) → IsNextApplied s front (tasks.Tidies idle) back → is_still_idle s idle ≡ true → SweepCase s
+  Tidies : (idle : Orphan) → IsToGo s idle → SweepCase s
+  Spared : (front back : List (Waiting Task)) (idle : Orphan) → IsNextApplied s front (tasks.Tidies idle) back → is_still_idle s idle ≡ false → SweepCase s
+  Tidied : (front back : List (Waiting Task)) (idle : Orphan) → IsNextApplied s front (tasks.Tidies idle) back → is_still_idle s idle ≡ true → SweepCase s
   -- A CALL'S TURN
-  OfEnded : (front back : List (Waiting Task)) (asked : Asked) (call : Call) (sequencer : Option (List ℕ)) → IsNextApplied s front (tasks.Asked asked) back → asked.work ≡ works.Calls call sequencer → is_live s asked.client ≡ false → SweepCase s
+  OfEnded : (front back : List (Waiting Task)) (asked : WaitingRequest) (call : Call) (sequencer : Option (List ℕ)) → IsNextApplied s front (tasks.Asked asked) back → asked.work ≡ works.Calls call sequencer → is_live s asked.client ≡ false → SweepCase s
   -- the client ends its session
-  Departed : (front back : List (Waiting Task)) (asked : Asked) (call : Call) (sequencer : Option (List ℕ)) (session : Session Reply) → IsNextApplied s front (tasks.Asked asked) back → asked.work ≡ works.Calls call sequencer → is_leave call ≡ true → session_of s asked.client ≡ Some session → session.live ≡ true → SweepCase s
-  Ended : (front back : List (Waiting Task)) (asked : Asked) (call : Call) (sequencer : Option (List ℕ)) (note : Option Note) (answer : CallResult) → IsNextApplied s front (tasks.Asked asked) back → asked.work ≡ works.Calls call sequencer → is_live s asked.client ≡ true → effect (name_space s) (caller s asked.client) s.clock asked.number call sequencer ≡ record { note = note; change = None; locking = lockings.Nothing; answer = Some answer } → SweepCase s
-  Applied : (front back : List (Waiting Task)) (asked : Asked) (call : Call) (sequencer : Option (List ℕ)) (note : Option Note) (change : Change) (answer : CallResult) → IsNextApplied s front (tasks.Asked asked) back → asked.work ≡ works.Calls call sequencer → is_live s asked.client ≡ true → effect (name_space s) (caller s asked.client) s.clock asked.number call sequencer ≡ record { note = note; change = Some change; locking = lockings.Nothing; answer = Some answer } → SweepCase s
-  Deleted : (front back : List (Waiting Task)) (asked : Asked) (call : Call) (sequencer : Option (List ℕ)) (change : Change) (instance : ℕ) (waiters : List Claim) (answer : CallResult) → IsNextApplied s front (tasks.Asked asked) back → asked.work ≡ works.Calls call sequencer → is_live s asked.client ≡ true → effect (name_space s) (caller s asked.client) s.clock asked.number call sequencer ≡ record { note = None; change = Some change; locking = lockings.Goes instance waiters; answer = Some answer } → SweepCase s
-  Locked : (front back : List (Waiting Task)) (asked : Asked) (call : Call) (sequencer : Option (List ℕ)) (put : LockPut) (claim : Claim) (answer : CallResult) → IsNextApplied s front (tasks.Asked asked) back → asked.work ≡ works.Calls call sequencer → is_live s asked.client ≡ true → effect (name_space s) (caller s asked.client) s.clock asked.number call sequencer ≡ record { note = None; change = None; locking = lockings.Takes put claim; answer = Some answer } → SweepCase s
-  Awaited : (front back : List (Waiting Task)) (asked : Asked) (call : Call) (sequencer : Option (List ℕ)) (put : LockPut) → IsNextApplied s front (tasks.Asked asked) back → asked.work ≡ works.Calls call sequencer → is_live s asked.client ≡ true → effect (name_space s) (caller s asked.client) s.clock asked.number call sequencer ≡ record { note = None; change = None; locking = lockings.Waits put; answer = None } → SweepCase s
-  Left : (front back : List (Waiting Task)) (asked : Asked) (call : Call) (sequencer : Option (List ℕ)) (note : Option Note) (leave : Leave) (answer : CallResult) → IsNextApplied s front (tasks.Asked asked) back → asked.work ≡ works.Calls call sequencer → is_live s asked.client ≡ true → effect (name_space s) (caller s asked.client) s.clock asked.number call sequencer ≡ record { note = note; change = None; locking = lockings.Leaves leave; answer = Some answer } → SweepCase s
+  Departed : (front back : List (Waiting Task)) (asked : WaitingRequest) (call : Call) (sequencer : Option (List ℕ)) (session : Session Reply) → IsNextApplied s front (tasks.Asked asked) back → asked.work ≡ works.Calls call sequencer → is_leave call ≡ true → session_of s asked.client ≡ Some session → session.live ≡ true → SweepCase s
+  Ended : (front back : List (Waiting Task)) (asked : WaitingRequest) (call : Call) (sequencer : Option (List ℕ)) (note : Option HandleNote) (answer : CallResult) → IsNextApplied s front (tasks.Asked asked) back → asked.work ≡ works.Calls call sequencer → is_live s asked.client ≡ true → effect (name_space s) (caller s asked.client) s.clock asked.number call sequencer ≡ record { note = note; change = None; locking = lockings.Nothing; answer = Some answer } → SweepCase s
+  Applied : (front back : List (Waiting Task)) (asked : WaitingRequest) (call : Call) (sequencer : Option (List ℕ)) (note : Option HandleNote) (change : Change) (answer : CallResult) → IsNextApplied s front (tasks.Asked asked) back → asked.work ≡ works.Calls call sequencer → is_live s asked.client ≡ true → effect (name_space s) (caller s asked.client) s.clock asked.number call sequencer ≡ record { note = note; change = Some change; locking = lockings.Nothing; answer = Some answer } → SweepCase s
+  Deleted : (front back : List (Waiting Task)) (asked : WaitingRequest) (call : Call) (sequencer : Option (List ℕ)) (change : Change) (instance : ℕ) (waiters : List Claim) (answer : CallResult) → IsNextApplied s front (tasks.Asked asked) back → asked.work ≡ works.Calls call sequencer → is_live s asked.client ≡ true → effect (name_space s) (caller s asked.client) s.clock asked.number call sequencer ≡ record { note = None; change = Some change; locking = lockings.Goes instance waiters; answer = Some answer } → SweepCase s
+  Locked : (front back : List (Waiting Task)) (asked : WaitingRequest) (call : Call) (sequencer : Option (List ℕ)) (put : LockPut) (claim : Claim) (answer : CallResult) → IsNextApplied s front (tasks.Asked asked) back → asked.work ≡ works.Calls call sequencer → is_live s asked.client ≡ true → effect (name_space s) (caller s asked.client) s.clock asked.number call sequencer ≡ record { note = None; change = None; locking = lockings.Takes put claim; answer = Some answer } → SweepCase s
+  Awaited : (front back : List (Waiting Task)) (asked : WaitingRequest) (call : Call) (sequencer : Option (List ℕ)) (put : LockPut) → IsNextApplied s front (tasks.Asked asked) back → asked.work ≡ works.Calls call sequencer → is_live s asked.client ≡ true → effect (name_space s) (caller s asked.client) s.clock asked.number call sequencer ≡ record { note = None; change = None; locking = lockings.Waits put; answer = None } → SweepCase s
+  Left : (front back : List (Waiting Task)) (asked : WaitingRequest) (call : Call) (sequencer : Option (List ℕ)) (note : Option HandleNote) (leave : Leave) (answer : CallResult) → IsNextApplied s front (tasks.Asked asked) back → asked.work ≡ works.Calls call sequencer → is_live s asked.client ≡ true → effect (name_space s) (caller s asked.client) s.clock asked.number call sequencer ≡ record { note = note; change = None; locking = lockings.Leaves leave; answer = Some answer } → SweepCase s
 
 -- a change has left the gate; the others keep their order
 abbrev pub rest : MasterState → List (Waiting Task) → List (Waiting Task) → MasterState
 rest s front back = record s { gate = record s.gate { waiting = front ++ back } }
 
 -- the call's reply is kept, and what is noted of its handle
-abbrev pub ended : MasterState → Asked → Option Note → CallResult → MasterState
+abbrev pub ended : MasterState → WaitingRequest → Option HandleNote → CallResult → MasterState
 ended s asked note answer = with_note (recorded s asked.client (answered_by (reply_of s asked.client asked.number answer))) note
 
 -- the map has changed
@@ -141,21 +141,21 @@ abbrev pub parting_replies : Parting → MasterState → ℕ → List Reply → 
 parting_replies parting s client own = sent (own ++ lapses_replies s (lapses_of parting s client))
 
 -- the answer to a client that ended its session
-abbrev pub left_reply : MasterState → Asked → Reply
+abbrev pub left_reply : MasterState → WaitingRequest → Reply
 left_reply s asked = reply_of s asked.client asked.number results.Done
 
 -- what is sent of a call's end, and of those that waited for a lock
-abbrev pub replied_with : MasterState → Asked → CallResult → List Reply → List Out
+abbrev pub replied_with : MasterState → WaitingRequest → CallResult → List Reply → List Out
 replied_with s asked answer others = outs.Reply (reply_of s asked.client asked.number answer) ∷ sent others
 
 abbrev pub swept_with : List Line → List Out → Swept
 swept_with printed sent = record { lines = printed; outs = sent; quiet = false }
 
 -- the change of the map, and what those are answered who waited for the lock, where an ephemeral node goes
-abbrev pub gone_change : MasterState → Idle → Change
+abbrev pub gone_change : MasterState → Orphan → Change
 gone_change s idle = record { change = Gone idle.name; next_instance = s.next_instance }
 
-abbrev pub gone_replies : MasterState → Idle → List Reply
+abbrev pub gone_replies : MasterState → Orphan → List Reply
 gone_replies s idle = replies_to s (results.Refused faults.StaleInstance) (lock_at s.locks idle.instance).waiters
 
 -- what the master is then, prints and sends

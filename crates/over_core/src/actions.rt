@@ -2,8 +2,8 @@
 ghost use Rattle.std.specs.Prelude.{◌≡◌, IfOk};
 ghost use Rattle.over_core.specs.Plans.{first_action, apply_or_later, reopen_or_later, tidy_or_later, answer_or_quiet};
 
-use cell_core::Cell;
-use master_parts::Idle;
+use cell_core::MemoryMaster;
+use master_parts::Orphan;
 use master_state::Master;
 use std::alloc::AllocError;
 use tags_cell::ClientNumber;
@@ -23,7 +23,7 @@ pub enum Action {
     /// The lock of this instance was closed for its delay, and is open again (Burrows 2006, section 2.4).
     Reopen(u64),
     /// The deletion of this ephemeral node is queued: nobody holds it open (Burrows 2006, section 2.3).
-    Tidy(Idle),
+    Tidy(Orphan),
     /// The parked Beat of this client is answered (Burrows 2006, section 2.8: a KeepAlive is held until the lease is
     /// close to its end, or something has to be told).
     Answer(ClientNumber),
@@ -32,7 +32,7 @@ pub enum Action {
 }
 
 /// The first action that there is.
-pub fn first_action(cell: &Cell) -> Result<Action, AllocError>
+pub fn first_action(cell: &MemoryMaster) -> Result<Action, AllocError>
     ensures { IfOk result (λ action. action ≡ first_action cell.now) }
 {
     let master = cell.master();
@@ -46,7 +46,7 @@ pub fn first_action(cell: &Cell) -> Result<Action, AllocError>
 }
 
 // The lowest change that no right holds up has its turn.
-fn apply_or_later(cell: &Cell) -> Result<Action, AllocError>
+fn apply_or_later(cell: &MemoryMaster) -> Result<Action, AllocError>
     ensures { IfOk result (λ action. action ≡ apply_or_later cell.now) }
 {
     match cell.master().next_change() {
@@ -56,7 +56,7 @@ fn apply_or_later(cell: &Cell) -> Result<Action, AllocError>
 }
 
 // The lowest instance whose lock was closed long enough.
-fn reopen_or_later(cell: &Cell) -> Result<Action, AllocError>
+fn reopen_or_later(cell: &MemoryMaster) -> Result<Action, AllocError>
     ensures { IfOk result (λ action. action ≡ reopen_or_later cell.now) }
 {
     let master = cell.master();
@@ -67,7 +67,7 @@ fn reopen_or_later(cell: &Cell) -> Result<Action, AllocError>
 }
 
 // The first ephemeral node, by name, that nobody holds open.
-fn tidy_or_later(cell: &Cell) -> Result<Action, AllocError>
+fn tidy_or_later(cell: &MemoryMaster) -> Result<Action, AllocError>
     ensures { IfOk result (λ action. action ≡ tidy_or_later cell.now) }
 {
     match cell.next_idle()? {

@@ -7,7 +7,7 @@ ghost use Rattle.over_core.specs.Sweep.{swept_as, beats_action, beats_answered, 
 use crate::actions::Action;
 use crate::sweeps::{Done, Prepared, SweptThrice, is_over, is_quiet, planned};
 use crate::swept::Swept;
-use cell_core::{Answers, Cell, Thrice};
+use cell_core::{Answers, MemoryMaster, Thrice};
 use master_parts::Taken;
 use master_state::{Grown, Master, Update};
 use node_core::{Fault, Line};
@@ -15,7 +15,11 @@ use std::alloc::AllocError;
 
 /// The lowest client's Beat that is due is answered, where the session's timeout hasn't come. Moments, the room and what is
 /// refused are as in a sweep, but that no store is asked.
-pub(crate) fn beats_by<T>(cell: &mut Cell, now: u64, room: &mut Vec<T>) -> Result<Swept, Fault>
+pub(crate) fn beats_by<T>(
+    cell: &mut MemoryMaster,
+    now: u64,
+    room: &mut Vec<T>,
+) -> Result<Swept, Fault>
     ensures ok { IfOk result (λ swept. beats_step cell.old now ≡ Ok (cell.new, swept)) }
     ensures fault { IfErr result (λ e. e ≢ Fault.NoMemory → beats_step cell.old now ≡ Err e) }
     ensures err { OnErr result (cell.new ≡ cell.old) }
@@ -30,7 +34,7 @@ pub(crate) fn beats_by<T>(cell: &mut Cell, now: u64, room: &mut Vec<T>) -> Resul
 }
 
 /// The same, its answer three times.
-pub(crate) fn beats_thrice_by(cell: &mut Cell, now: u64) -> Result<SweptThrice, Fault>
+pub(crate) fn beats_thrice_by(cell: &mut MemoryMaster, now: u64) -> Result<SweptThrice, Fault>
     ensures ok { IfOk result (λ done. beats_step cell.old now ≡ Ok (cell.new, swept_as done.answers done.quiet)) }
     ensures fault { IfErr result (λ e. e ≢ Fault.NoMemory → beats_step cell.old now ≡ Err e) }
     ensures err { OnErr result (cell.new ≡ cell.old) }
@@ -46,7 +50,11 @@ pub(crate) fn beats_thrice_by(cell: &mut Cell, now: u64) -> Result<SweptThrice, 
 
 // The same, its answer as often as it is wanted.
 #[tactic(auto, unfolding(crate::specs::Sweep::beats_step))]
-fn beats_as<A: Answers, T>(cell: &mut Cell, now: u64, room: &mut Vec<T>) -> Result<Done<A>, Fault>
+fn beats_as<A: Answers, T>(
+    cell: &mut MemoryMaster,
+    now: u64,
+    room: &mut Vec<T>,
+) -> Result<Done<A>, Fault>
     ensures ok { IfOk result (λ done. beats_step cell.old now ≡ Ok (cell.new, swept_as (A.answer done.answers) done.quiet)) }
     ensures fault { IfErr result (λ e. e ≢ Fault.NoMemory → beats_step cell.old now ≡ Err e) }
     ensures err { OnErr result (cell.new ≡ cell.old) }
@@ -68,7 +76,10 @@ fn beats_as<A: Answers, T>(cell: &mut Cell, now: u64, room: &mut Vec<T>) -> Resu
 }
 
 // The moment has been noted.
-fn answer_at<A: Answers, T>(cell: &mut Cell, room: &mut Vec<T>) -> Result<Done<A>, AllocError>
+fn answer_at<A: Answers, T>(
+    cell: &mut MemoryMaster,
+    room: &mut Vec<T>,
+) -> Result<Done<A>, AllocError>
     ensures ok { IfOk result (λ done. beats_answered cell.old ≡ (cell.new, swept_as (A.answer done.answers) done.quiet)) }
     ensures err { OnErr result (cell.new ≡ cell.old) }
     ensures items { room.new.items ≡ room.old.items }
@@ -107,7 +118,7 @@ fn beats_action(master: &Master) -> Action
 }
 
 // An update that commits nothing is done.
-fn make(cell: &mut Cell, update: Update) -> Result<(), AllocError>
+fn make(cell: &mut MemoryMaster, update: Update) -> Result<(), AllocError>
     requires { BeginsNew cell.old update.session }
     ensures ok { OnOk result (cell.new ≡ done cell.old update) }
     ensures err { OnErr result (cell.new ≡ cell.old) }

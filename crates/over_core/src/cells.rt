@@ -38,7 +38,7 @@ use tags_cell::Request;
 #[derive(Drop)]
 pub struct Cell<R: Records> {
     records: Keeping<R>,
-    master: cell_core::Cell,
+    master: cell_core::MemoryMaster,
 }
 
 impl<R: Records> Model for Cell<R> {
@@ -232,7 +232,7 @@ impl<R: Records> Cell<R> {
     }
 
     /// The master and its records, each by itself.
-    pub fn into_parts(self) -> (cell_core::Cell, R)
+    pub fn into_parts(self) -> (cell_core::MemoryMaster, R)
         ensures master { result.0 ≡ self.master }
         ensures store { R.store result.1 ≡ self.store }
         ensures kept { IsKept self.store.cell self.store.rows self.master }
@@ -242,7 +242,7 @@ impl<R: Records> Cell<R> {
     }
 
     /// A master over records that hold what it knows of them, and of which a crash leaves just that.
-    pub fn of_parts(master: cell_core::Cell, records: R) -> Cell<R>
+    pub fn of_parts(master: cell_core::MemoryMaster, records: R) -> Cell<R>
         requires kept { IsKept (R.store records).cell (R.store records).rows master }
         requires settled { IsSettled (R.store records) }
         ensures { result ≡ record { master = master; store = R.store records } }
@@ -276,7 +276,7 @@ fn next_master<R: Records>(
     records: &mut R,
     terms: MasterTerms,
     now: u64,
-) -> Result<cell_core::Cell, Fault>
+) -> Result<cell_core::MemoryMaster, Fault>
     requires { (1000 ≤ terms.lease) × (terms.lease ≤ 60000) }
     ensures ok { IfOk result (λ master. ComesUp terms now master (R.store records.old) (R.store records.new)) }
     ensures kept { IfOk result (λ master. IsKept (R.store records.new).cell (R.store records.new).rows master) }
@@ -288,7 +288,7 @@ fn next_master<R: Records>(
     }
     let rows = next_rows(records)?;
     let epoch = rows.epoch;
-    let master = cell_core::Cell::of_rows(alloc, rows, terms, now)?;
+    let master = cell_core::MemoryMaster::of_rows(alloc, rows, terms, now)?;
     match commit_epoch(alloc, records, epoch) {
         Ok(()) => Ok(master),
         Err(fault) => {

@@ -5,7 +5,7 @@ ghost use Rattle.over_core.specs.Deadlines.{quiet_at, IsDeadline, IsAfter, IsQui
 ghost use Rattle.over_core.specs.Sweep.{is_quiet};
 
 use crate::actions::{Action, first_action};
-use cell_core::Cell;
+use cell_core::MemoryMaster;
 use lease_core::MOMENT_LIMIT;
 use std::alloc::AllocError;
 
@@ -13,7 +13,7 @@ use std::alloc::AllocError;
 /// one before it a sweep is quiet, and at no later one. None where a sweep would be quiet at every moment there is. The
 /// master stays as it is; it is lent to be asked as of other moments. Where the moment is a session's or a lock's own, that
 /// costs three times what a sweep looks at, whatever the cell holds; else up to 55 times.
-pub fn next_deadline(cell: &mut Cell) -> Result<Option<u64>, AllocError>
+pub fn next_deadline(cell: &mut MemoryMaster) -> Result<Option<u64>, AllocError>
     ensures deadline { IfOk result (IsDeadline cell.old) }
     ensures same { cell.new ≡ cell.old }
 {
@@ -33,7 +33,7 @@ pub fn next_deadline(cell: &mut Cell) -> Result<Option<u64>, AllocError>
 }
 
 // The later of two moments of which the first is quiet, where the second is quiet too; else the first.
-fn later_quiet(cell: &mut Cell, quiet: u64, moment: u64) -> Result<u64, AllocError>
+fn later_quiet(cell: &mut MemoryMaster, quiet: u64, moment: u64) -> Result<u64, AllocError>
     requires first { IsQuietBy cell.old quiet quiet }
     ensures later { IfOk result (IsQuietBy cell.old quiet) }
     ensures same { cell.new ≡ cell.old }
@@ -49,7 +49,7 @@ fn later_quiet(cell: &mut Cell, quiet: u64, moment: u64) -> Result<u64, AllocErr
 }
 
 // A moment that isn't quiet, the one told where it isn't, else the last of all; none where that is quiet.
-fn busy_from(cell: &mut Cell, moment: u64) -> Result<Option<u64>, AllocError>
+fn busy_from(cell: &mut MemoryMaster, moment: u64) -> Result<Option<u64>, AllocError>
     requires { IsMoment moment }
     ensures busy { IfOk result (IsBusyBy cell.old) }
     ensures same { cell.new ≡ cell.old }
@@ -65,14 +65,14 @@ fn busy_from(cell: &mut Cell, moment: u64) -> Result<Option<u64>, AllocError>
 
 // Whether two sessions alone show that a sweep at a moment would find something to do. Asked before `is_quiet_at`: where thousands
 // of sessions are due at one moment, that takes all of them into view, and the next frame has to put all of them off again.
-fn shows_work(cell: &Cell, moment: u64) -> bool
+fn shows_work(cell: &MemoryMaster, moment: u64) -> bool
     ensures { result ≡ true → quiet_at cell.now moment ≡ false }
 {
     cell.master().sessions().shows_work(moment)
 }
 
 // The first moment that isn't quiet, behind one that is and not behind one that isn't.
-fn search(cell: &mut Cell, now: u64, from: u64, until: u64) -> Result<u64, AllocError>
+fn search(cell: &mut MemoryMaster, now: u64, from: u64, until: u64) -> Result<u64, AllocError>
     requires quiet { IsQuietBy cell.old now from }
     requires busy { IsBusyBy cell.old (Some until) }
     ensures after { IfOk result (IsAfter cell.old now) }
@@ -92,7 +92,7 @@ fn search(cell: &mut Cell, now: u64, from: u64, until: u64) -> Result<u64, Alloc
 }
 
 // Whether a sweep at a moment would find nothing to do.
-fn is_quiet_at(cell: &mut Cell, now: u64) -> Result<bool, AllocError>
+fn is_quiet_at(cell: &mut MemoryMaster, now: u64) -> Result<bool, AllocError>
     requires { IsMoment now }
     ensures quiet { IfOk result (λ quiet. quiet ≡ quiet_at cell.old now) }
     ensures same { cell.new ≡ cell.old }

@@ -11,8 +11,8 @@ use crate::plans::Plan;
 use collections::Items;
 use lock_core::{Parting, Turn};
 use master_state::{
-    LockPut, Master, SessionUpdate, Told, lapses_puts, lapses_replies, locked_lines, parting_lines,
-    puts_of, told_by, turn_replies,
+    LockPut, Master, SessionUpdate, StepReply, lapses_puts, lapses_replies, locked_lines,
+    parting_lines, puts_of, told_by, turn_replies,
 };
 use names_cell::Principal;
 use node_core::Line;
@@ -20,8 +20,8 @@ use std::alloc::AllocError;
 use tags_cell::{CallResult, ClientNumber, MessageNumber, Reply};
 
 // What is told of a step, and the locks that change by it.
-struct Parts {
-    told: Told,
+struct LapseParts {
+    told: StepReply,
     locks: Items<LockPut>,
 }
 
@@ -83,7 +83,7 @@ fn parting_plan(
 {
     match parting_parts(parting, master, client, own) {
         Ok(parts) => {
-            let Parts { told, locks } = parts;
+            let LapseParts { told, locks } = parts;
             let session = Some(SessionUpdate::Ends(client, principal, parting));
             Ok(Plan::telling(session, told, locks))
         }
@@ -99,7 +99,7 @@ fn parting_parts(
     master: &Master,
     client: u64,
     own: Items<Reply>,
-) -> Result<Parts, AllocError>
+) -> Result<LapseParts, AllocError>
     ensures told { IfOk result (λ parts. parts.told ≡ record {
       kept = kept_puts (own ++ lapses_replies master.now (lapses_of parting master.now client));
       taken = record {
@@ -115,7 +115,7 @@ fn parting_parts(
     let lines = parting_lines(master, parting, client, ended.as_slice())?;
     let locks = lapses_puts(master, ended)?;
     let told = told_by(master.alloc(), lines, replies)?;
-    Ok(Parts { told, locks })
+    Ok(LapseParts { told, locks })
 }
 
 // The lock of an instance is open again.

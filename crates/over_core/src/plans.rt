@@ -10,12 +10,12 @@ ghost use Rattle.cell_core.specs.Outcomes.{lock_ended, locking_puts};
 use crate::actions::Action;
 use crate::lapses::{plan_expiry, plan_leave, plan_reopen};
 use cell_core::{
-    Cell, Effect, contested_by, effect_lines, effect_of, effect_replies, gone_by_itself,
+    Effect, MemoryMaster, contested_by, effect_lines, effect_of, effect_replies, gone_by_itself,
     lock_ended, locking_puts, locking_replies,
 };
 use collections::{Bytes, Items, Table};
-use master_parts::{Asked, Idle, Taken, Task, Work, is_leave};
-use master_state::{LockPut, Master, SessionUpdate, Told, Update, told_by};
+use master_parts::{Orphan, Taken, Task, WaitingRequest, Work, is_leave};
+use master_state::{LockPut, Master, SessionUpdate, StepReply, Update, told_by};
 use names_cell::{Name, Principal};
 use node_core::{Fault, Line};
 use session_core::Offer;
@@ -34,10 +34,14 @@ pub struct Plan {
 
 impl Plan {
     // What is told, and the locks that change.
-    pub(crate) fn telling(session: Option<SessionUpdate>, told: Told, locks: Items<LockPut>) -> Plan
+    pub(crate) fn telling(
+        session: Option<SessionUpdate>,
+        told: StepReply,
+        locks: Items<LockPut>,
+    ) -> Plan
         ensures { result ≡ record { update = record no_update { session = session; kept = told.kept; locks = locks }; taken = told.taken; contested = None } }
     {
-        let Told { kept, taken } = told;
+        let StepReply { kept, taken } = told;
         Plan {
             update: Update {
                 session,
@@ -76,7 +80,7 @@ impl Plan {
 }
 
 /// What is done for an action, as the master stands now.
-pub fn plan_of(cell: &Cell, action: &Action) -> Result<Plan, AllocError>
+pub fn plan_of(cell: &MemoryMaster, action: &Action) -> Result<Plan, AllocError>
     ensures { IfOk result (λ plan. plan ≡ plan_of cell.now action.now) }
 {
     let master = cell.master();
@@ -100,7 +104,7 @@ fn plan_recovery(master: &Master) -> Result<Plan, AllocError>
 }
 
 // What is done for the change of a number, which then leaves the gate.
-fn plan_apply(cell: &Cell, number: u64) -> Result<Plan, AllocError>
+fn plan_apply(cell: &MemoryMaster, number: u64) -> Result<Plan, AllocError>
     ensures { IfOk result (λ plan. plan ≡ plan_of cell.now (actions.Apply number)) }
 {
     let master = cell.master();
@@ -113,7 +117,7 @@ fn plan_apply(cell: &Cell, number: u64) -> Result<Plan, AllocError>
 }
 
 // What a client asked for, or what the cell does by itself.
-fn plan_task(cell: &Cell, task: &Task) -> Result<Plan, AllocError>
+fn plan_task(cell: &MemoryMaster, task: &Task) -> Result<Plan, AllocError>
     ensures { IfOk result (λ plan. plan ≡ plan_task cell.now task.now) }
 {
     match task {
@@ -122,7 +126,7 @@ fn plan_task(cell: &Cell, task: &Task) -> Result<Plan, AllocError>
     }
 }
 
-fn plan_work(master: &Master, asked: &Asked) -> Result<Plan, AllocError>
+fn plan_work(master: &Master, asked: &WaitingRequest) -> Result<Plan, AllocError>
     ensures { IfOk result (λ plan. plan ≡ plan_work master.now asked.now.client asked.now.number asked.now.work) }
 {
     let client = asked.client;
@@ -138,7 +142,7 @@ fn plan_work(master: &Master, asked: &Asked) -> Result<Plan, AllocError>
 // ---- ephemeral nodes
 
 // An ephemeral node goes, unless somebody holds it open again.
-fn plan_tidied(cell: &Cell, idle: &Idle) -> Result<Plan, AllocError>
+fn plan_tidied(cell: &MemoryMaster, idle: &Orphan) -> Result<Plan, AllocError>
     ensures { IfOk result (λ plan. plan ≡ plan_tidied cell.now idle.now) }
 {
     let master = cell.master();
@@ -148,7 +152,7 @@ fn plan_tidied(cell: &Cell, idle: &Idle) -> Result<Plan, AllocError>
     plan_gone(master, idle)
 }
 
-fn plan_gone(master: &Master, idle: &Idle) -> Result<Plan, AllocError>
+fn plan_gone(master: &Master, idle: &Orphan) -> Result<Plan, AllocError>
     ensures { IfOk result (λ plan. plan ≡ plan_effect master.now 0 0 (gone_by_itself (name_space master.now) idle.now)) }
 {
     let effect = gone_by_itself(master, idle)?;
@@ -162,7 +166,7 @@ fn plan_gone(master: &Master, idle: &Idle) -> Result<Plan, AllocError>
 }
 
 // What is kept, printed and sent where nobody asked: no client has the number 0.
-fn unasked_told(master: &Master, effect: &Effect) -> Result<Told, AllocError>
+fn unasked_told(master: &Master, effect: &Effect) -> Result<StepReply, AllocError>
     requires { effect.now.answer ≡ None }
     ensures kept { IfOk result (λ told. told.kept ≡ (plan_effect master.now 0 0 effect.now).update.kept) }
     ensures taken { IfOk result (λ told. told.taken ≡ (plan_effect master.now 0 0 effect.now).taken) }
@@ -334,7 +338,7 @@ fn effect_told(
     client: ClientNumber,
     number: MessageNumber,
     effect: &Effect,
-) -> Result<Told, AllocError>
+) -> Result<StepReply, AllocError>
     ensures kept { IfOk result (λ told. told.kept ≡ (plan_effect master.now client number effect.now).update.kept) }
     ensures taken { IfOk result (λ told. told.taken ≡ (plan_effect master.now client number effect.now).taken) }
 {
@@ -344,7 +348,7 @@ fn effect_told(
 }
 
 // What it changes.
-fn effect_plan(alloc: Global, effect: Effect, told: Told) -> Result<Plan, AllocError>
+fn effect_plan(alloc: Global, effect: Effect, told: StepReply) -> Result<Plan, AllocError>
     ensures { IfOk result (λ plan. plan ≡ record {
       update =
           record no_update {
@@ -367,7 +371,7 @@ fn effect_plan(alloc: Global, effect: Effect, told: Told) -> Result<Plan, AllocE
     drop(answer);
     let ends_lock = lock_ended(&locking);
     let locks = locking_puts(alloc, locking)?;
-    let Told { kept, taken } = told;
+    let StepReply { kept, taken } = told;
     Ok(Plan {
         update: Update {
             session: None,

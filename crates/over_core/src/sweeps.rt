@@ -14,10 +14,10 @@ use crate::keeping::Keeping;
 use crate::plans::{Plan, plan_of};
 use crate::swept::Swept;
 use crate::tellings::tellings_of;
-use cell_core::{Answers, Cell, Thrice};
+use cell_core::{Answers, MemoryMaster, Thrice};
 use collections::Items;
 use lease_core::MOMENT_LIMIT;
-use master_parts::{Idle, Taken, Telling};
+use master_parts::{Orphan, SessionEvent, Taken};
 use master_state::{Grown, Master, Update, edits_of};
 use node_core::{Fault, Line};
 use rows_cell::{Edit, Records};
@@ -30,14 +30,14 @@ use tags_cell::Out;
 pub struct PlannedSweep {
     pub update: Update,
     pub taken: Taken,
-    pub tellings: Items<Telling>,
+    pub tellings: Items<SessionEvent>,
 }
 
 // The same, with its answer as often as it is wanted.
 pub(crate) struct Prepared<A: Answers> {
     pub(crate) update: Update,
     pub(crate) answers: A,
-    pub(crate) tellings: Items<Telling>,
+    pub(crate) tellings: Items<SessionEvent>,
 }
 
 // The answer of a sweep as often as it is wanted, and whether the sweep found nothing to do.
@@ -57,7 +57,7 @@ pub struct SweptThrice {
 /// as Exhausted, as is each sweep once a session's events have no number left. Room for what is printed and sent is made
 /// in a list of the caller's. A refusal leaves the master as it was.
 pub(crate) fn sweep_by<R: Records, T>(
-    cell: &mut Cell,
+    cell: &mut MemoryMaster,
     records: &mut Keeping<R>,
     now: u64,
     room: &mut Vec<T>,
@@ -81,7 +81,7 @@ pub(crate) fn sweep_by<R: Records, T>(
 
 /// The same, its answer three times.
 pub(crate) fn sweep_thrice_by<R: Records>(
-    cell: &mut Cell,
+    cell: &mut MemoryMaster,
     records: &mut Keeping<R>,
     now: u64,
 ) -> Result<SweptThrice, Fault>
@@ -105,7 +105,7 @@ pub(crate) fn sweep_thrice_by<R: Records>(
 // The same, its answer as often as it is wanted.
 #[tactic(auto, unfolding(crate::specs::Sweep::sweep_step))]
 fn sweep_as<R: Records, A: Answers, T>(
-    cell: &mut Cell,
+    cell: &mut MemoryMaster,
     records: &mut Keeping<R>,
     now: u64,
     room: &mut Vec<T>,
@@ -144,7 +144,7 @@ pub fn is_over(master: &Master, now: u64) -> bool
 // Does the first action that there is, with at most one commit to the records, which comes before all that is printed
 // and sent. Behind all else the clients of open handles are told of it. A refusal leaves the master as it was.
 fn sweep_at<R: Records, A: Answers, T>(
-    cell: &mut Cell,
+    cell: &mut MemoryMaster,
     records: &mut Keeping<R>,
     room: &mut Vec<T>,
 ) -> Result<Done<A>, Fault>
@@ -169,8 +169,8 @@ fn sweep_at<R: Records, A: Answers, T>(
 
 // The deletion of an ephemeral node is queued. Nothing is printed, nothing sent, and nobody is told.
 fn tidy<A: Answers, T>(
-    cell: &mut Cell,
-    idle: Idle,
+    cell: &mut MemoryMaster,
+    idle: Orphan,
     room: &mut Vec<T>,
 ) -> Result<Done<A>, AllocError>
     requires { is_ok (push_answer cell.old.gate) ≡ true }
@@ -194,7 +194,11 @@ fn tidy<A: Answers, T>(
 }
 
 // The same, with the answers made.
-fn tidy_answered<A: Answers>(cell: &mut Cell, idle: Idle, answers: A) -> Result<Done<A>, AllocError>
+fn tidy_answered<A: Answers>(
+    cell: &mut MemoryMaster,
+    idle: Orphan,
+    answers: A,
+) -> Result<Done<A>, AllocError>
     requires { is_ok (push_answer cell.old.gate) ≡ true }
     ensures ok { OnOk result (cell.new ≡ tidied cell.old idle) }
     ensures answers { IfOk result (λ done. (done.answers ≡ answers) × (done.quiet ≡ false)) }
@@ -214,7 +218,7 @@ fn tidy_answered<A: Answers>(cell: &mut Cell, idle: Idle, answers: A) -> Result<
 
 // Does what is planned for any other action, and behind all else the clients of open handles are told of it.
 fn act<R: Records, A: Answers, T>(
-    cell: &mut Cell,
+    cell: &mut MemoryMaster,
     records: &mut Keeping<R>,
     action: &Action,
     room: &mut Vec<T>,
@@ -251,7 +255,7 @@ fn act<R: Records, A: Answers, T>(
 }
 
 /// Where there is nothing to do, until when that is so is noted. The master stays as it is.
-pub fn note_if_quiet(cell: &mut Cell, action: &Action)
+pub fn note_if_quiet(cell: &mut MemoryMaster, action: &Action)
     ensures { cell.new ≡ cell.old }
 {
     if is_quiet(action) {
@@ -261,7 +265,7 @@ pub fn note_if_quiet(cell: &mut Cell, action: &Action)
 
 // What is planned for an action, with room for what it prints and sends.
 pub(crate) fn planned<A: Answers, T>(
-    cell: &Cell,
+    cell: &MemoryMaster,
     action: &Action,
     room: &mut Vec<T>,
 ) -> Result<Prepared<A>, AllocError>
@@ -285,7 +289,7 @@ pub(crate) fn planned<A: Answers, T>(
 
 /// What is planned for an action, and what the clients of open handles are told of it. Nothing changes; want of memory alone
 /// refuses. It costs what the action changes.
-pub fn planned_sweep(cell: &Cell, action: &Action) -> Result<PlannedSweep, AllocError>
+pub fn planned_sweep(cell: &MemoryMaster, action: &Action) -> Result<PlannedSweep, AllocError>
     ensures update { IfOk result (λ sweep. sweep.update ≡ (plan_of cell.now action.now).update) }
     ensures begins { IfOk result (λ sweep. BeginsNew cell.now sweep.update.session) }
     ensures taken { IfOk result (λ sweep. sweep.taken ≡ (plan_of cell.now action.now).taken) }
@@ -355,7 +359,7 @@ pub fn is_quiet(action: &Action) -> bool
 
 // The update is done, with its edits committed.
 fn commit_edits<R: Records>(
-    cell: &mut Cell,
+    cell: &mut MemoryMaster,
     records: &mut Keeping<R>,
     update: Update,
 ) -> Result<(), Fault>
@@ -377,7 +381,7 @@ fn commit_edits<R: Records>(
 
 // The update is begun, committed, and finished; where the commit is refused it is taken back.
 fn commit_update<R: Records>(
-    cell: &mut Cell,
+    cell: &mut MemoryMaster,
     records: &mut Keeping<R>,
     update: Update,
     edits: Items<Edit>,

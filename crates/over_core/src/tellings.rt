@@ -5,12 +5,12 @@ ghost use Rattle.over_core.specs.Plans.{notices_of, tellings_of};
 use crate::plans::Plan;
 use cell_core::{change_notices, contest_notices, locks_notices};
 use collections::Items;
-use master_parts::{Notice, Telling};
+use master_parts::{Notice, SessionEvent};
 use master_state::Master;
 use std::alloc::AllocError;
 
 /// What the clients of open handles are told of what is planned.
-pub fn tellings_of(master: &Master, plan: &Plan) -> Result<Items<Telling>, AllocError>
+pub fn tellings_of(master: &Master, plan: &Plan) -> Result<Items<SessionEvent>, AllocError>
     ensures { IfOk result (λ tellings. tellings ≡ tellings_of master.now plan.now) }
 {
     let notices = notices_of(master, plan)?;

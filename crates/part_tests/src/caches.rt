@@ -1,6 +1,6 @@
 //! A cache, the handles that Opens share, and the grace period, step by step.
 use crate::rights::name;
-use cache_core::{Cache, CacheOp, Kept, KeptHandles, Shared, Standing};
+use cache_core::{Cache, CacheOp, KeptHandles, SessionTrust, Shared, SharedHandle};
 use collections::Bytes;
 use lease_core::Lease;
 use names_cell::{Component, Name};
@@ -230,7 +230,7 @@ fn keep(
     handle: u64,
 ) -> Result<(), Fail> {
     let name = name(alloc, 1)?;
-    handles.keep(Kept {
+    handles.keep(SharedHandle {
         name,
         instance,
         handle,
@@ -312,20 +312,33 @@ fn kept_handles_step_by_step(rt: HostRuntime) -> Result<(), Fail> {
 fn the_grace_period(rt: HostRuntime) {
     // Before, whether a lease runs, now, behind it.
     let rows = [
-        (Standing::Safe, true, 11_293, Standing::Safe),
-        (Standing::Safe, false, 11_294, Standing::Jeopardy(11_294)),
+        (SessionTrust::Safe, true, 11_293, SessionTrust::Safe),
         (
-            Standing::Jeopardy(11_294),
+            SessionTrust::Safe,
+            false,
+            11_294,
+            SessionTrust::Jeopardy(11_294),
+        ),
+        (
+            SessionTrust::Jeopardy(11_294),
             false,
             56_293,
-            Standing::Jeopardy(11_294),
+            SessionTrust::Jeopardy(11_294),
         ),
-        (Standing::Jeopardy(11_294), false, 56_294, Standing::Lost),
-        (Standing::Lost, true, 56_294, Standing::Lost),
+        (
+            SessionTrust::Jeopardy(11_294),
+            false,
+            56_294,
+            SessionTrust::Lost,
+        ),
+        (SessionTrust::Lost, true, 56_294, SessionTrust::Lost),
     ];
     for (before, leased, now, behind) in rows {
         assert_eq!(rt; before.at(leased, now), behind);
     }
-    assert_eq!(rt; Standing::Jeopardy(11_294).reprieved(), Standing::Safe);
-    assert_eq!(rt; Standing::Lost.reprieved(), Standing::Lost);
+    assert_eq!(rt;
+        SessionTrust::Jeopardy(11_294).reprieved(),
+        SessionTrust::Safe
+    );
+    assert_eq!(rt; SessionTrust::Lost.reprieved(), SessionTrust::Lost);
 }

@@ -652,7 +652,7 @@ const MAPS: &[(&str, Asks)] = &[
     ("each_right_has_its_acl", EACH_RIGHT),
 ];
 
-fn text_of(alloc: Global, done: Result<Outcome, NodeFault>) -> Result<String, Fail> {
+fn text_of(alloc: Global, done: Result<MapOutcome, NodeFault>) -> Result<String, Fail> {
     match done {
         Ok(outcome) => {
             let text = former_text(alloc, &outcome);
@@ -663,7 +663,7 @@ fn text_of(alloc: Global, done: Result<Outcome, NodeFault>) -> Result<String, Fa
     }
 }
 
-fn former_text(alloc: Global, outcome: &Outcome) -> Result<String, Fail> {
+fn former_text(alloc: Global, outcome: &MapOutcome) -> Result<String, Fail> {
     match &outcome.former {
         Some(view) => {
             let generation = view.content_generation;

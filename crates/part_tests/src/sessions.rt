@@ -2,7 +2,7 @@
 //! 12,000 ms.
 use names_cell::Principal;
 use node_core::{Event, Fault};
-use session_core::{Kept, Sessions};
+use session_core::{LastCall, Sessions};
 use std::alloc::Global;
 use std::process::Abort;
 use tags_cell::{Beat, ClientNumber, MessageNumber};
@@ -180,7 +180,7 @@ fn changes(sessions: &mut Sessions<u64>, step: Step) -> Result<u64, Fault> {
         Step::Expire(client) => sessions.expire(client),
         Step::Keep(number, call, reply) => sessions.keep(
             client(number)?,
-            Kept {
+            LastCall {
                 number: message(call)?,
                 reply,
             },

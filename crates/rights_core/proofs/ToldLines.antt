@@ -9,8 +9,8 @@ use Rattle.std.proofs.lemmas.List.Sums.{sum_by-cons, sum_by-append}
 use Rattle.node_core.specs.declared.lines.Line.{Line}
 use Rattle.node_core.specs.declared.lines.Line.TheVariants as lines
 use Rattle.rights_core.specs.declared.cache_rights.CacheRight.{CacheRight}
-use Rattle.rights_core.specs.declared.cache_rights.Status.{Status}
-use Rattle.rights_core.specs.declared.cache_rights.Status.TheVariants as statuses
+use Rattle.rights_core.specs.declared.cache_rights.RightStatus.{RightStatus}
+use Rattle.rights_core.specs.declared.cache_rights.RightStatus.TheVariants as statuses
 use Rattle.rights_core.specs.declared.endings.Ending.{Ending}
 use Rattle.rights_core.specs.declared.endings.Ending.TheVariants as endings
 use Rattle.rights_core.specs.declared.totals.Totals.{Totals}
@@ -106,7 +106,7 @@ above_apart number first (right ∷ rights) less h =
     let is : right.number ≡ first = h.number in
     (more_apart right.number number (omega (arith, is, less)), above_apart number (first + 1) rights (omega (arith, less)) h.rest)
 
-apart_stay : (number : ℕ) (status : Status) (rights : List Told) → AreApart number rights → map (with_status number status) rights ≡ rights
+apart_stay : (number : ℕ) (status : RightStatus) (rights : List Told) → AreApart number rights → map (with_status number status) rights ≡ rights
 apart_stay number status [] h = refl
 apart_stay number status (right ∷ rights) h =
     ap (λ b. cond b (record right { status = status }) right ∷ map (with_status number status) rights) h.0 ∙ ap (λ rest. right ∷ rest) (apart_stay number status rights h.1)
@@ -120,7 +120,7 @@ any_among test [] back right h = ap (λ b. b || list_any test back) h
 any_among test (first ∷ front) back right h = ap (λ b. test first || b) (any_among test front back right h) ∙ or_true (test first)
 
 -- the one of that number ends
-one_ends : (front back : List Told) (right : Told) (status : Status) → stands right.status ≡ true → AreApart right.number front → AreApart right.number back → told_ended (front ++ right ∷ back) right.number status ≡ Some (front ++ record right { status = status } ∷ back)
+one_ends : (front back : List Told) (right : Told) (status : RightStatus) → stands right.status ≡ true → AreApart right.number front → AreApart right.number back → told_ended (front ++ right ∷ back) right.number status ≡ Some (front ++ record right { status = status } ∷ back)
 one_ends front back right status held before behind =
     let own : (right.number == right.number) ≡ true = is_same right.number right.number refl in
     let is : is_held_as right.number right ≡ true = rw (held, own) refl in
@@ -232,10 +232,10 @@ told_push : (first : ℕ) (rights : List Told) (right : Told) → right.number �
 told_push first [] right is h = (omega (arith, is), tt)
 told_push first (one ∷ rights) right is h = (h.0, told_push (first + 1) rights right (omega (arith, is)) h.1)
 
-same_number : (number : ℕ) (status : Status) (right : Told) → (with_status number status right).number ≡ right.number
+same_number : (number : ℕ) (status : RightStatus) (right : Told) → (with_status number status right).number ≡ right.number
 same_number number status right = elim (right.number == number) as (λ b. (cond b (record right { status = status }) right).number ≡ right.number) [ true ↦ refl | false ↦ refl ]
 
-told_with : (first number : ℕ) (status : Status) (rights : List Told) → AreToldFrom first rights → AreToldFrom first (map (with_status number status) rights)
+told_with : (first number : ℕ) (status : RightStatus) (rights : List Told) → AreToldFrom first rights → AreToldFrom first (map (with_status number status) rights)
 told_with first number status [] h = tt
 told_with first number status (right ∷ rights) h = (same_number number status right ∙ h.0, told_with (first + 1) number status rights h.1)
 
@@ -250,7 +250,7 @@ none_held number (right ∷ rights) h =
     let apart = h.0 in let rest = none_held number rights h.1 in
     elim (stands right.status) as (λ b. ((b && (right.number == number)) || list_any (is_held_as number) rights) ≡ false) [ true ↦ rw apart rest | false ↦ rest ]
 
-held_is : (status : Status) → stands status ≡ true → status ≡ statuses.Held
+held_is : (status : RightStatus) → stands status ≡ true → status ≡ statuses.Held
 held_is statuses.Held h = refl
 held_is statuses.Acknowledged h = absurd cc
 held_is statuses.Expired h = absurd cc
@@ -259,13 +259,13 @@ abbrev one_if : Bool → ℕ
 one_if b = cond b 1 0
 
 -- how many have a status that passes
-abbrev count_as : (Status → Bool) → List Told → ℕ
+abbrev count_as : (RightStatus → Bool) → List Told → ℕ
 count_as test rights = count_by (λ r. test r.status) rights
 
-count_cons : (test : Status → Bool) (right : Told) (rights : List Told) → count_as test (right ∷ rights) ≡ cond (test right.status) 1 0 + count_as test rights
+count_cons : (test : RightStatus → Bool) (right : Told) (rights : List Told) → count_as test (right ∷ rights) ≡ cond (test right.status) 1 0 + count_as test rights
 count_cons test right rights = sum_by-cons (λ r. cond (test r.status) 1 0) right rights
 
-count_push : (test : Status → Bool) (rights : List Told) (right : Told) → count_as test (rights ++ right ∷ []) ≡ count_as test rights + cond (test right.status) 1 0
+count_push : (test : RightStatus → Bool) (rights : List Told) (right : Told) → count_as test (rights ++ right ∷ []) ≡ count_as test rights + cond (test right.status) 1 0
 count_push test rights right = sum_by-append (λ r. cond (test r.status) 1 0) rights (right ∷ []) ∙ omega (arith, count_cons test right [])
 
 or_held : (a b : Bool) → (a || b) ≡ true → b ≡ false → a ≡ true
@@ -281,7 +281,7 @@ and_false true b h = h
 and_false false b h = refl
 
 -- one that was held has another status
-count_with : (test : Status → Bool) (number first : ℕ) (status : Status) (rights : List Told) → test statuses.Held ≡ false → AreToldFrom first rights → list_any (is_held_as number) rights ≡ true
+count_with : (test : RightStatus → Bool) (number first : ℕ) (status : RightStatus) (rights : List Told) → test statuses.Held ≡ false → AreToldFrom first rights → list_any (is_held_as number) rights ≡ true
     → count_as test (map (with_status number status) rights) ≡ count_as test rights + cond (test status) 1 0
 count_with test number first status [] off told held = absurd cc
 count_with test number first status (right ∷ rights) off told held =
@@ -330,7 +330,7 @@ more_counted old new number client name told is =
       | false ↦ (λ e h. absurd cc)
     ]) refl is
 
-ended_counted : (old new : List Told) (number : ℕ) (status : Status) → AreToldFrom 1 old → told_ended old number status ≡ Some new → Counted old 0 (one_if (was_acknowledged status)) (one_if (has_expired status)) new
+ended_counted : (old new : List Told) (number : ℕ) (status : RightStatus) → AreToldFrom 1 old → told_ended old number status ≡ Some new → Counted old 0 (one_if (was_acknowledged status)) (one_if (has_expired status)) new
 ended_counted old new number status told is =
     (elim (list_any (is_held_as number) old) as (λ b. list_any (is_held_as number) old ≡ b → cond b (Some (map (with_status number status) old)) None ≡ Some new → Counted old 0 (one_if (was_acknowledged status)) (one_if (has_expired status)) new) [
       | true ↦ (λ e h.

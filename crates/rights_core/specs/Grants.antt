@@ -5,8 +5,8 @@ use Rattle.std.specs.Option.{option_and_then}
 use Rattle.node_core.specs.declared.lines.Line.{Line}
 use Rattle.node_core.specs.declared.lines.Line.TheVariants as lines
 use Rattle.rights_core.specs.declared.cache_rights.CacheRight.{CacheRight}
-use Rattle.rights_core.specs.declared.cache_rights.Status.{Status}
-use Rattle.rights_core.specs.declared.cache_rights.Status.TheVariants as statuses
+use Rattle.rights_core.specs.declared.cache_rights.RightStatus.{RightStatus}
+use Rattle.rights_core.specs.declared.cache_rights.RightStatus.TheVariants as statuses
 use Rattle.rights_core.specs.declared.totals.Totals.{Totals}
 use Rattle.rights_core.specs.Rights.{stands, was_acknowledged, has_expired, is_acknowledged, is_expired}
 
@@ -15,12 +15,12 @@ pub record Told : Type 0 where
   pub number : ℕ
   pub client : ℕ
   pub name : List ℕ
-  pub status : Status
+  pub status : RightStatus
 
 abbrev pub is_held_as : ℕ → Told → Bool
 is_held_as number right = stands right.status && right.number == number
 
-abbrev pub with_status : ℕ → Status → Told → Told
+abbrev pub with_status : ℕ → RightStatus → Told → Told
 with_status number status right = if right.number == number then record right { status = status } else right
 
 -- a new right has the next number
@@ -29,7 +29,7 @@ told_more rights number client name =
     if number == length rights + 1 then Some (rights ++ record { number = number; client = client; name = name; status = statuses.Held } ∷ []) else None
 
 -- one that ends was held
-abbrev pub told_ended : List Told → ℕ → Status → Option (List Told)
+abbrev pub told_ended : List Told → ℕ → RightStatus → Option (List Told)
 told_ended rights number status = if list_any (is_held_as number) rights then Some (map (with_status number status) rights) else None
 
 -- what a line makes of the rights of an epoch; None where it tells of one out of its turn

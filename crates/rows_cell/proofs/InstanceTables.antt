@@ -12,7 +12,7 @@ use Rattle.std.proofs.lemmas.Map.Lookups.{exact_unsigned}
 use Rattle.collections.proofs.Entries.{lookup_put}
 use Rattle.rows_cell.specs.declared.tables.StoredNode.{StoredNode}
 use Rattle.rows_cell.specs.declared.tables.LockRow.{LockRow}
-use Rattle.rows_cell.specs.declared.soundness.Group.{Group}
+use Rattle.rows_cell.specs.declared.soundness.NodeLocks.{NodeLocks}
 use Rattle.rows_cell.specs.declared.keys.LockKey.{LockKey}
 use Rattle.rows_cell.specs.Rows.{StoredNodes, StoredLocks}
 use Rattle.rows_cell.specs.Sound.{is_shared}
@@ -206,19 +206,19 @@ held_is (e ∷ es) n h =
 
 -- ---- the groups of locks
 
-joined_all : Option Group → StoredLocks → Option Group
+joined_all : Option NodeLocks → StoredLocks → Option NodeLocks
 joined_all o [] = o
 joined_all o (e ∷ es) = joined_all (Some (joined o e.1.state)) es
 
 -- the locks that are left, and the table of those before
-pub IsGrouped : StoredLocks → StoredLocks → List (ℕ × Group) → Type 0
+pub IsGrouped : StoredLocks → StoredLocks → List (ℕ × NodeLocks) → Type 0
 IsGrouped locks left table = (n : ℕ) → joined_all (at table n) (locks_at left n) ≡ joined_all None (locks_at locks n)
 
-pub group_start : (locks left : StoredLocks) (table : List (ℕ × Group)) → left ≡ locks → table ≡ [] → IsGrouped locks left table
+pub group_start : (locks left : StoredLocks) (table : List (ℕ × NodeLocks)) → left ≡ locks → table ≡ [] → IsGrouped locks left table
 unfolding IsGrouped
 group_start locks left table l t n = ap (λ ts. joined_all (at ts n) (locks_at left n)) t ∙ ap (λ xs. joined_all None (locks_at xs n)) l
 
-one_grouped : (table : List (ℕ × Group)) (n : ℕ) (key : LockKey) (row : LockRow) (rest : StoredLocks) (whole : Option Group) → joined_all (at table n) (cond (key.instance == n) ((key, row) ∷ rest) rest) ≡ whole → joined_all (cond (key.instance == n) (Some (joined (at table key.instance) row.state)) (at table n)) rest ≡ whole
+one_grouped : (table : List (ℕ × NodeLocks)) (n : ℕ) (key : LockKey) (row : LockRow) (rest : StoredLocks) (whole : Option NodeLocks) → joined_all (at table n) (cond (key.instance == n) ((key, row) ∷ rest) rest) ≡ whole → joined_all (cond (key.instance == n) (Some (joined (at table key.instance) row.state)) (at table n)) rest ≡ whole
 unfolding joined_all
 one_grouped table n key row rest whole h =
     (elim (key.instance == n) as (λ b. (key.instance == n) ≡ b → joined_all (at table n) (cond b ((key, row) ∷ rest) rest) ≡ whole → joined_all (cond b (Some (joined (at table key.instance) row.state)) (at table n)) rest ≡ whole) [
@@ -226,7 +226,7 @@ one_grouped table n key row rest whole h =
       | false ↦ (λ e k. k)
     ]) refl h
 
-pub group_more : (locks left next : StoredLocks) (key : LockKey) (row : LockRow) (table new : List (ℕ × Group)) (group : Group) → IsGrouped locks left table → left ≡ (key, row) ∷ next → group ≡ joined (at table key.instance) row.state → new ≡ insert_entry nat_cmp table key.instance group → IsGrouped locks next new
+pub group_more : (locks left next : StoredLocks) (key : LockKey) (row : LockRow) (table new : List (ℕ × NodeLocks)) (group : NodeLocks) → IsGrouped locks left table → left ≡ (key, row) ∷ next → group ≡ joined (at table key.instance) row.state → new ≡ insert_entry nat_cmp table key.instance group → IsGrouped locks next new
 unfolding IsGrouped
 group_more locks left next key row table new group h l g e n =
     let old : joined_all (at table n) (cond (key.instance == n) ((key, row) ∷ locks_at next n) (locks_at next n)) ≡ joined_all None (locks_at locks n) = ap (λ xs. joined_all (at table n) (locks_at xs n)) (sym l) ∙ h n in
@@ -243,7 +243,7 @@ never : (xs : StoredLocks) → ends false xs ≡ false
 never [] = refl
 never (e ∷ es) = refl
 
-alone_more : (g : Group) (xs : StoredLocks) → alone_in (joined_all (Some g) xs) ≡ ends g.is_alone xs
+alone_more : (g : NodeLocks) (xs : StoredLocks) → alone_in (joined_all (Some g) xs) ≡ ends g.is_alone xs
 unfolding joined_all
 alone_more g [] = refl
 alone_more g (e ∷ es) = alone_more (joined (Some g) e.1.state) es ∙ never es
@@ -265,7 +265,7 @@ all_true : (a : Bool) → a ≡ (a && true)
 all_true true = refl
 all_true false = refl
 
-shared_more : (g : Group) (xs : StoredLocks) → shared_in (joined_all (Some g) xs) ≡ (g.are_shared && list_all (λ e. is_shared e.1.state) xs)
+shared_more : (g : NodeLocks) (xs : StoredLocks) → shared_in (joined_all (Some g) xs) ≡ (g.are_shared && list_all (λ e. is_shared e.1.state) xs)
 unfolding joined_all
 shared_more g [] = all_true g.are_shared
 shared_more g (e ∷ es) = shared_more (joined (Some g) e.1.state) es ∙ three g.are_shared (is_shared e.1.state) (list_all (λ x. is_shared x.1.state) es)
@@ -275,7 +275,7 @@ unfolding joined_all
 shared_is [] = refl
 shared_is (e ∷ es) = shared_more (joined None e.1.state) es
 
-pub group_done : (locks left : StoredLocks) (table : List (ℕ × Group)) → IsGrouped locks left table → left ≡ [] → HasGroups locks table
+pub group_done : (locks left : StoredLocks) (table : List (ℕ × NodeLocks)) → IsGrouped locks left table → left ≡ [] → HasGroups locks table
 unfolding IsGrouped joined_all
 group_done locks left table h l =
     let last : (n : ℕ) → at table n ≡ joined_all None (locks_at locks n) = λ n. ap (λ xs. joined_all (at table n) (locks_at xs n)) (sym l) ∙ h n in

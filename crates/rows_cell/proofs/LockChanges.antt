@@ -11,7 +11,7 @@ use Rattle.std.proofs.lemmas.Bool.{and_parts, or_left, or_parts, eqb-true, not-t
 use Rattle.std.proofs.lemmas.Bool.Decides.{nat_tests}
 use Rattle.node_core.specs.Limits.{number_limit}
 use Rattle.rows_cell.specs.declared.tables.StoredNode.{StoredNode}
-use Rattle.rows_cell.specs.declared.tables.Session.{Session}
+use Rattle.rows_cell.specs.declared.tables.SessionRow.{SessionRow}
 use Rattle.rows_cell.specs.declared.tables.LockRow.{LockRow}
 use Rattle.rows_cell.specs.declared.keys.LockKey.{LockKey}
 use Rattle.rows_cell.specs.declared.tables.Rows.{Rows}
@@ -348,13 +348,13 @@ changes_free rows client (change ∷ changes) sorted fits free among =
     changes_free (relocked_by rows change) client changes locks.in_order (others_fit rows change changes fits sorted) t.1 left
 
 -- the rows behind an expiry
-pub expiry_done : (rows : Rows) (changes : List LockChange) (client : ℕ) (session : Session)
+pub expiry_done : (rows : Rows) (changes : List LockChange) (client : ℕ) (session : SessionRow)
     → changed_rows rows (locks_edits changes ++ PutSession client session ∷ []) ≡ record rows { nodes = nodes_behind rows.nodes changes; locks = locks_behind rows.locks changes; sessions = insert_entry nat_cmp rows.sessions client session }
 expiry_done rows changes client session =
     changed_more rows (locks_edits changes) (PutSession client session ∷ []) ∙ ap (λ (r : Rows). edited r (PutSession client session)) (locks_edits_done rows changes)
 
 -- an expiry leaves the rows sound, where each lock that the session held is among the changes, and it holds none behind them
-pub expiry_sound : (cell : List ℕ) (rows : Rows) (changes : List LockChange) (client : ℕ) (session : Session) → sound cell rows ≡ true → IsStrictlySortedBy lock_order (keys_of rows.locks) → ChangesFit rows changes → is_number client ≡ true → are_free client changes ≡ true → are_among client changes rows.locks ≡ true
+pub expiry_sound : (cell : List ℕ) (rows : Rows) (changes : List LockChange) (client : ℕ) (session : SessionRow) → sound cell rows ≡ true → IsStrictlySortedBy lock_order (keys_of rows.locks) → ChangesFit rows changes → is_number client ≡ true → are_free client changes ≡ true → are_among client changes rows.locks ≡ true
     → sound cell (changed_rows rows (locks_edits changes ++ PutSession client session ∷ [])) ≡ true
 expiry_sound cell rows changes client session h sorted fits number free among =
     let P : Rows → Type 0 = λ r. sound cell r ≡ true in

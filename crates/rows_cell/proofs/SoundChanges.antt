@@ -18,7 +18,7 @@ use Rattle.names_cell.specs.Text.{parent_of, cell_of, root_of}
 use Rattle.node_core.specs.declared.nodes.Node.{Node}
 use Rattle.collections.proofs.Entries.{lookup_put, eq_at}
 use Rattle.rows_cell.specs.declared.tables.StoredNode.{StoredNode}
-use Rattle.rows_cell.specs.declared.tables.Session.{Session}
+use Rattle.rows_cell.specs.declared.tables.SessionRow.{SessionRow}
 use Rattle.rows_cell.specs.declared.keys.LockKey.{LockKey}
 use Rattle.rows_cell.specs.declared.tables.Rows.{Rows}
 use Rattle.rows_cell.specs.declared.tables.Edit.TheVariants.{Epoch, NextInstance, PutNode, PutSession}
@@ -54,15 +54,15 @@ epoch_sound cell rows h below =
       locks = locks_stay rows new refl (λ n k. k) (λ key k. k) p.locks;
     })
 
-live_stays : (rows : Rows) (client : ℕ) (session : Session) (q : ℕ) → session.live ≡ true → is_live_in rows q ≡ true → is_live_in (record rows { sessions = insert_entry nat_cmp rows.sessions client session }) q ≡ true
+live_stays : (rows : Rows) (client : ℕ) (session : SessionRow) (q : ℕ) → session.live ≡ true → is_live_in rows q ≡ true → is_live_in (record rows { sessions = insert_entry nat_cmp rows.sessions client session }) q ≡ true
 live_stays rows client session q live h =
     rw (lookup_put nat_cmp exact_unsigned (tied_itself nat_cmp_total) rows.sessions client session q)
-    (elim (is_at (nat_cmp q) client) as (λ b. option_map_or (λ (s : Session). s.live) (cond b (Some session) (lookup (is_at (nat_cmp q)) rows.sessions)) false ≡ true) [ true ↦ live | false ↦ h ])
+    (elim (is_at (nat_cmp q) client) as (λ b. option_map_or (λ (s : SessionRow). s.live) (cond b (Some session) (lookup (is_at (nat_cmp q)) rows.sessions)) false ≡ true) [ true ↦ live | false ↦ h ])
 
 pub session_sound : (cell : List ℕ) (rows : Rows) (client : ℕ) (principal : List ℕ) → sound cell rows ≡ true → is_number client ≡ true → sound cell (changed_rows rows (PutSession client (record { principal = principal; live = true }) ∷ [])) ≡ true
 session_sound cell rows client principal h number =
     let p = parts_of cell rows h in
-    let session : Session = record { principal = principal; live = true } in
+    let session : SessionRow = record { principal = principal; live = true } in
     let new : Rows = record rows { sessions = insert_entry nat_cmp rows.sessions client session } in
     let held : (key : LockKey) → Bool = λ key. list_any (λ e. e.1.node.instance == key.instance && nat_le 1 e.1.lock_generation) rows.nodes in
     let holder : (key : LockKey) → holder_fits rows key ≡ true → holder_fits new key ≡ true = λ key k.

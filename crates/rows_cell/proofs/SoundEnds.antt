@@ -13,7 +13,7 @@ use Rattle.std.proofs.lemmas.Bool.Decides.{nat_tests}
 use Rattle.std.proofs.lemmas.Cmp.{then_total, on_total}
 use Rattle.std.proofs.lemmas.Map.Lookups.{CmpEqualImpliesEq, exact_unsigned}
 use Rattle.collections.proofs.Entries.{lookup_put, eq_at}
-use Rattle.rows_cell.specs.declared.tables.Session.{Session}
+use Rattle.rows_cell.specs.declared.tables.SessionRow.{SessionRow}
 use Rattle.rows_cell.specs.declared.tables.LockRow.{LockRow}
 use Rattle.rows_cell.specs.declared.tables.LockState.{LockState}
 use Rattle.rows_cell.specs.declared.tables.LockState.TheVariants.{Lapsed, Exclusive, Shared}
@@ -202,10 +202,10 @@ free_of : (a b : Bool) → a ≡ true → not (a && b) ≡ true → b ≡ false
 free_of true false is h = refl
 free_of _ _ is h = cc
 
-live_elsewhere : (rows : Rows) (client : ℕ) (session : Session) (q : ℕ) → (q == client) ≡ false → is_live_in rows q ≡ true → is_live_in (record rows { sessions = insert_entry nat_cmp rows.sessions client session }) q ≡ true
+live_elsewhere : (rows : Rows) (client : ℕ) (session : SessionRow) (q : ℕ) → (q == client) ≡ false → is_live_in rows q ≡ true → is_live_in (record rows { sessions = insert_entry nat_cmp rows.sessions client session }) q ≡ true
 live_elsewhere rows client session q other h =
     rw (lookup_put nat_cmp exact_unsigned (tied_itself nat_cmp_total) rows.sessions client session q)
-    ((elim (is_at (nat_cmp q) client) as (λ b. is_at (nat_cmp q) client ≡ b → option_map_or (λ (s : Session). s.live) (cond b (Some session) (lookup (is_at (nat_cmp q)) rows.sessions)) false ≡ true) [
+    ((elim (is_at (nat_cmp q) client) as (λ b. is_at (nat_cmp q) client ≡ b → option_map_or (λ (s : SessionRow). s.live) (cond b (Some session) (lookup (is_at (nat_cmp q)) rows.sessions)) false ≡ true) [
       | true ↦ (λ c. absurd (not_both q client other (exact_unsigned q client (eq_at (nat_cmp q client) c))))
       | false ↦ (λ c. h)
     ]) refl)
@@ -214,7 +214,7 @@ live_elsewhere rows client session q other h =
 abbrev pub holds : (LockState → Bool) → ℕ → LockKey × LockRow → Bool
 holds held client entry = held entry.1.state && entry.0.client == client
 
-module _ (cell : List ℕ) (rows : Rows) (client : ℕ) (session : Session) (held : LockState → Bool) (exclusive : held Exclusive ≡ true) (shared : held Shared ≡ true) where
+module _ (cell : List ℕ) (rows : Rows) (client : ℕ) (session : SessionRow) (held : LockState → Bool) (exclusive : held Exclusive ≡ true) (shared : held Shared ≡ true) where
   abbrev ended_rows : Rows
   ended_rows = record rows { sessions = insert_entry nat_cmp rows.sessions client session }
 

@@ -8,25 +8,25 @@ use Rattle.std.specs.Ordering.{nat_cmp}
 use Rattle.std.proofs.lemmas.Map.Steps.{set_value_same}
 use Rattle.rows_cell.specs.declared.tables.Rows.{Rows}
 use Rattle.rows_cell.specs.declared.tables.StoredNode.{StoredNode}
-use Rattle.rows_cell.specs.declared.undo.Former.{Former}
-use Rattle.rows_cell.specs.declared.undo.Former.TheVariants.{OldGeneration}
+use Rattle.rows_cell.specs.declared.undo.FormerRow.{FormerRow}
+use Rattle.rows_cell.specs.declared.undo.FormerRow.TheVariants.{OldGeneration}
 use Rattle.rows_cell.specs.Rows.{StoredNodes, stored_node, at_generation}
 use Rattle.rows_cell.specs.Undo.{restored, all_restored}
 use Rattle.rows_cell.proofs.SoundGenerations.{found_set}
 
 -- ---- one behind the other
 
-last_first : (rows : Rows) (formers : List Former) (former : Former) → all_restored rows (formers ++ former ∷ []) ≡ all_restored (restored rows former) formers
+last_first : (rows : Rows) (formers : List FormerRow) (former : FormerRow) → all_restored rows (formers ++ former ∷ []) ≡ all_restored (restored rows former) formers
 last_first rows [] former = refl
 last_first rows (first ∷ formers) former = ap (λ r. restored r first) (last_first rows formers former)
 
 -- the last is undone
-pub one_back : (rows new : Rows) (all left : List Former) (former : Former) → all ≡ left ++ former ∷ [] → new ≡ restored rows former → all_restored new left ≡ all_restored rows all
+pub one_back : (rows new : Rows) (all left : List FormerRow) (former : FormerRow) → all ≡ left ++ former ∷ [] → new ≡ restored rows former → all_restored new left ≡ all_restored rows all
 one_back rows new all left former are is =
     ap (λ r. all_restored r left) is ∙ sym (last_first rows left former) ∙ ap (λ fs. all_restored rows fs) (sym are)
 
 -- one more is noted behind the others
-pub one_noted : (rows new : Rows) (formers all : List Former) (former : Former) → all ≡ formers ++ former ∷ [] → restored new former ≡ rows → all_restored new all ≡ all_restored rows formers
+pub one_noted : (rows new : Rows) (formers all : List FormerRow) (former : FormerRow) → all ≡ formers ++ former ∷ [] → restored new former ≡ rows → all_restored new all ≡ all_restored rows formers
 one_noted rows new formers all former are back =
     ap (λ fs. all_restored new fs) are ∙ last_first new formers former ∙ ap (λ r. all_restored r formers) back
 

@@ -8,7 +8,7 @@ use Rattle.std.specs.Ordering.{nat_cmp}
 use Rattle.std.specs.Str.{bytes_eq}
 use Rattle.rows_cell.specs.declared.tables.LockState.{LockState}
 use Rattle.rows_cell.specs.declared.tables.Rows.{Rows}
-use Rattle.rows_cell.specs.declared.soundness.Group.{Group}
+use Rattle.rows_cell.specs.declared.soundness.NodeLocks.{NodeLocks}
 use Rattle.rows_cell.specs.declared.soundness.Index.{Index}
 use Rattle.rows_cell.specs.Rows.{StoredNodes, StoredLocks}
 use Rattle.rows_cell.specs.Sound.{is_number, is_shared, are_distinct}
@@ -31,14 +31,14 @@ pub record HasGenerations (nodes : StoredNodes) (table : List (ℕ × ℕ)) : Ty
   pub found : (n : ℕ) → lookup (is_at (nat_cmp n)) table ≡ lock_generation_in nodes n
 
 -- what some locks are together, with one more
-abbrev pub joined : Option Group → LockState → Group
+abbrev pub joined : Option NodeLocks → LockState → NodeLocks
 joined None state = record { is_alone = true; are_shared = is_shared state }
 joined (Some group) state = record { is_alone = false; are_shared = group.are_shared && is_shared state }
 
-abbrev pub alone_in : Option Group → Bool
+abbrev pub alone_in : Option NodeLocks → Bool
 alone_in group = option_map_or (λ g. g.is_alone) group false
 
-abbrev pub shared_in : Option Group → Bool
+abbrev pub shared_in : Option NodeLocks → Bool
 shared_in group = option_map_or (λ g. g.are_shared) group true
 
 -- the locks on the node of an instance
@@ -46,7 +46,7 @@ abbrev pub locks_at : StoredLocks → ℕ → StoredLocks
 locks_at locks n = filter (λ e. e.0.instance == n) locks
 
 -- by an instance it is found whether it has one lock alone, and whether all that it has are shared
-pub record HasGroups (locks : StoredLocks) (table : List (ℕ × Group)) : Type 0 where
+pub record HasGroups (locks : StoredLocks) (table : List (ℕ × NodeLocks)) : Type 0 where
   pub alone : (n : ℕ) → alone_in (lookup (is_at (nat_cmp n)) table) ≡ (length (locks_at locks n) == 1)
   pub shared : (n : ℕ) → shared_in (lookup (is_at (nat_cmp n)) table) ≡ list_all (λ e. is_shared e.1.state) (locks_at locks n)
 

@@ -7,13 +7,13 @@ use Rattle.rows_cell.specs.declared.tables.Rows.{Rows}
 use Rattle.rows_cell.specs.declared.tables.Edit.{Edit}
 use Rattle.rows_cell.specs.declared.keys.LockKey.{LockKey}
 use Rattle.rows_cell.specs.declared.tables.Edit.TheVariants.{RemoveNode, PutLock, RemoveLock}
-use Rattle.rows_cell.specs.declared.undo.Former.{Former}
-use Rattle.rows_cell.specs.declared.undo.Former.TheVariants.{OldEpoch, OldInstance, OldGeneration, OldNode, OldSession, OldLock}
+use Rattle.rows_cell.specs.declared.undo.FormerRow.{FormerRow}
+use Rattle.rows_cell.specs.declared.undo.FormerRow.TheVariants.{OldEpoch, OldInstance, OldGeneration, OldNode, OldSession, OldLock}
 use Rattle.rows_cell.specs.Keys.{lock_order}
 use Rattle.rows_cell.specs.Rows.{stored_node, at_generation, changed_rows}
 
 -- the rows with it put back
-abbrev pub restored : Rows → Former → Rows
+abbrev pub restored : Rows → FormerRow → Rows
 restored rows (OldEpoch epoch) = record rows { epoch = epoch }
 restored rows (OldInstance next) = record rows { next_instance = next }
 restored rows (OldGeneration name generation) = record rows { nodes = at_generation rows.nodes name (stored_node rows.nodes name) generation }
@@ -22,7 +22,7 @@ restored rows (OldSession client former) = record rows { sessions = with_former 
 restored rows (OldLock key former) = record rows { locks = with_former lock_order rows.locks key former }
 
 -- the rows with all of it put back, the last first
-abbrev pub all_restored : Rows → List Former → Rows
+abbrev pub all_restored : Rows → List FormerRow → Rows
 all_restored rows [] = rows
 all_restored rows (former ∷ formers) = restored (all_restored rows formers) former
 

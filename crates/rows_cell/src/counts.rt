@@ -2,7 +2,7 @@
 ghost use Rattle.std.specs.Prelude.{◌≡◌, length, filter};
 ghost use Rattle.rows_cell.specs.Counts.{counts_of};
 
-use crate::tables::{Rows, Session};
+use crate::tables::{Rows, SessionRow};
 use collections::Table;
 
 /// How much the rows of a cell hold.
@@ -31,7 +31,7 @@ impl Rows {
 }
 
 #[tactic(auto, using(crate::proofs::LiveCounts::count_start, crate::proofs::LiveCounts::count_more, crate::proofs::LiveCounts::count_none, crate::proofs::LiveCounts::count_done))]
-fn live_sessions(sessions: &Table<u64, Session>) -> usize
+fn live_sessions(sessions: &Table<u64, SessionRow>) -> usize
     ensures { result ≡ length (filter (λ e. e.1.live) sessions.now) }
 {
     let all = sessions.as_map();

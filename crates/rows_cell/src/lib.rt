@@ -23,5 +23,5 @@ pub use lists::ListRecords;
 pub use records::{Records, StoreFault};
 pub use settings::{Limits, MasterTerms, Settings, SettingsFault, component};
 pub use soundness::is_sound;
-pub use tables::{Edit, LockRow, LockState, Rows, Session, StoredNode};
+pub use tables::{Edit, LockRow, LockState, Rows, SessionRow, StoredNode};
 pub use texts::text_of;

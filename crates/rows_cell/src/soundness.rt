@@ -9,7 +9,7 @@ ghost use Rattle.rows_cell.specs.Sound.{sound, is_number, is_directory_at, numbe
 ghost use Rattle.rows_cell.specs.Indexes.{IsIndexed, HasGenerations, HasGroups, numbers_are_sound, are_apart, joined, alone_in, shared_in};
 
 use crate::keys::LockKey;
-use crate::tables::{LockRow, LockState, Rows, Session, StoredNode};
+use crate::tables::{LockRow, LockState, Rows, SessionRow, StoredNode};
 use collections::Table;
 use names_cell::{Component, Name};
 use node_core::{CONTENT_LIMIT, Kind, NUMBER_LIMIT, Node};
@@ -20,7 +20,7 @@ const DELAY_LIMIT: u64 = 60_000;
 
 // What the locks of one node are together.
 #[derive(Clone, Copy)]
-pub(crate) struct Group {
+pub(crate) struct NodeLocks {
     pub is_alone: bool,
     pub are_shared: bool,
 }
@@ -29,7 +29,7 @@ pub(crate) struct Group {
 #[derive(Drop)]
 pub(crate) struct Index {
     pub generations: Table<u64, u64>,
-    pub groups: Table<u64, Group>,
+    pub groups: Table<u64, NodeLocks>,
 }
 
 /// Whether a cell of this name may have the rows: the whole test, by which a store that is damaged is told. The time
@@ -64,7 +64,7 @@ fn numbers_are_sound(cell: &Component, rows: &Rows) -> bool
 }
 
 #[tactic(auto, using(crate::proofs::WholeTest::all_left, crate::proofs::WholeTest::all_stop))]
-fn clients_fit(sessions: &Table<u64, Session>) -> bool
+fn clients_fit(sessions: &Table<u64, SessionRow>) -> bool
     ensures { result ≡ list_all (λ e. is_number e.0) sessions.now }
 {
     for (client, _session) in sessions.as_map() {
@@ -181,16 +181,16 @@ fn generations_of(
 }
 
 // What the locks of a node are together, with one more.
-fn joined(former: Option<Group>, state: LockState) -> Group
+fn joined(former: Option<NodeLocks>, state: LockState) -> NodeLocks
     ensures { result ≡ joined former state }
 {
     let is_shared = matches!(state, LockState::Shared);
     match former {
-        Some(group) => Group {
+        Some(group) => NodeLocks {
             is_alone: false,
             are_shared: group.are_shared && is_shared,
         },
-        None => Group {
+        None => NodeLocks {
             is_alone: true,
             are_shared: is_shared,
         },
@@ -201,7 +201,7 @@ fn joined(former: Option<Group>, state: LockState) -> Group
 fn groups_of(
     alloc: Global,
     locks: &Table<LockKey, LockRow>,
-) -> Result<Table<u64, Group>, AllocError>
+) -> Result<Table<u64, NodeLocks>, AllocError>
     ensures { IfOk result (λ groups. HasGroups locks.now groups) }
 {
     let mut groups = Table::new(alloc);

@@ -41,23 +41,23 @@ impl Same for StoredNode {
 
 /// A client's session. One that has ended stays recorded.
 #[derive(Drop)]
-pub struct Session {
+pub struct SessionRow {
     pub principal: Principal,
     pub live: bool,
 }
 
-impl Clone for Session {
+impl Clone for SessionRow {
     ghost is_clone = { λ s t. t ≡ s };
 
-    fn clone(&self) -> Result<Session, AllocError> {
-        Ok(Session {
+    fn clone(&self) -> Result<SessionRow, AllocError> {
+        Ok(SessionRow {
             principal: self.principal.clone()?,
             live: self.live,
         })
     }
 }
 
-impl Same for Session {
+impl Same for SessionRow {
     ghost exact = { λ x y h. h };
 }
 
@@ -92,7 +92,7 @@ pub struct Rows {
     pub next_instance: u64,
     pub nodes: Table<Name, StoredNode>,
     /// By client number.
-    pub sessions: Table<u64, Session>,
+    pub sessions: Table<u64, SessionRow>,
     pub locks: Table<LockKey, LockRow>,
 }
 
@@ -128,7 +128,7 @@ pub enum Edit {
     /// With its locks.
     RemoveNode(Name),
     /// Also to end it.
-    PutSession(u64, Session),
+    PutSession(u64, SessionRow),
     PutLock(LockKey, LockRow),
     RemoveLock(LockKey),
 }

@@ -1,6 +1,6 @@
 //! Rows as texts.
 use crate::keys::LockKey;
-use crate::tables::{LockRow, LockState, Rows, Session, StoredNode};
+use crate::tables::{LockRow, LockState, Rows, SessionRow, StoredNode};
 use names_cell::Name;
 use node_core::{Listing, View};
 use std::alloc::{AllocError, Global};
@@ -15,7 +15,7 @@ fn push_node(text: &mut String, name: &Name, stored: &StoredNode) -> Result<(), 
     write!(text, "node {name} {view} {generation}\n")
 }
 
-fn push_session(text: &mut String, client: u64, session: &Session) -> Result<(), AllocError> {
+fn push_session(text: &mut String, client: u64, session: &SessionRow) -> Result<(), AllocError> {
     let principal = session.principal.as_str();
     let live = session.live;
     write!(text, "session {client} {principal} {live}\n")

@@ -7,7 +7,7 @@ ghost use Rattle.rows_cell.specs.Rows.{edited, changed_rows, put_stored, stored_
 ghost use Rattle.rows_cell.specs.Undo.{restored, all_restored, takes_away, removes_node, settled};
 
 use crate::keys::LockKey;
-use crate::tables::{Edit, LockRow, Rows, Session, StoredNode, generation_at};
+use crate::tables::{Edit, LockRow, Rows, SessionRow, StoredNode, generation_at};
 use collections::{Items, Table};
 use names_cell::Name;
 use node_core::Node;
@@ -16,13 +16,13 @@ use std::mem;
 
 /// What stood before an edit: it is put back without memory.
 #[derive(Drop)]
-pub(crate) enum Former {
+pub(crate) enum FormerRow {
     OldEpoch(u64),
     OldInstance(u64),
     /// Of the lock of the node of this name, where it is there.
     OldGeneration(Name, u64),
     OldNode(Name, Option<StoredNode>),
-    OldSession(u64, Option<Session>),
+    OldSession(u64, Option<SessionRow>),
     OldLock(LockKey, Option<LockRow>),
 }
 
@@ -54,7 +54,7 @@ impl Rows {
     fn edit_late(
         &mut self,
         edit: &Edit,
-        formers: &mut Vec<Former>,
+        formers: &mut Vec<FormerRow>,
         late: &mut Table<LockKey, ()>,
     ) -> Result<(), AllocError>
         requires { removes_node edit.now ≡ false }
@@ -90,7 +90,7 @@ impl Rows {
     }
 
     // Does one edit, or leaves the rows. What stood before is noted behind the others.
-    fn edit_noted(&mut self, edit: &Edit, formers: &mut Vec<Former>) -> Result<(), AllocError>
+    fn edit_noted(&mut self, edit: &Edit, formers: &mut Vec<FormerRow>) -> Result<(), AllocError>
         requires { takes_away edit.now ≡ false }
         ensures ok { OnOk result (self.new ≡ edited self.old edit.now) }
         ensures back { all_restored self.new formers.new.items ≡ all_restored self.old formers.old.items }
@@ -103,29 +103,29 @@ impl Rows {
     }
 
     // Does one edit and gives what stood before, or leaves the rows.
-    fn edit_kept(&mut self, edit: &Edit) -> Result<Former, AllocError>
+    fn edit_kept(&mut self, edit: &Edit) -> Result<FormerRow, AllocError>
         requires { takes_away edit.now ≡ false }
         ensures ok { OnOk result (self.new ≡ edited self.old edit.now) }
         ensures back { IfOk result (λ former. restored self.new former ≡ self.old) }
         ensures err { OnErr result (self.new ≡ self.old) }
     {
         match edit {
-            Edit::Epoch(epoch) => Ok(Former::OldEpoch(mem::replace(&mut self.epoch, *epoch))),
+            Edit::Epoch(epoch) => Ok(FormerRow::OldEpoch(mem::replace(&mut self.epoch, *epoch))),
             Edit::NextInstance(next) => {
-                Ok(Former::OldInstance(mem::replace(&mut self.next_instance, *next)))
+                Ok(FormerRow::OldInstance(mem::replace(&mut self.next_instance, *next)))
             }
             Edit::LockGeneration(name, generation) => self.keep_generation(name, *generation),
             Edit::PutNode(name, node) => self.keep_node(name, node),
             Edit::PutSession(client, session) => self.keep_session(*client, session),
             Edit::PutLock(key, row) => {
                 let former = self.locks.put(*key, *row)?;
-                Ok(Former::OldLock(*key, former))
+                Ok(FormerRow::OldLock(*key, former))
             }
             _ => unreachable!(),
         }
     }
 
-    fn keep_generation(&mut self, name: &Name, generation: u64) -> Result<Former, AllocError>
+    fn keep_generation(&mut self, name: &Name, generation: u64) -> Result<FormerRow, AllocError>
         ensures ok { OnOk result (self.new ≡ record self.old { nodes = at_generation self.old.nodes name.now (stored_node self.old.nodes name.now) generation }) }
         ensures back { IfOk result (λ former. restored self.new former ≡ self.old) }
         ensures err { OnErr result (self.new ≡ self.old) }
@@ -133,30 +133,30 @@ impl Rows {
         let former = generation_at(&self.nodes, name);
         let key = name.clone()?;
         self.set_generation(name, generation);
-        Ok(Former::OldGeneration(key, former))
+        Ok(FormerRow::OldGeneration(key, former))
     }
 
-    fn keep_node(&mut self, name: &Name, node: &Node) -> Result<Former, AllocError>
+    fn keep_node(&mut self, name: &Name, node: &Node) -> Result<FormerRow, AllocError>
         ensures ok { OnOk result (self.new ≡ record self.old { nodes = put_stored self.old.nodes name.now node.now }) }
         ensures back { IfOk result (λ former. restored self.new former ≡ self.old) }
         ensures err { OnErr result (self.new ≡ self.old) }
     {
         let key = name.clone()?;
         let former = self.put_node(name, node)?;
-        Ok(Former::OldNode(key, former))
+        Ok(FormerRow::OldNode(key, former))
     }
 
-    fn keep_session(&mut self, client: u64, session: &Session) -> Result<Former, AllocError>
+    fn keep_session(&mut self, client: u64, session: &SessionRow) -> Result<FormerRow, AllocError>
         ensures ok { OnOk result (self.new ≡ record self.old { sessions = insert_entry nat_cmp self.old.sessions client session.now }) }
         ensures back { IfOk result (λ former. restored self.new former ≡ self.old) }
         ensures err { OnErr result (self.new ≡ self.old) }
     {
         let former = self.sessions.put(client, session.clone()?)?;
-        Ok(Former::OldSession(client, former))
+        Ok(FormerRow::OldSession(client, former))
     }
 
     // The last that was done is undone first.
-    fn restore_all(&mut self, formers: Items<Former>)
+    fn restore_all(&mut self, formers: Items<FormerRow>)
         ensures { self.new ≡ all_restored self.old formers }
     {
         let mut formers = formers;
@@ -166,16 +166,16 @@ impl Rows {
     }
 
     // Puts back what stood before an edit.
-    fn restore(&mut self, former: Former)
+    fn restore(&mut self, former: FormerRow)
         ensures { self.new ≡ restored self.old former }
     {
         match former {
-            Former::OldEpoch(epoch) => self.epoch = epoch,
-            Former::OldInstance(next) => self.next_instance = next,
-            Former::OldGeneration(name, generation) => self.set_generation(&name, generation),
-            Former::OldNode(name, former) => self.nodes.restore(&name, former),
-            Former::OldSession(client, former) => self.sessions.restore(&client, former),
-            Former::OldLock(key, former) => self.locks.restore(&key, former),
+            FormerRow::OldEpoch(epoch) => self.epoch = epoch,
+            FormerRow::OldInstance(next) => self.next_instance = next,
+            FormerRow::OldGeneration(name, generation) => self.set_generation(&name, generation),
+            FormerRow::OldNode(name, former) => self.nodes.restore(&name, former),
+            FormerRow::OldSession(client, former) => self.sessions.restore(&client, former),
+            FormerRow::OldLock(key, former) => self.locks.restore(&key, former),
         }
     }
 }

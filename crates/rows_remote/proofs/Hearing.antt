@@ -10,8 +10,8 @@ use lib.Seq.{take-add, take-append-le}
 use Rattle.byteorder.specs.Endian.{big_number}
 use Rattle.codec.specs.declared.faults.WireFault.{WireFault}
 use Rattle.codec.specs.Forms.{◌>>=◌, next_at, version, written, read_whole}
-use Rattle.rows_remote.specs.declared.frames.Answer.{Answer}
-use Rattle.rows_remote.specs.declared.frames.Answer.TheVariants as answers
+use Rattle.rows_remote.specs.declared.frames.KeeperAnswer.{KeeperAnswer}
+use Rattle.rows_remote.specs.declared.frames.KeeperAnswer.TheVariants as answers
 use Rattle.rows_remote.specs.Frames.{answer, framed, answer_at}
 use Rattle.rows_remote.specs.Asking.{Hears, HearsIn, IsUnheard, LosesSome, LosesShort, LosesCounted, kind_told, short_told}
 
@@ -67,16 +67,16 @@ next_again n front rest len =
     let long : nat_lt (length (front ++ rest)) n ≡ false = le-ltb _ _ (omega (arith, length-append front rest)) in
     rw (long, take_at front rest n len, drop_at front rest n len) refl
 
-answered : (head block rest : List ℕ) (count : ℕ) (told : Answer) → length head ≡ 4 → count ≡ big_number 4 head → length block ≡ count → read_whole answer block ≡ Ok told
+answered : (head block rest : List ℕ) (count : ℕ) (told : KeeperAnswer) → length head ≡ 4 → count ≡ big_number 4 head → length block ≡ count → read_whole answer block ≡ Ok told
     → answer_at (head ++ (block ++ rest)) ≡ Ok (told, rest)
 answered head block rest count told four counts len is =
     ap (λ (r : Result (List ℕ × List ℕ) WireFault). (r >>= λ front. next_at (big_number 4 front.0) front.1) >>= λ block. read_whole answer block.0 >>= λ told. Ok (told, block.1))
     (next_again 4 head (block ++ rest) four)
     ∙ ap (λ (n : ℕ). next_at n (block ++ rest) >>= λ block. read_whole answer block.0 >>= λ told. Ok (told, block.1)) (sym counts)
     ∙ ap (λ (r : Result (List ℕ × List ℕ) WireFault). r >>= λ block. read_whole answer block.0 >>= λ told. Ok (told, block.1)) (next_again count block rest len)
-    ∙ ap (λ (r : Result Answer WireFault). r >>= λ told. Ok (told, rest)) is
+    ∙ ap (λ (r : Result KeeperAnswer WireFault). r >>= λ told. Ok (told, rest)) is
 
-heard : (text mid after : Option (List ℕ)) (head : List ℕ) (count : ℕ) (told : Answer) → Consumes text mid head → length head ≡ 4 → count ≡ big_number 4 head → HearsIn count mid told after
+heard : (text mid after : Option (List ℕ)) (head : List ℕ) (count : ℕ) (told : KeeperAnswer) → Consumes text mid head → length head ≡ 4 → count ≡ big_number 4 head → HearsIn count mid told after
     → Hears text told after
 heard None mid after head count told c four counts h = tt
 heard (Some text) None after head count told c four counts h = absurd c
@@ -89,7 +89,7 @@ heard (Some text) (Some mid) (Some after) head count told c four counts h =
 front_whole : (before after : Option (List ℕ)) (n size : ℕ) (front : List ℕ) → Consumes before after (take n front) → length front ≡ size → size ≤ n → Consumes before after front
 front_whole before after n size front c len all = subst (λ (u : List ℕ). Consumes before after u) (take_all n front (omega (arith, len, all))) c
 
-pub heard_so : (text mid after : Option (List ℕ)) (n : ℕ) (head : List ℕ) (count : ℕ) (result : Option Answer) → Consumes text mid (take n head) → length head ≡ 4 → 4 ≤ n → count ≡ big_number 4 head
+pub heard_so : (text mid after : Option (List ℕ)) (n : ℕ) (head : List ℕ) (count : ℕ) (result : Option KeeperAnswer) → Consumes text mid (take n head) → length head ≡ 4 → 4 ≤ n → count ≡ big_number 4 head
     → IfSome result (λ told. HearsIn count mid told after) → IfSome result (λ told. Hears text told after)
 heard_so text mid after n head count None c four all counts h = tt
 heard_so text mid after n head count (Some told) c four all counts h = heard text mid after head count told (front_whole text mid n 4 head c four all) four counts h
@@ -114,17 +114,17 @@ short_cut before after n block c few =
     (take n block, c, λ e. absurd (omega (arith, fewer, ap length (ok_same _ (take n block) _ kept_written e))), λ e. absurd (omega (arith, fewer, ap length (ok_same _ (take n block) _ refused_written e))))
 
 -- both of them
-one_of : (b : Bool) (x y : Option Answer) (told : Answer) → cond b x y ≡ Some told → ((b ≡ true) × (x ≡ Some told)) ⊎ ((b ≡ false) × (y ≡ Some told))
+one_of : (b : Bool) (x y : Option KeeperAnswer) (told : KeeperAnswer) → cond b x y ≡ Some told → ((b ≡ true) × (x ≡ Some told)) ⊎ ((b ≡ false) × (y ≡ Some told))
 one_of true x y told h = inl (refl, h)
 one_of false x y told h = inr (refl, h)
 
-some_same : (x y : Answer) → Some x ≡ Some y → x ≡ y
+some_same : (x y : KeeperAnswer) → Some x ≡ Some y → x ≡ y
 some_same x y e = cc
 
-no_answer : (told : Answer) → None ≡ Some told → ⊥
+no_answer : (told : KeeperAnswer) → None ≡ Some told → ⊥
 no_answer told h = cc
 
-kind_is : (kind : ℕ) (told : Answer) → kind_told kind ≡ Some told → read_whole answer (version ∷ (kind ∷ [])) ≡ Ok told
+kind_is : (kind : ℕ) (told : KeeperAnswer) → kind_told kind ≡ Some told → read_whole answer (version ∷ (kind ∷ [])) ≡ Ok told
 kind_is kind told h =
     elim (one_of (kind == 1) (Some answers.Kept) (if kind == 2 then Some answers.Refused else None) told h) as (λ _. read_whole answer (version ∷ (kind ∷ [])) ≡ Ok told) [
       | inl p ↦ ap (λ k. read_whole answer (version ∷ (k ∷ []))) (eqb-true kind 1 p.0) ∙ kept_read ∙ ap (λ a. Ok a) (some_same _ told p.1)
@@ -134,7 +134,7 @@ kind_is kind told h =
       ]
     ]
 
-short_is : (bytes : List ℕ) (told : Answer) → short_told bytes ≡ Some told → read_whole answer bytes ≡ Ok told
+short_is : (bytes : List ℕ) (told : KeeperAnswer) → short_told bytes ≡ Some told → read_whole answer bytes ≡ Ok told
 short_is [] told h = absurd (no_answer told h)
 short_is (first ∷ []) told h = absurd (no_answer told h)
 short_is (first ∷ (kind ∷ [])) told h =
@@ -144,15 +144,15 @@ short_is (first ∷ (kind ∷ [])) told h =
     ]
 short_is (first ∷ (kind ∷ (other ∷ more))) told h = absurd (no_answer told h)
 
-short_isnt : (bytes own : List ℕ) (told : Answer) → short_told bytes ≡ None → short_told own ≡ Some told → bytes ≡ own → ⊥
+short_isnt : (bytes own : List ℕ) (told : KeeperAnswer) → short_told bytes ≡ None → short_told own ≡ Some told → bytes ≡ own → ⊥
 short_isnt bytes own told none some e = let same : short_told bytes ≡ short_told own = ap short_told e in cc
 
-pub short_heard : (before after : Option (List ℕ)) (n : ℕ) (block : List ℕ) (result : Option Answer) → Consumes before after (take n block) → length block ≡ 2 → 2 ≤ n → result ≡ short_told block
+pub short_heard : (before after : Option (List ℕ)) (n : ℕ) (block : List ℕ) (result : Option KeeperAnswer) → Consumes before after (take n block) → length block ≡ 2 → 2 ≤ n → result ≡ short_told block
     → IfSome result (λ told. HearsIn 2 before told after)
 short_heard before after n block None c two all is = tt
 short_heard before after n block (Some told) c two all is = (block, front_whole before after n 2 block c two all, two, short_is block told (sym is))
 
-pub short_lost : (before after : Option (List ℕ)) (n : ℕ) (block : List ℕ) (result : Option Answer) → Consumes before after (take n block) → length block ≡ 2 → 2 ≤ n → result ≡ short_told block
+pub short_lost : (before after : Option (List ℕ)) (n : ℕ) (block : List ℕ) (result : Option KeeperAnswer) → Consumes before after (take n block) → length block ≡ 2 → 2 ≤ n → result ≡ short_told block
     → IfNone result (LosesShort before after)
 short_lost before after n block (Some told) c two all is = tt
 short_lost before after n block None c two all is = (
@@ -195,7 +195,7 @@ short_unheard text mid after head c four h = record {
   not_refused = λ e. h.3 (refused_written ∙ ap (λ (u : List ℕ). Ok u) (sym (head_two head h.0 _ four (sym (ok_same _ _ _ refused_framed e))).1));
 }
 
-pub counted_so : (text mid after : Option (List ℕ)) (n : ℕ) (head : List ℕ) (count : ℕ) (result : Option Answer) → Consumes text mid (take n head) → length head ≡ 4 → 4 ≤ n → count ≡ big_number 4 head
+pub counted_so : (text mid after : Option (List ℕ)) (n : ℕ) (head : List ℕ) (count : ℕ) (result : Option KeeperAnswer) → Consumes text mid (take n head) → length head ≡ 4 → 4 ≤ n → count ≡ big_number 4 head
     → IfNone result (LosesCounted count mid after) → IfNone result (IsUnheard text after)
 counted_so text mid after n head count (Some told) c four all counts h = tt
 counted_so text mid after n head count None c four all counts (inl h) = short_unheard text mid after head (front_whole text mid n 4 head c four all) four h.1

@@ -6,16 +6,16 @@ use Rattle.rows_cell.specs.declared.tables.Edit.{Edit}
 use Rattle.rows_cell.specs.Sound.{sound}
 use Rattle.rows_cell.specs.Stores.{Store, Loads, IsUnread}
 use Rattle.node_core.specs.declared.refusals.Fault.TheVariants as faults
-use Rattle.rows_remote.specs.declared.records.Note.{Note}
+use Rattle.rows_remote.specs.declared.records.KeeperHistory.{KeeperHistory}
 use Rattle.rows_remote.specs.Keeping.{Stood, same_rows, doubt_of, noted, stood}
 use Rattle.rows_remote.proofs.SameRows.{rows_same}
 
-fold_last : (s : Stood) (past : List (Note × List Edit)) (note : Note) (edits : List Edit)
+fold_last : (s : Stood) (past : List (KeeperHistory × List Edit)) (note : KeeperHistory) (edits : List Edit)
     → fold (λ s n. noted n.0 n.1 s) s (past ++ (note, edits) ∷ []) ≡ noted note edits (fold (λ s n. noted n.0 n.1 s) s past)
 fold_last s [] note edits = refl
 fold_last s (n ∷ past) note edits = fold_last (noted n.0 n.1 s) past note edits
 
-pub stood_last : (past : List (Note × List Edit)) (note : Note) (edits : List Edit) → stood (past ++ (note, edits) ∷ []) ≡ noted note edits (stood past)
+pub stood_last : (past : List (KeeperHistory × List Edit)) (note : KeeperHistory) (edits : List Edit) → stood (past ++ (note, edits) ∷ []) ≡ noted note edits (stood past)
 stood_last past note edits = fold_last _ past note edits
 
 -- where nothing is in doubt behind them, the rows that are told are those that stood

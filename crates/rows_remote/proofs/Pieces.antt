@@ -12,8 +12,8 @@ use Rattle.codec.specs.declared.faults.WireFault.TheVariants.{TooLong}
 use Rattle.codec.specs.Forms.{◌>>=◌, version, length_end, write_all, short_of, read_whole, counted}
 use Rattle.codec.specs.Fields.{word, component}
 use Rattle.codec.proofs.FormLaws.{IsBytes, IsShort, bind_is, read_was_written, written_begins}
-use Rattle.rows_remote.specs.declared.frames.Asked.TheVariants as asks
-use Rattle.rows_remote.specs.declared.frames.Answer.TheVariants as answers
+use Rattle.rows_remote.specs.declared.frames.KeeperQuestion.TheVariants as asks
+use Rattle.rows_remote.specs.declared.frames.KeeperAnswer.TheVariants as answers
 use Rattle.rows_remote.specs.declared.frames.Whole.{Whole}
 use Rattle.rows_remote.specs.Forms.{edit, all_of_edits, row, all_of_rows, own, whole, secret}
 use Rattle.rows_remote.specs.Frames.{asked, change, answer, framed, edit_at, edits_from, edits_place, own_of, framed_front, front_before, rows_front}

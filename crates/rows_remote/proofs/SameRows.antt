@@ -10,7 +10,7 @@ use Rattle.node_core.specs.declared.kinds.Life.TheVariants.{Permanent, Ephemeral
 use Rattle.node_core.specs.declared.nodes.Node.{Node}
 use Rattle.rows_cell.specs.declared.tables.Rows.{Rows}
 use Rattle.rows_cell.specs.declared.tables.StoredNode.{StoredNode}
-use Rattle.rows_cell.specs.declared.tables.Session.{Session}
+use Rattle.rows_cell.specs.declared.tables.SessionRow.{SessionRow}
 use Rattle.rows_cell.specs.declared.tables.LockRow.{LockRow}
 use Rattle.rows_cell.specs.declared.tables.LockState.{LockState}
 use Rattle.rows_cell.specs.declared.tables.LockState.TheVariants.{Lapsed, Exclusive, Shared}
@@ -98,10 +98,10 @@ stored_same x y h =
     ∙ ap (λ z. made y.0 z x.1.lock_generation) (node_same x.1.node y.1.node parts.1)
     ∙ ap (λ z. made y.0 y.1.node z) (eqb-true _ _ parts.2)
 
-session_same : (x y : ℕ × Session) → same_session x y ≡ true → x ≡ y
+session_same : (x y : ℕ × SessionRow) → same_session x y ≡ true → x ≡ y
 session_same x y h =
     let parts = three_parts (x.0 == y.0) (bytes_eq x.1.principal y.1.principal) (flag x.1.live == flag y.1.live) h in
-    let made : ℕ → List ℕ → Bool → ℕ × Session = λ client principal live. (client, record { principal = principal; live = live }) in
+    let made : ℕ → List ℕ → Bool → ℕ × SessionRow = λ client principal live. (client, record { principal = principal; live = live }) in
     ap (λ z. made z x.1.principal x.1.live) (eqb-true _ _ parts.0)
     ∙ ap (λ z. made y.0 z x.1.live) (same_bytes x.1.principal y.1.principal parts.1)
     ∙ ap (λ z. made y.0 y.1.principal z) (flag_same x.1.live y.1.live (eqb-true _ _ parts.2))
@@ -131,7 +131,7 @@ pub rows_same : (x y : Rows) → same_rows x y ≡ true → x ≡ y
 rows_same x y h =
     let parts = four_parts (same_own x y) (all_same same_stored x.nodes y.nodes) (all_same same_session x.sessions y.sessions) (all_same same_lock x.locks y.locks) h in
     let os = four_parts (bytes_eq x.cell y.cell) (bytes_eq x.secret y.secret) (x.epoch == y.epoch) (x.next_instance == y.next_instance) parts.0 in
-    let made : List ℕ → List ℕ → ℕ → ℕ → StoredNodes → List (ℕ × Session) → StoredLocks → Rows =
+    let made : List ℕ → List ℕ → ℕ → ℕ → StoredNodes → List (ℕ × SessionRow) → StoredLocks → Rows =
     λ cell secret epoch next nodes sessions locks. record { cell = cell; secret = secret; epoch = epoch; next_instance = next; nodes = nodes; sessions = sessions; locks = locks } in
     ap (λ z. made z x.secret x.epoch x.next_instance x.nodes x.sessions x.locks) (same_bytes x.cell y.cell os.0)
     ∙ ap (λ z. made y.cell z x.epoch x.next_instance x.nodes x.sessions x.locks) (same_bytes x.secret y.secret os.1)

@@ -12,13 +12,13 @@ use Rattle.rows_cell.specs.Sound.{sound}
 use Rattle.rows_cell.specs.Stores.{Store}
 use Rattle.codec.specs.declared.faults.WireFault.TheVariants.{TooLong}
 use Rattle.codec.specs.Forms.{version, written, read_whole}
-use Rattle.rows_remote.specs.declared.frames.Asked.{Asked}
-use Rattle.rows_remote.specs.declared.frames.Asked.TheVariants as asks
-use Rattle.rows_remote.specs.declared.frames.Answer.{Answer}
-use Rattle.rows_remote.specs.declared.frames.Answer.TheVariants as answers
+use Rattle.rows_remote.specs.declared.frames.KeeperQuestion.{KeeperQuestion}
+use Rattle.rows_remote.specs.declared.frames.KeeperQuestion.TheVariants as asks
+use Rattle.rows_remote.specs.declared.frames.KeeperAnswer.{KeeperAnswer}
+use Rattle.rows_remote.specs.declared.frames.KeeperAnswer.TheVariants as answers
 use Rattle.rows_remote.specs.declared.frames.Whole.{Whole}
-use Rattle.rows_remote.specs.declared.records.Standing.{Standing}
-use Rattle.rows_remote.specs.declared.records.Standing.TheVariants.{Ready, Behind, Shut}
+use Rattle.rows_remote.specs.declared.records.KeeperStanding.{KeeperStanding}
+use Rattle.rows_remote.specs.declared.records.KeeperStanding.TheVariants.{Ready, Behind, Shut}
 use Rattle.rows_remote.specs.Frames.{asked, answer, framed, answer_at}
 use Rattle.rows_remote.specs.Keeping.{told_rows, doubt_of}
 
@@ -27,7 +27,7 @@ use Rattle.rows_remote.specs.Keeping.{told_rows, doubt_of}
 pub record Framed : Type 0 where
   pub store : Store
   pub number : ℕ
-  pub standing : Standing
+  pub standing : KeeperStanding
   pub first : Option Rows
   pub asked : Option (List ℕ)
   pub coming : Option (List ℕ)
@@ -35,26 +35,26 @@ pub record Framed : Type 0 where
 -- ---- one question, and its answer
 
 -- this answer stands at the front of the text, and behind it stands the rest, where it is known
-abbrev pub Hears : Option (List ℕ) → Answer → Option (List ℕ) → Type 0
+abbrev pub Hears : Option (List ℕ) → KeeperAnswer → Option (List ℕ) → Type 0
 Hears None told after = ⊤
 Hears (Some text) told None = ⊥
 Hears (Some text) told (Some rest) = answer_at text ≡ Ok (told, rest)
 
 -- this was asked, all of it, and this was answered
-pub record IsAnswered (question : Asked) (told : Answer) (asked_before asked_after coming_before coming_after : Option (List ℕ)) : Type 0 where
+pub record IsAnswered (question : KeeperQuestion) (told : KeeperAnswer) (asked_before asked_after coming_before coming_after : Option (List ℕ)) : Type 0 where
   pub bytes : List ℕ
   pub written : framed asked question ≡ Ok bytes
   pub sent : Appends asked_before asked_after bytes
   pub heard : Hears coming_before told coming_after
 
 -- the same of a store
-abbrev pub Answers : Asked → Answer → Framed → Framed → Type 0
+abbrev pub Answers : KeeperQuestion → KeeperAnswer → Framed → Framed → Type 0
 Answers question told old new = IsAnswered question told old.asked new.asked old.coming new.coming
 
 -- ---- a question that isn't answered
 
 -- the answers to a question: all rows, or whether the edits stand
-abbrev pub is_answer_to : Asked → Answer → Bool
+abbrev pub is_answer_to : KeeperQuestion → KeeperAnswer → Bool
 is_answer_to asks.Load (answers.Rows whole) = true
 is_answer_to asks.Load told = false
 is_answer_to (asks.Commit number edits) (answers.Rows whole) = false
@@ -68,14 +68,14 @@ pub record IsUnheard (before after : Option (List ℕ)) : Type 0 where
   pub not_refused : framed answer answers.Refused ≢ Ok taken
 
 -- after the number in front of an answer: it has so many bytes, and this was told by them
-abbrev pub HearsIn : ℕ → Option (List ℕ) → Answer → Option (List ℕ) → Type 0
+abbrev pub HearsIn : ℕ → Option (List ℕ) → KeeperAnswer → Option (List ℕ) → Type 0
 HearsIn count before told after = (block : List ℕ) × Consumes before after block × (length block ≡ count) × (read_whole answer block ≡ Ok told)
 
 -- what two bytes tell that stand behind their number: an answer without rows, if they are one
-abbrev pub kind_told : ℕ → Option Answer
+abbrev pub kind_told : ℕ → Option KeeperAnswer
 kind_told kind = if kind == 1 then Some answers.Kept else (if kind == 2 then Some answers.Refused else None)
 
-abbrev pub short_told : List ℕ → Option Answer
+abbrev pub short_told : List ℕ → Option KeeperAnswer
 short_told (first ∷ (kind ∷ [])) = if first == version then kind_told kind else None
 short_told _ = None
 
@@ -97,14 +97,14 @@ IsSilence bytes asked_before asked_after coming_before coming_after =
     (AppendsFront asked_before asked_after bytes × Keeps coming_before coming_after) ⊎ (Appends asked_before asked_after bytes × IsUnheard coming_before coming_after)
 
 -- the question was asked, or a front of it, and no answer was heard
-abbrev pub StaysSilent : Asked → Framed → Framed → Type 0
+abbrev pub StaysSilent : KeeperQuestion → Framed → Framed → Type 0
 StaysSilent question old new = (bytes : List ℕ) × (framed asked question ≡ Ok bytes) × IsSilence bytes old.asked new.asked old.coming new.coming
 
 -- it was answered by what is no answer to it
-abbrev pub AnswersOtherwise : Asked → Framed → Framed → Type 0
-AnswersOtherwise question old new = (told : Answer) × (is_answer_to question told ≡ false) × Answers question told old new
+abbrev pub AnswersOtherwise : KeeperQuestion → Framed → Framed → Type 0
+AnswersOtherwise question old new = (told : KeeperAnswer) × (is_answer_to question told ≡ false) × Answers question told old new
 
-abbrev pub IsUnanswered : Asked → Framed → Framed → Type 0
+abbrev pub IsUnanswered : KeeperQuestion → Framed → Framed → Type 0
 IsUnanswered question old new = StaysSilent question old new ⊎ AnswersOtherwise question old new
 
 -- ---- what a question leaves
@@ -121,7 +121,7 @@ with_kept edits s = record s {
 }
 
 -- after one that was refused, or not answered: the rows and the number of the last commit stay, and a crash may leave its rows
-abbrev pub with_tried : Standing → List Edit → Framed → Framed
+abbrev pub with_tried : KeeperStanding → List Edit → Framed → Framed
 with_tried standing edits s = record s {
   store = record s.store { may_leave = s.store.may_leave ++ changed_rows s.store.rows edits ∷ []; refusals = s.store.refusals + 1 };
   standing = standing;
@@ -166,7 +166,7 @@ pub record IsLost (edits : List Edit) (old new : Framed) : Type 0 where
   pub stands : new ≡ with_tried Shut edits (since old new)
 
 -- by a standing: after a refused commit, and if nothing is answered any more, nothing is asked
-abbrev pub IsTurnedDown : Standing → List Edit → Framed → Framed → Type 0
+abbrev pub IsTurnedDown : KeeperStanding → List Edit → Framed → Framed → Type 0
 IsTurnedDown Ready edits old new = HasNoFrame edits old new ⊎ IsRefusedThere edits old new ⊎ IsLost edits old new
 IsTurnedDown Behind edits old new = new ≡ refused_again old
 IsTurnedDown Shut edits old new = new ≡ refused_again old
@@ -227,7 +227,7 @@ pub record IsUntold (old new : Framed) : Type 0 where
   pub stands : new ≡ record (refused_again (since old new)) { standing = Shut }
 
 -- if nothing is answered any more, nothing is asked; else that begins here
-abbrev pub IsSilent : Standing → Framed → Framed → Type 0
+abbrev pub IsSilent : KeeperStanding → Framed → Framed → Type 0
 IsSilent Shut old new = new ≡ refused_again old
 IsSilent _ old new = IsUntold old new
 

@@ -2,7 +2,7 @@
 use Rattle.std.specs.Prelude.{ℕ, ◌==◌, Bool, List, [], ◌∷◌, length, Result}
 use Rattle.node_core.specs.declared.nodes.Node.{Node}
 use Rattle.rows_cell.specs.declared.tables.StoredNode.{StoredNode}
-use Rattle.rows_cell.specs.declared.tables.Session.{Session}
+use Rattle.rows_cell.specs.declared.tables.SessionRow.{SessionRow}
 use Rattle.rows_cell.specs.declared.tables.LockRow.{LockRow}
 use Rattle.rows_cell.specs.declared.tables.LockState.{LockState}
 use Rattle.rows_cell.specs.declared.tables.LockState.TheVariants.{Lapsed, Exclusive, Shared}
@@ -29,7 +29,7 @@ use Rattle.rows_remote.specs.declared.kinds.EditKind.TheVariants as edit_of
 unfoldable pub stored : Form StoredNode
 stored = made (λ x. record { node = x.0; lock_generation = x.1 }) (λ s. (s.node, s.lock_generation)) (node ⊗ word)
 
-unfoldable pub session : Form Session
+unfoldable pub session : Form SessionRow
 session = made (λ x. record { principal = x.0; live = x.1 }) (λ s. (s.principal, s.live)) (component ⊗ flags)
 
 unfoldable pub lock_key : Form LockKey
@@ -56,7 +56,7 @@ secret = tested BadNumber is_secret block
 unfoldable pub named : Form (List ℕ × StoredNode)
 named = name ⊗ stored
 
-unfoldable pub numbered : Form (ℕ × Session)
+unfoldable pub numbered : Form (ℕ × SessionRow)
 numbered = word ⊗ session
 
 unfoldable pub keyed : Form (LockKey × LockRow)

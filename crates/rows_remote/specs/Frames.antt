@@ -6,17 +6,17 @@ use Rattle.codec.specs.declared.faults.WireFault.{WireFault}
 use Rattle.codec.specs.declared.faults.WireFault.TheVariants.{TooLong}
 use Rattle.codec.specs.Forms.{◌>>=◌, Form, nothing, ◌⊗◌, choice, of_kind, behind, counted, version, length_end, short_of, written, read_whole}
 use Rattle.codec.specs.Fields.{word}
-use Rattle.rows_remote.specs.declared.frames.Asked.{Asked}
-use Rattle.rows_remote.specs.declared.frames.Asked.TheVariants as asks
-use Rattle.rows_remote.specs.declared.frames.Answer.{Answer}
-use Rattle.rows_remote.specs.declared.frames.Answer.TheVariants as answers
+use Rattle.rows_remote.specs.declared.frames.KeeperQuestion.{KeeperQuestion}
+use Rattle.rows_remote.specs.declared.frames.KeeperQuestion.TheVariants as asks
+use Rattle.rows_remote.specs.declared.frames.KeeperAnswer.{KeeperAnswer}
+use Rattle.rows_remote.specs.declared.frames.KeeperAnswer.TheVariants as answers
 use Rattle.rows_remote.specs.declared.frames.Own.{Own}
 use Rattle.rows_remote.specs.declared.frames.Row.{Row}
 use Rattle.rows_remote.specs.declared.frames.Whole.{Whole}
 use Rattle.rows_remote.specs.declared.kinds.AskedKind.{AskedKind}
 use Rattle.rows_remote.specs.declared.kinds.AskedKind.TheVariants as ask_of
-use Rattle.rows_remote.specs.declared.kinds.AnswerKind.{AnswerKind}
-use Rattle.rows_remote.specs.declared.kinds.AnswerKind.TheVariants as answer_of
+use Rattle.rows_remote.specs.declared.kinds.KeeperAnswerKind.{KeeperAnswerKind}
+use Rattle.rows_remote.specs.declared.kinds.KeeperAnswerKind.TheVariants as answer_of
 use Rattle.rows_remote.specs.Forms.{own, row, whole, edit, all_of_edits}
 
 -- ---- what is asked
@@ -32,58 +32,58 @@ abbrev pub asked_place : AskedKind → ℕ
 asked_place ask_of.Load = 0
 asked_place ask_of.Commit = 1
 
-abbrev pub asked_kind : Asked → AskedKind
+abbrev pub asked_kind : KeeperQuestion → AskedKind
 asked_kind asks.Load = ask_of.Load
 asked_kind (asks.Commit number edits) = ask_of.Commit
 
-abbrev pub asked_is : Asked → Type 0
+abbrev pub asked_is : KeeperQuestion → Type 0
 asked_is asks.Load = Unit {0}
 asked_is (asks.Commit number edits) = change.is (number, edits)
 
-abbrev pub asked_bytes : Asked → List ℕ
+abbrev pub asked_bytes : KeeperQuestion → List ℕ
 asked_bytes asks.Load = []
 asked_bytes (asks.Commit number edits) = change.write (number, edits)
 
-abbrev pub asked_behind : AskedKind → List ℕ → Result (Asked × List ℕ) WireFault
+abbrev pub asked_behind : AskedKind → List ℕ → Result (KeeperQuestion × List ℕ) WireFault
 asked_behind ask_of.Load rest = behind (λ _. asks.Load) nothing rest
 asked_behind ask_of.Commit rest = behind (λ x. asks.Commit x.0 x.1) change rest
 
 -- the kind of it, and its fields
-unfoldable pub asked : Form Asked
+unfoldable pub asked : Form KeeperQuestion
 asked = of_kind (choice all_asked asked_place) asked_kind asked_is asked_bytes asked_behind
 
 -- ---- what is answered
 
-abbrev pub all_answers : List AnswerKind
+abbrev pub all_answers : List KeeperAnswerKind
 all_answers = answer_of.Rows ∷ answer_of.Kept ∷ answer_of.Refused ∷ []
 
-abbrev pub answer_place : AnswerKind → ℕ
+abbrev pub answer_place : KeeperAnswerKind → ℕ
 answer_place answer_of.Rows = 0
 answer_place answer_of.Kept = 1
 answer_place answer_of.Refused = 2
 
-abbrev pub answer_kind : Answer → AnswerKind
+abbrev pub answer_kind : KeeperAnswer → KeeperAnswerKind
 answer_kind (answers.Rows all) = answer_of.Rows
 answer_kind answers.Kept = answer_of.Kept
 answer_kind answers.Refused = answer_of.Refused
 
-abbrev pub answer_is : Answer → Type 0
+abbrev pub answer_is : KeeperAnswer → Type 0
 answer_is (answers.Rows all) = whole.is all
 answer_is answers.Kept = Unit {0}
 answer_is answers.Refused = Unit {0}
 
-abbrev pub answer_bytes : Answer → List ℕ
+abbrev pub answer_bytes : KeeperAnswer → List ℕ
 answer_bytes (answers.Rows all) = whole.write all
 answer_bytes answers.Kept = []
 answer_bytes answers.Refused = []
 
-abbrev pub answer_behind : AnswerKind → List ℕ → Result (Answer × List ℕ) WireFault
+abbrev pub answer_behind : KeeperAnswerKind → List ℕ → Result (KeeperAnswer × List ℕ) WireFault
 answer_behind answer_of.Rows rest = behind answers.Rows whole rest
 answer_behind answer_of.Kept rest = behind (λ _. answers.Kept) nothing rest
 answer_behind answer_of.Refused rest = behind (λ _. answers.Refused) nothing rest
 
 -- the kind of it, and its fields
-unfoldable pub answer : Form Answer
+unfoldable pub answer : Form KeeperAnswer
 answer = of_kind (choice all_answers answer_place) answer_kind answer_is answer_bytes answer_behind
 
 -- ---- in a stream
@@ -97,7 +97,7 @@ abbrev pub framed : {X : Type 0} → Form X → X → Result (List ℕ) WireFaul
 framed f x = written f x >>= λ bytes. Ok (counted.write bytes)
 
 -- the answer that stands at the front, and what stands behind it
-abbrev pub answer_at : List ℕ → Result (Answer × List ℕ) WireFault
+abbrev pub answer_at : List ℕ → Result (KeeperAnswer × List ℕ) WireFault
 answer_at bytes = counted.read bytes >>= λ block. read_whole answer block.0 >>= λ told. Ok (told, block.1)
 
 -- a block stands at the front of the text, and behind it stands the rest, where it is known

@@ -8,7 +8,7 @@ use Rattle.std.specs.Str.{bytes_eq}
 use Rattle.node_core.specs.declared.nodes.Node.{Node}
 use Rattle.rows_cell.specs.declared.tables.Rows.{Rows}
 use Rattle.rows_cell.specs.declared.tables.StoredNode.{StoredNode}
-use Rattle.rows_cell.specs.declared.tables.Session.{Session}
+use Rattle.rows_cell.specs.declared.tables.SessionRow.{SessionRow}
 use Rattle.rows_cell.specs.declared.tables.LockRow.{LockRow}
 use Rattle.rows_cell.specs.declared.tables.Edit.{Edit}
 use Rattle.rows_cell.specs.declared.keys.LockKey.{LockKey}
@@ -19,8 +19,8 @@ use Rattle.codec.specs.Fields.{kind_place, life_place}
 use Rattle.rows_remote.specs.declared.frames.Row.{Row}
 use Rattle.rows_remote.specs.declared.frames.Row.TheVariants as rows
 use Rattle.rows_remote.specs.declared.frames.Whole.{Whole}
-use Rattle.rows_remote.specs.declared.records.Note.{Note}
-use Rattle.rows_remote.specs.declared.records.Note.TheVariants.{Began, Read, Damaged, Done, Tried}
+use Rattle.rows_remote.specs.declared.records.KeeperHistory.{KeeperHistory}
+use Rattle.rows_remote.specs.declared.records.KeeperHistory.TheVariants.{Began, Read, Damaged, Done, Tried}
 use Rattle.rows_remote.specs.Forms.{state_place}
 
 -- ---- the rows that are told
@@ -55,7 +55,7 @@ same_node x y = same_numbers x y && same_names x y && life_place x.life == life_
 abbrev pub same_stored : List ℕ × StoredNode → List ℕ × StoredNode → Bool
 same_stored x y = bytes_eq x.0 y.0 && same_node x.1.node y.1.node && x.1.lock_generation == y.1.lock_generation
 
-abbrev pub same_session : ℕ × Session → ℕ × Session → Bool
+abbrev pub same_session : ℕ × SessionRow → ℕ × SessionRow → Bool
 same_session x y = x.0 == y.0 && bytes_eq x.1.principal y.1.principal && flag x.1.live == flag y.1.live
 
 abbrev pub same_key : LockKey → LockKey → Bool
@@ -91,7 +91,7 @@ abbrev pub no_rows : Rows
 no_rows = record { cell = []; secret = []; epoch = 0; next_instance = 0; nodes = []; sessions = []; locks = [] }
 
 -- the first rows that are told stand alone, and rows that are told later stand from then on; a change stands alone once it is kept, and where it is refused a crash may leave it beside all that it could leave before
-abbrev pub noted : Note → List Edit → Stood → Stood
+abbrev pub noted : KeeperHistory → List Edit → Stood → Stood
 noted (Began rows) change s = record { rows = rows; left = rows ∷ []; doubt = 0 }
 noted (Read rows) change s = record s { rows = rows; doubt = s.doubt + doubt_of s.rows rows }
 noted (Damaged rows) change s = record s { doubt = s.doubt + doubt_of s.rows rows }
@@ -99,7 +99,7 @@ noted Done change s = record s { rows = changed_rows s.rows change; left = chang
 noted Tried change s = record s { left = s.left ++ changed_rows s.rows change ∷ [] }
 
 -- the rows of a note, if there are any
-abbrev pub told_in : Note → Option Rows
+abbrev pub told_in : KeeperHistory → Option Rows
 told_in (Began rows) = Some rows
 told_in (Read rows) = Some rows
 told_in (Damaged rows) = Some rows
@@ -107,5 +107,5 @@ told_in Done = None
 told_in Tried = None
 
 -- what a history comes to
-abbrev pub stood : List (Note × List Edit) → Stood
+abbrev pub stood : List (KeeperHistory × List Edit) → Stood
 stood = fold (λ s n. noted n.0 n.1 s) (record { rows = no_rows; left = []; doubt = 0 })

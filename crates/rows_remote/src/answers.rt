@@ -4,16 +4,16 @@ ghost use Rattle.collections.specs.Results.{Gives};
 ghost use Rattle.codec.specs.Forms.{Form, Reads, written, read_whole};
 ghost use Rattle.rows_remote.specs.Frames.{answer, answer_behind};
 
-use crate::frames::Answer;
-use crate::inputs::{Input, begin};
-use crate::kinds::{ANSWER_KINDS, AnswerKind};
+use crate::frames::KeeperAnswer;
+use crate::inputs::{AnswerInput, begin};
+use crate::kinds::{ANSWER_KINDS, KeeperAnswerKind};
 use crate::rows::read_all_rows;
 use codec::WireFault;
 use std::alloc::Global;
 
 /// The answer of all of these bytes, without the number in front; or what is wrong with them, the first from the left. It
 /// takes memory for what stands there, whatever a count or a length in the bytes says.
-pub fn read_answer(alloc: Global, bytes: &[u8]) -> Result<Answer, WireFault>
+pub fn read_answer(alloc: Global, bytes: &[u8]) -> Result<KeeperAnswer, WireFault>
     ensures answer { Gives WireFault.NoMemory result (read_whole answer bytes.now) }
     ensures back { IfOk result (λ told. written answer told ≡ Ok bytes.now) }
 {
@@ -26,19 +26,23 @@ pub fn read_answer(alloc: Global, bytes: &[u8]) -> Result<Answer, WireFault>
 }
 
 #[tactic(auto, unfolding(crate::specs::Frames::answer))]
-fn read_body(alloc: Global, input: &mut Input) -> Result<Answer, WireFault>
+fn read_body(alloc: Global, input: &mut AnswerInput) -> Result<KeeperAnswer, WireFault>
     ensures { Reads (λ x. x) result input.new (answer.read input.old) }
 {
     let kind = input.choice(&ANSWER_KINDS)?;
     read_body_of(alloc, input, kind)
 }
 
-fn read_body_of(alloc: Global, input: &mut Input, kind: AnswerKind) -> Result<Answer, WireFault>
+fn read_body_of(
+    alloc: Global,
+    input: &mut AnswerInput,
+    kind: KeeperAnswerKind,
+) -> Result<KeeperAnswer, WireFault>
     ensures { Reads (λ x. x) result input.new (answer_behind kind input.old) }
 {
     Ok(match kind {
-        AnswerKind::Rows => Answer::Rows(read_all_rows(alloc, input)?),
-        AnswerKind::Kept => Answer::Kept,
-        AnswerKind::Refused => Answer::Refused,
+        KeeperAnswerKind::Rows => KeeperAnswer::Rows(read_all_rows(alloc, input)?),
+        KeeperAnswerKind::Kept => KeeperAnswer::Kept,
+        KeeperAnswerKind::Refused => KeeperAnswer::Refused,
     })
 }

@@ -2,12 +2,12 @@
 ghost use Rattle.std.specs.Prelude.{◌≡◌, Ok, IfOk, OnOk};
 ghost use Rattle.collections.specs.Results.{Gives};
 ghost use Rattle.codec.specs.Forms.{Appends, Form, Reads, written, read_whole};
-ghost use Rattle.rows_remote.specs.declared.frames.Asked.TheVariants as asks;
+ghost use Rattle.rows_remote.specs.declared.frames.KeeperQuestion.TheVariants as asks;
 ghost use Rattle.rows_remote.specs.Frames.{asked, asked_behind, framed};
 
 use crate::edits::{put_edits, read_edits};
-use crate::frames::Asked;
-use crate::inputs::{Input, begin};
+use crate::frames::KeeperQuestion;
+use crate::inputs::{AnswerInput, begin};
 use crate::kinds::{ASKED_KINDS, AskedKind};
 use crate::outputs::{in_front, put_byte, put_word};
 use codec::{VERSION, WireFault};
@@ -56,7 +56,7 @@ fn put_commit(out: &mut Vec<u8>, number: u64, edits: &Items<Edit>) -> Result<(),
 
 /// What is asked by all of these bytes, without the number in front; or what is wrong with them, the first from the left. It takes
 /// memory for what stands there, whatever a count or a length in the bytes says.
-pub fn read_asked(alloc: Global, bytes: &[u8]) -> Result<Asked, WireFault>
+pub fn read_asked(alloc: Global, bytes: &[u8]) -> Result<KeeperQuestion, WireFault>
     ensures asked { Gives WireFault.NoMemory result (read_whole asked bytes.now) }
     ensures back { IfOk result (λ question. written asked question ≡ Ok bytes.now) }
 {
@@ -69,7 +69,7 @@ pub fn read_asked(alloc: Global, bytes: &[u8]) -> Result<Asked, WireFault>
 }
 
 #[tactic(auto, unfolding(crate::specs::Frames::asked))]
-fn read_body(alloc: Global, input: &mut Input) -> Result<Asked, WireFault>
+fn read_body(alloc: Global, input: &mut AnswerInput) -> Result<KeeperQuestion, WireFault>
     ensures { Reads (λ x. x) result input.new (asked.read input.old) }
 {
     let kind = input.choice(&ASKED_KINDS)?;
@@ -77,11 +77,15 @@ fn read_body(alloc: Global, input: &mut Input) -> Result<Asked, WireFault>
 }
 
 #[tactic(auto, unfolding(crate::specs::Frames::change))]
-fn read_body_of(alloc: Global, input: &mut Input, kind: AskedKind) -> Result<Asked, WireFault>
+fn read_body_of(
+    alloc: Global,
+    input: &mut AnswerInput,
+    kind: AskedKind,
+) -> Result<KeeperQuestion, WireFault>
     ensures { Reads (λ x. x) result input.new (asked_behind kind input.old) }
 {
     Ok(match kind {
-        AskedKind::Load => Asked::Load,
-        AskedKind::Commit => Asked::Commit(input.word()?, read_edits(alloc, input)?),
+        AskedKind::Load => KeeperQuestion::Load,
+        AskedKind::Commit => KeeperQuestion::Commit(input.word()?, read_edits(alloc, input)?),
     })
 }

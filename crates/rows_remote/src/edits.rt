@@ -8,7 +8,7 @@ ghost use Rattle.rows_remote.specs.Frames.{edit_at};
 use crate::holders::{
     put_keyed, put_lock_key, put_numbered, read_lock_key, read_lock_row, read_session,
 };
-use crate::inputs::Input;
+use crate::inputs::AnswerInput;
 use crate::kinds::{EDIT_KINDS, EditKind};
 use crate::nodes::{put_node, read_node};
 use crate::outputs::{put_byte, put_count, put_word};
@@ -92,13 +92,13 @@ pub(crate) fn put_edits(out: &mut Vec<u8>, edits: &[Edit]) -> Result<(), AllocEr
 pub fn read_edit(alloc: Global, bytes: &[u8]) -> Result<(Edit, usize), WireFault>
     ensures { Gives WireFault.NoMemory result (edit_at bytes.now) }
 {
-    let mut input = Input::new(bytes);
+    let mut input = AnswerInput::new(bytes);
     let done = edit_in(alloc, &mut input)?;
     Ok((done, bytes.len().saturating_sub(input.len())))
 }
 
 #[tactic(auto, unfolding(crate::specs::Forms::edit))]
-fn edit_in(alloc: Global, input: &mut Input) -> Result<Edit, WireFault>
+fn edit_in(alloc: Global, input: &mut AnswerInput) -> Result<Edit, WireFault>
     ensures { Reads (λ x. x) result input.new (edit.read input.old) }
 {
     let kind = input.choice(&EDIT_KINDS)?;
@@ -106,7 +106,7 @@ fn edit_in(alloc: Global, input: &mut Input) -> Result<Edit, WireFault>
 }
 
 #[tactic(auto, unfolding(crate::specs::Forms::node_put, crate::specs::Forms::generation_set, crate::specs::Forms::numbered, crate::specs::Forms::keyed))]
-fn edit_of(alloc: Global, input: &mut Input, kind: EditKind) -> Result<Edit, WireFault>
+fn edit_of(alloc: Global, input: &mut AnswerInput, kind: EditKind) -> Result<Edit, WireFault>
     ensures { Reads (λ x. x) result input.new (edit_behind kind input.old) }
 {
     Ok(match kind {
@@ -122,7 +122,7 @@ fn edit_of(alloc: Global, input: &mut Input, kind: EditKind) -> Result<Edit, Wir
 }
 
 #[tactic(auto, unfolding(crate::specs::Forms::all_of_edits))]
-pub(crate) fn read_edits(alloc: Global, input: &mut Input) -> Result<Items<Edit>, WireFault>
+pub(crate) fn read_edits(alloc: Global, input: &mut AnswerInput) -> Result<Items<Edit>, WireFault>
     ensures { Reads (λ x. x) result input.new (all_of_edits.read input.old) }
 {
     let count = input.count()?;
@@ -130,7 +130,7 @@ pub(crate) fn read_edits(alloc: Global, input: &mut Input) -> Result<Items<Edit>
 }
 
 // So many of them. It takes memory for those that stand there, and none for a count that is too high.
-fn edits_in(alloc: Global, input: &mut Input, count: u32) -> Result<Items<Edit>, WireFault>
+fn edits_in(alloc: Global, input: &mut AnswerInput, count: u32) -> Result<Items<Edit>, WireFault>
     ensures { Reads (λ x. x) result input.new (read_all edit.read count input.old) }
 {
     let mut items = Vec::new(alloc);

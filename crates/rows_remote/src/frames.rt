@@ -1,14 +1,14 @@
 //! What is asked of the program that keeps the rows, and what it answers.
 use collections::{Items, Secret};
 use names_cell::{Component, Name};
-use rows_cell::{Edit, LockKey, LockRow, Session, StoredNode};
+use rows_cell::{Edit, LockKey, LockRow, SessionRow, StoredNode};
 
 /// One row of a cell, as it is told.
 #[derive(Drop)]
 pub enum Row {
     Node(Name, StoredNode),
     /// By client number.
-    Session(u64, Session),
+    Session(u64, SessionRow),
     Lock(LockKey, LockRow),
 }
 
@@ -41,7 +41,7 @@ pub struct Own {
 
 /// What is asked of the program that keeps the rows.
 #[derive(Drop)]
-pub enum Asked {
+pub enum KeeperQuestion {
     /// All rows.
     Load,
     /// That these edits be done, all of them or none, as the commit of this number.
@@ -50,7 +50,7 @@ pub enum Asked {
 
 /// What it answers.
 #[derive(Drop)]
-pub enum Answer {
+pub enum KeeperAnswer {
     /// All rows, as they stand.
     Rows(Whole),
     /// The edits stand.

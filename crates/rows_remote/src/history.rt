@@ -6,25 +6,25 @@ use std::marker::{Model, PhantomData};
 
 /// A clause reads the pairs as `items`.
 #[derive(Drop)]
-pub struct GhostLog<A, B> {
+pub struct KeeperLog<A, B> {
     of: PhantomData<(A, B)>,
     pub ghost items: { List (A × B) },
 }
 
-impl<A, B> Model for GhostLog<A, B> {
+impl<A, B> Model for KeeperLog<A, B> {
     ghost also_owns = { λ _. ftrue };
 }
 
-impl<A, B> GhostLog<A, B> {
-    pub fn new() -> GhostLog<A, B>
+impl<A, B> KeeperLog<A, B> {
+    pub fn new() -> KeeperLog<A, B>
         ensures { result.items ≡ [] }
     {
-        GhostLog { of: PhantomData }
+        KeeperLog { of: PhantomData }
     }
 
-    pub fn and(&self, first: &A, second: &B) -> GhostLog<A, B>
+    pub fn and(&self, first: &A, second: &B) -> KeeperLog<A, B>
         ensures { result.items ≡ self.now.items ++ (first.now, second.now) ∷ [] }
     {
-        GhostLog { of: PhantomData }
+        KeeperLog { of: PhantomData }
     }
 }

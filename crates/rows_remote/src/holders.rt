@@ -3,26 +3,26 @@ ghost use Rattle.std.specs.Prelude.{OnOk};
 ghost use Rattle.codec.specs.Forms.{Appends, Form, Reads};
 ghost use Rattle.rows_remote.specs.Forms.{session, lock_key, lock_state, lock_row, numbered, keyed};
 
-use crate::inputs::{FLAGS, Input};
+use crate::inputs::{AnswerInput, FLAGS};
 use crate::kinds::LOCK_STATES;
 use crate::outputs::{put_byte, put_word};
 use crate::texts::{put_principal, read_principal};
 use codec::WireFault;
-use rows_cell::{LockKey, LockRow, LockState, Session};
+use rows_cell::{LockKey, LockRow, LockState, SessionRow};
 use std::alloc::{AllocError, Global};
 
 #[tactic(auto, unfolding(crate::specs::Forms::session))]
-pub(crate) fn read_session(alloc: Global, input: &mut Input) -> Result<Session, WireFault>
+pub(crate) fn read_session(alloc: Global, input: &mut AnswerInput) -> Result<SessionRow, WireFault>
     ensures { Reads (λ x. x) result input.new (session.read input.old) }
 {
-    Ok(Session {
+    Ok(SessionRow {
         principal: read_principal(alloc, input)?,
         live: input.choice(&FLAGS)?,
     })
 }
 
 #[tactic(auto, unfolding(crate::specs::Forms::session))]
-fn put_session(out: &mut Vec<u8>, stands: &Session) -> Result<(), AllocError>
+fn put_session(out: &mut Vec<u8>, stands: &SessionRow) -> Result<(), AllocError>
     ensures { OnOk result (Appends session stands.now out.old.items out.new.items) }
 {
     put_principal(out, &stands.principal)?;
@@ -37,7 +37,7 @@ fn put_session(out: &mut Vec<u8>, stands: &Session) -> Result<(), AllocError>
 pub(crate) fn put_numbered(
     out: &mut Vec<u8>,
     client: u64,
-    stands: &Session,
+    stands: &SessionRow,
 ) -> Result<(), AllocError>
     ensures { OnOk result (Appends numbered (client, stands.now) out.old.items out.new.items) }
 {
@@ -46,7 +46,7 @@ pub(crate) fn put_numbered(
 }
 
 #[tactic(auto, unfolding(crate::specs::Forms::lock_key))]
-pub(crate) fn read_lock_key(input: &mut Input) -> Result<LockKey, WireFault>
+pub(crate) fn read_lock_key(input: &mut AnswerInput) -> Result<LockKey, WireFault>
     ensures { Reads (λ x. x) result input.new (lock_key.read input.old) }
 {
     Ok(LockKey {
@@ -66,7 +66,7 @@ pub(crate) fn put_lock_key(out: &mut Vec<u8>, key: LockKey) -> Result<(), AllocE
 }
 
 #[tactic(auto, unfolding(crate::specs::Forms::lock_state))]
-fn read_lock_state(input: &mut Input) -> Result<LockState, WireFault>
+fn read_lock_state(input: &mut AnswerInput) -> Result<LockState, WireFault>
     ensures { Reads (λ x. x) result input.new (lock_state.read input.old) }
 {
     input.choice(&LOCK_STATES)
@@ -84,7 +84,7 @@ fn put_lock_state(out: &mut Vec<u8>, state: LockState) -> Result<(), AllocError>
 }
 
 #[tactic(auto, unfolding(crate::specs::Forms::lock_row))]
-pub(crate) fn read_lock_row(input: &mut Input) -> Result<LockRow, WireFault>
+pub(crate) fn read_lock_row(input: &mut AnswerInput) -> Result<LockRow, WireFault>
     ensures { Reads (λ x. x) result input.new (lock_row.read input.old) }
 {
     Ok(LockRow {

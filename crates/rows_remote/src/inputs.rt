@@ -13,11 +13,11 @@ pub(crate) const FLAGS: [bool; 2] = [false, true];
 
 // What is left to read. To a contract, the list of its bytes.
 #[derive(Drop)]
-pub(crate) struct Input<'a> {
+pub(crate) struct AnswerInput<'a> {
     rest: &'a [u8],
 }
 
-impl<'a> Model for Input<'a> {
+impl<'a> Model for AnswerInput<'a> {
     ghost use Rattle.std.specs.Prelude.{List, ℕ};
 
     ghost Value = { List ℕ };
@@ -25,11 +25,11 @@ impl<'a> Model for Input<'a> {
     ghost view = { λ input. input.rest.now };
 }
 
-impl<'a> Input<'a> {
-    pub(crate) fn new(bytes: &'a [u8]) -> Input<'a>
+impl<'a> AnswerInput<'a> {
+    pub(crate) fn new(bytes: &'a [u8]) -> AnswerInput<'a>
         ensures { result ≡ bytes.now }
     {
-        Input { rest: bytes }
+        AnswerInput { rest: bytes }
     }
 
     pub(crate) fn is_empty(&self) -> bool
@@ -101,7 +101,7 @@ impl<'a> Input<'a> {
 pub(crate) const LENGTH_END: usize = 0x1_0000_0000;
 
 // What stands behind the version.
-pub(crate) fn begin(bytes: &[u8]) -> Result<Input, WireFault>
+pub(crate) fn begin(bytes: &[u8]) -> Result<AnswerInput, WireFault>
     ensures { Gives WireFault.NoMemory result (begin_at bytes.now) }
 {
     if bytes.len() >= LENGTH_END {
@@ -109,7 +109,7 @@ pub(crate) fn begin(bytes: &[u8]) -> Result<Input, WireFault>
     }
     match bytes {
         [] => Err(WireFault::Cut),
-        [VERSION, rest @ ..] => Ok(Input::new(rest)),
+        [VERSION, rest @ ..] => Ok(AnswerInput::new(rest)),
         [_, ..] => Err(WireFault::BadVersion),
     }
 }

@@ -46,16 +46,16 @@ pub(crate) const ASKED_KINDS: [AskedKind; 2] = [AskedKind::Load, AskedKind::Comm
 
 /// Of which kind an answer is.
 #[derive(Clone, Copy)]
-pub enum AnswerKind {
+pub enum KeeperAnswerKind {
     Rows,
     Kept,
     Refused,
 }
 
-pub(crate) const ANSWER_KINDS: [AnswerKind; 3] = [
-    AnswerKind::Rows,
-    AnswerKind::Kept,
-    AnswerKind::Refused,
+pub(crate) const ANSWER_KINDS: [KeeperAnswerKind; 3] = [
+    KeeperAnswerKind::Rows,
+    KeeperAnswerKind::Kept,
+    KeeperAnswerKind::Refused,
 ];
 
 // How a lock may stand, each at its place.

@@ -22,12 +22,12 @@ mod told;
 pub use answers::read_answer;
 pub use asked::{EDITS_AT, read_asked, write_commit, write_load};
 pub use edits::read_edit;
-pub use frames::{Answer, Asked, Own, Row, Whole};
-pub use history::GhostLog;
-pub use kinds::{AnswerKind, AskedKind, EditKind, RowKind};
+pub use frames::{KeeperAnswer, KeeperQuestion, Own, Row, Whole};
+pub use history::KeeperLog;
+pub use kinds::{AskedKind, EditKind, KeeperAnswerKind, RowKind};
 pub use laws::{
     edits_stand_behind, read_answer_was_written, read_asked_was_written, rows_stand_behind,
     written_answer_is_read, written_asked_is_read,
 };
-pub use records::{FrameRecords, Note, Standing};
+pub use records::{FrameRecords, KeeperHistory, KeeperStanding};
 pub use told::{write_front, write_kept, write_refused, write_row};

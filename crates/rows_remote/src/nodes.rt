@@ -4,7 +4,7 @@ ghost use Rattle.codec.specs.Forms.{Reads, Appends, Form};
 ghost use Rattle.codec.specs.Fields.{kind, life};
 ghost use Rattle.codec.specs.Outs.{node};
 
-use crate::inputs::Input;
+use crate::inputs::AnswerInput;
 use crate::outputs::{put_block, put_byte, put_word};
 use crate::texts::{put_component, read_bytes, read_component};
 use codec::WireFault;
@@ -14,7 +14,7 @@ use std::alloc::{AllocError, Global};
 const KINDS: [Kind; 2] = [Kind::File, Kind::Directory];
 
 #[tactic(auto, unfolding(codec::specs::Fields::kind))]
-fn read_kind(input: &mut Input) -> Result<Kind, WireFault>
+fn read_kind(input: &mut AnswerInput) -> Result<Kind, WireFault>
     ensures { Reads (λ x. x) result input.new (kind.read input.old) }
 {
     input.choice(&KINDS)
@@ -33,7 +33,7 @@ fn put_kind(out: &mut Vec<u8>, chosen: Kind) -> Result<(), AllocError>
 const LIVES: [Life; 2] = [Life::Permanent, Life::Ephemeral];
 
 #[tactic(auto, unfolding(codec::specs::Fields::life))]
-fn read_life(input: &mut Input) -> Result<Life, WireFault>
+fn read_life(input: &mut AnswerInput) -> Result<Life, WireFault>
     ensures { Reads (λ x. x) result input.new (life.read input.old) }
 {
     input.choice(&LIVES)
@@ -50,7 +50,7 @@ fn put_life(out: &mut Vec<u8>, chosen: Life) -> Result<(), AllocError>
 }
 
 #[tactic(auto, unfolding(codec::specs::Outs::node))]
-pub(crate) fn read_node(alloc: Global, input: &mut Input) -> Result<Node, WireFault>
+pub(crate) fn read_node(alloc: Global, input: &mut AnswerInput) -> Result<Node, WireFault>
     ensures { Reads (λ x. x) result input.new (node.read input.old) }
 {
     Ok(Node {

@@ -6,14 +6,14 @@ ghost use Rattle.rows_cell.specs.declared.tables.Rows.{Rows as Held};
 ghost use Rattle.rows_cell.specs.Stores.{Commits, Loads, told};
 ghost use Rattle.rows_cell.specs.Sound.{sound};
 ghost use Rattle.rows_cell.specs.Rows.{changed_rows};
-ghost use Rattle.rows_remote.specs.declared.frames.Asked.TheVariants as asks;
+ghost use Rattle.rows_remote.specs.declared.frames.KeeperQuestion.TheVariants as asks;
 ghost use Rattle.rows_remote.specs.Frames.{asked, framed};
 ghost use Rattle.rows_remote.specs.Asking.{begun, IsOpened, CommitsBy, LoadsBy, TakesRows, GivesFirst, refused_again, with_tried};
 ghost use Rattle.rows_remote.specs.Keeping.{told_in, noted, stood};
 
 use crate::asked::{write_commit, write_load};
-use crate::frames::{Answer, Whole};
-use crate::history::GhostLog;
+use crate::frames::{KeeperAnswer, Whole};
+use crate::history::KeeperLog;
 use crate::rows::rows_of;
 use crate::streams::ask;
 use codec::WireFault;
@@ -27,7 +27,7 @@ use std::marker::Model;
 
 /// What was told of the rows: the first ones, or later ones, sound or damaged; or a change was kept, or refused.
 #[derive(Drop)]
-pub enum Note {
+pub enum KeeperHistory {
     Began(Rows),
     Read(Rows),
     Damaged(Rows),
@@ -37,7 +37,7 @@ pub enum Note {
 
 /// How it stands with the program that keeps the rows.
 #[derive(Clone, Copy, Debug, PartialEq, Eq)]
-pub enum Standing {
+pub enum KeeperStanding {
     /// It may be asked for a commit.
     Ready,
     /// It refused a commit: it is asked for none before all rows are loaded.
@@ -55,9 +55,9 @@ pub struct FrameRecords<I: Read, W: Write> {
     answered: I,
     number: u64,
     refusals: u64,
-    standing: Standing,
+    standing: KeeperStanding,
     first: Option<Rows>,
-    past: GhostLog<Note, Items<Edit>>,
+    past: KeeperLog<KeeperHistory, Items<Edit>>,
 }
 
 impl<I: Read, W: Write> Model for FrameRecords<I, W> {
@@ -104,22 +104,23 @@ impl<I: Read + Drop, W: Write + Drop> Drop for FrameRecords<I, W> {
 }
 
 fn noted(
-    past: &GhostLog<Note, Items<Edit>>,
-    note: &Note,
+    past: &KeeperLog<KeeperHistory, Items<Edit>>,
+    note: &KeeperHistory,
     change: &Items<Edit>,
-) -> GhostLog<Note, Items<Edit>>
+) -> KeeperLog<KeeperHistory, Items<Edit>>
     ensures { stood result.items ≡ noted note.now change.now (stood past.now.items) }
 {
     past.and(note, change)
 }
 
 // The rows of a note, if there are any.
-fn rows_in(note: Note) -> Option<Rows>
+fn rows_in(note: KeeperHistory) -> Option<Rows>
     ensures { result ≡ told_in note }
 {
     match note {
-        Note::Began(rows) | Note::Read(rows) | Note::Damaged(rows) => Some(rows),
-        Note::Done | Note::Tried => None,
+        KeeperHistory::Began(rows) | KeeperHistory::Read(rows) | KeeperHistory::Damaged(rows) =>
+            Some(rows),
+        KeeperHistory::Done | KeeperHistory::Tried => None,
     }
 }
 
@@ -135,8 +136,8 @@ fn begun<I: Read, W: Write>(
     ensures { result ≡ begun cell number rows (W.contents asked) (I.remaining answered) }
 {
     let none = Items::new(alloc);
-    let note = Note::Began(rows);
-    let past = noted(&GhostLog::new(), &note, &none);
+    let note = KeeperHistory::Began(rows);
+    let past = noted(&KeeperLog::new(), &note, &none);
     FrameRecords {
         alloc,
         cell,
@@ -144,7 +145,7 @@ fn begun<I: Read, W: Write>(
         answered,
         number,
         refusals: 0,
-        standing: Standing::Ready,
+        standing: KeeperStanding::Ready,
         first: rows_in(note),
         past,
     }
@@ -166,8 +167,12 @@ impl<I: Read + Drop, W: Write + Drop> FrameRecords<I, W> {
         let Ok(question) = write_load(alloc) else {
             return Err(StoreFault::NoMemory);
         };
-        let Some(Answer::Rows(whole)) = ask(alloc, &mut asked, &mut answered, question.as_slice())
-        else {
+        let Some(KeeperAnswer::Rows(whole)) = ask(
+            alloc,
+            &mut asked,
+            &mut answered,
+            question.as_slice(),
+        ) else {
             return Err(StoreFault::Refused);
         };
         let (number, rows) = rows_of(alloc, whole)?;
@@ -187,19 +192,19 @@ impl<I: Read, W: Write> FrameRecords<I, W> {
     }
 
     // Notes that a commit was asked for, which isn't known to stand: it was refused, or not answered.
-    fn turn_down(&mut self, change: &Items<Edit>, standing: Standing) -> StoreFault
+    fn turn_down(&mut self, change: &Items<Edit>, standing: KeeperStanding) -> StoreFault
         requires { self.old.store.refusals < number_limit }
         ensures fault { result ≡ StoreFault.Refused }
         ensures tried { self.new ≡ with_tried standing change.now self.old }
     {
-        self.past = noted(&self.past, &Note::Tried, change);
+        self.past = noted(&self.past, &KeeperHistory::Tried, change);
         self.standing = standing;
         self.refuse()
     }
 
     // Asks for a commit of these bytes.
     fn ask_commit(&mut self, change: &Items<Edit>, question: &[u8]) -> Result<(), StoreFault>
-        requires ready { self.old.standing ≡ Standing.Ready }
+        requires ready { self.old.standing ≡ KeeperStanding.Ready }
         requires bytes { framed asked (asks.Commit (self.old.number + 1) change.now) ≡ Ok question.now }
         requires some { change.now ≢ [] }
         requires number { self.old.number < 2 ^ 64 - 1 }
@@ -209,20 +214,20 @@ impl<I: Read, W: Write> FrameRecords<I, W> {
     {
         self.first = None;
         match ask(self.alloc, &mut self.asked, &mut self.answered, question) {
-            Some(Answer::Kept) => {
-                self.past = noted(&self.past, &Note::Done, change);
+            Some(KeeperAnswer::Kept) => {
+                self.past = noted(&self.past, &KeeperHistory::Done, change);
                 self.number += 1;
                 Ok(())
             }
-            Some(Answer::Refused) => Err(self.turn_down(change, Standing::Behind)),
-            Some(Answer::Rows(_)) => Err(self.turn_down(change, Standing::Shut)),
-            None => Err(self.turn_down(change, Standing::Shut)),
+            Some(KeeperAnswer::Refused) => Err(self.turn_down(change, KeeperStanding::Behind)),
+            Some(KeeperAnswer::Rows(_)) => Err(self.turn_down(change, KeeperStanding::Shut)),
+            None => Err(self.turn_down(change, KeeperStanding::Shut)),
         }
     }
 
     // Asks for all rows.
     fn ask_rows(&mut self) -> Result<Rows, StoreFault>
-        requires open { self.old.standing ≢ Standing.Shut }
+        requires open { self.old.standing ≢ KeeperStanding.Shut }
         requires first { self.old.first ≡ None }
         requires counted { self.old.store.refusals < number_limit }
         ensures loads { Loads self.old.store self.new.store (told result) }
@@ -237,9 +242,9 @@ impl<I: Read, W: Write> FrameRecords<I, W> {
             &mut self.answered,
             question.as_slice(),
         ) {
-            Some(Answer::Rows(whole)) => self.take_rows(whole),
+            Some(KeeperAnswer::Rows(whole)) => self.take_rows(whole),
             _ => {
-                self.standing = Standing::Shut;
+                self.standing = KeeperStanding::Shut;
                 Err(self.refuse())
             }
         }
@@ -255,13 +260,13 @@ impl<I: Read, W: Write> FrameRecords<I, W> {
         let is_sound = is_sound(self.alloc, &self.cell, &rows)?;
         let none = Items::new(self.alloc);
         if !is_sound {
-            self.past = noted(&self.past, &Note::Damaged(rows), &none);
+            self.past = noted(&self.past, &KeeperHistory::Damaged(rows), &none);
             return Err(StoreFault::Damaged);
         }
-        let note = Note::Read(rows);
+        let note = KeeperHistory::Read(rows);
         self.past = noted(&self.past, &note, &none);
         self.number = number;
-        self.standing = Standing::Ready;
+        self.standing = KeeperStanding::Ready;
         rows_in(note).ok_or(StoreFault::NoMemory)
     }
 
@@ -300,7 +305,7 @@ impl<I: Read, W: Write> Records for FrameRecords<I, W> {
         if self.refusals == NUMBER_LIMIT {
             return Err(StoreFault::Exhausted);
         }
-        if matches!(self.standing, Standing::Shut) {
+        if matches!(self.standing, KeeperStanding::Shut) {
             return Err(self.refuse());
         }
         match self.first.take() {
@@ -322,7 +327,7 @@ impl<I: Read, W: Write> Records for FrameRecords<I, W> {
         if self.refusals == NUMBER_LIMIT {
             return Err(StoreFault::Exhausted);
         }
-        if !matches!(self.standing, Standing::Ready) || self.number == u64::MAX {
+        if !matches!(self.standing, KeeperStanding::Ready) || self.number == u64::MAX {
             return Err(self.refuse());
         }
         match write_commit(self.alloc, self.number + 1, change) {

@@ -6,7 +6,7 @@ ghost use Rattle.rows_remote.specs.Keeping.{with_row, with_rows, told_rows};
 
 use crate::frames::{Row, Whole};
 use crate::holders::{read_lock_key, read_lock_row, read_session};
-use crate::inputs::Input;
+use crate::inputs::AnswerInput;
 use crate::kinds::{ROW_KINDS, RowKind};
 use crate::nodes::read_node;
 use crate::texts::{read_component, read_name};
@@ -16,7 +16,7 @@ use rows_cell::{Rows, StoredNode};
 use std::alloc::{AllocError, Global};
 
 #[tactic(auto, unfolding(crate::specs::Forms::stored))]
-fn read_stored(alloc: Global, input: &mut Input) -> Result<StoredNode, WireFault>
+fn read_stored(alloc: Global, input: &mut AnswerInput) -> Result<StoredNode, WireFault>
     ensures { Reads (λ x. x) result input.new (stored.read input.old) }
 {
     Ok(StoredNode {
@@ -27,7 +27,7 @@ fn read_stored(alloc: Global, input: &mut Input) -> Result<StoredNode, WireFault
 
 // 32 bytes.
 #[tactic(auto, unfolding(crate::specs::Forms::secret))]
-fn read_secret(input: &mut Input) -> Result<Secret, WireFault>
+fn read_secret(input: &mut AnswerInput) -> Result<Secret, WireFault>
     ensures { Reads (λ x. x) result input.new (secret.read input.old) }
 {
     let bytes = input.block()?;
@@ -40,7 +40,7 @@ fn read_secret(input: &mut Input) -> Result<Secret, WireFault>
 }
 
 #[tactic(auto, unfolding(crate::specs::Forms::row))]
-fn read_row(alloc: Global, input: &mut Input) -> Result<Row, WireFault>
+fn read_row(alloc: Global, input: &mut AnswerInput) -> Result<Row, WireFault>
     ensures { Reads (λ x. x) result input.new (row.read input.old) }
 {
     let kind = input.choice(&ROW_KINDS)?;
@@ -48,7 +48,7 @@ fn read_row(alloc: Global, input: &mut Input) -> Result<Row, WireFault>
 }
 
 #[tactic(auto, unfolding(crate::specs::Forms::named, crate::specs::Forms::numbered, crate::specs::Forms::keyed))]
-fn read_row_of(alloc: Global, input: &mut Input, kind: RowKind) -> Result<Row, WireFault>
+fn read_row_of(alloc: Global, input: &mut AnswerInput, kind: RowKind) -> Result<Row, WireFault>
     ensures { Reads (λ x. x) result input.new (row_behind kind input.old) }
 {
     Ok(match kind {
@@ -59,7 +59,7 @@ fn read_row_of(alloc: Global, input: &mut Input, kind: RowKind) -> Result<Row, W
 }
 
 #[tactic(auto, unfolding(crate::specs::Forms::all_of_rows))]
-fn read_rows(alloc: Global, input: &mut Input) -> Result<Items<Row>, WireFault>
+fn read_rows(alloc: Global, input: &mut AnswerInput) -> Result<Items<Row>, WireFault>
     ensures { Reads (λ x. x) result input.new (all_of_rows.read input.old) }
 {
     let count = input.count()?;
@@ -67,7 +67,7 @@ fn read_rows(alloc: Global, input: &mut Input) -> Result<Items<Row>, WireFault>
 }
 
 // So many of them. It takes memory for those that stand there, and none for a count that is too high.
-fn rows_in(alloc: Global, input: &mut Input, count: u32) -> Result<Items<Row>, WireFault>
+fn rows_in(alloc: Global, input: &mut AnswerInput, count: u32) -> Result<Items<Row>, WireFault>
     ensures { Reads (λ x. x) result input.new (read_all row.read count input.old) }
 {
     let mut items = Vec::new(alloc);
@@ -79,7 +79,7 @@ fn rows_in(alloc: Global, input: &mut Input, count: u32) -> Result<Items<Row>, W
 }
 
 #[tactic(auto, unfolding(crate::specs::Forms::whole))]
-pub(crate) fn read_all_rows(alloc: Global, input: &mut Input) -> Result<Whole, WireFault>
+pub(crate) fn read_all_rows(alloc: Global, input: &mut AnswerInput) -> Result<Whole, WireFault>
     ensures { Reads (λ x. x) result input.new (whole.read input.old) }
 {
     Ok(Whole {

@@ -4,7 +4,7 @@ ghost use Rattle.std.specs.Io.KnownBytes.{Appends, Consumes};
 ghost use Rattle.rows_remote.specs.Asking.{Hears, HearsIn, IsSilence, IsUnheard, LosesSome, LosesShort, LosesCounted, kind_told, short_told};
 
 use crate::answers::read_answer;
-use crate::frames::Answer;
+use crate::frames::KeeperAnswer;
 use byteorder::{BigEndian, ByteOrder};
 use codec::VERSION;
 use output::write_bytes;
@@ -23,7 +23,7 @@ pub(crate) fn ask<I: Read, W: Write>(
     writer: &mut W,
     reader: &mut I,
     question: &[u8],
-) -> Option<Answer>
+) -> Option<KeeperAnswer>
     ensures sent { IfSome result (λ told. Appends (W.contents writer.old) (W.contents writer.new) question.now) }
     ensures heard { IfSome result (λ told. Hears (I.remaining reader.old) told (I.remaining reader.new)) }
     ensures silent { IfNone result (IsSilence question.now (W.contents writer.old) (W.contents writer.new) (I.remaining reader.old) (I.remaining reader.new)) }
@@ -35,7 +35,7 @@ pub(crate) fn ask<I: Read, W: Write>(
 }
 
 // The answer that stands next. None where none does, or it can't be read.
-fn hear<I: Read>(alloc: Global, reader: &mut I) -> Option<Answer>
+fn hear<I: Read>(alloc: Global, reader: &mut I) -> Option<KeeperAnswer>
     ensures heard { IfSome result (λ told. Hears (I.remaining reader.old) told (I.remaining reader.new)) }
     ensures none { IfNone result (IsUnheard (I.remaining reader.old) (I.remaining reader.new)) }
 {
@@ -47,7 +47,7 @@ fn hear<I: Read>(alloc: Global, reader: &mut I) -> Option<Answer>
 }
 
 // An answer of so many bytes, of which the number in front was read.
-fn hear_counted<I: Read>(alloc: Global, reader: &mut I, count: usize) -> Option<Answer>
+fn hear_counted<I: Read>(alloc: Global, reader: &mut I, count: usize) -> Option<KeeperAnswer>
     ensures heard { IfSome result (λ told. HearsIn count (I.remaining reader.old) told (I.remaining reader.new)) }
     ensures none { IfNone result (LosesCounted count (I.remaining reader.old) (I.remaining reader.new)) }
 {
@@ -59,7 +59,7 @@ fn hear_counted<I: Read>(alloc: Global, reader: &mut I, count: usize) -> Option<
 }
 
 // An answer without rows, of which the number in front was read. It takes no memory.
-fn hear_short<I: Read>(reader: &mut I) -> Option<Answer>
+fn hear_short<I: Read>(reader: &mut I) -> Option<KeeperAnswer>
     ensures heard { IfSome result (λ told. HearsIn 2 (I.remaining reader.old) told (I.remaining reader.new)) }
     ensures none { IfNone result (LosesShort (I.remaining reader.old) (I.remaining reader.new)) }
 {
@@ -71,7 +71,7 @@ fn hear_short<I: Read>(reader: &mut I) -> Option<Answer>
 }
 
 // The answer without rows that these bytes are.
-fn short_answer(bytes: &[u8]) -> Option<Answer>
+fn short_answer(bytes: &[u8]) -> Option<KeeperAnswer>
     ensures { result ≡ short_told bytes.now }
 {
     match bytes {
@@ -80,18 +80,18 @@ fn short_answer(bytes: &[u8]) -> Option<Answer>
     }
 }
 
-fn kind_answer(kind: u8) -> Option<Answer>
+fn kind_answer(kind: u8) -> Option<KeeperAnswer>
     ensures { result ≡ kind_told kind }
 {
     match kind {
-        1 => Some(Answer::Kept),
-        2 => Some(Answer::Refused),
+        1 => Some(KeeperAnswer::Kept),
+        2 => Some(KeeperAnswer::Refused),
         _ => None,
     }
 }
 
 // An answer of any number of bytes, of which the number in front was read.
-fn hear_long<I: Read>(alloc: Global, reader: &mut I, count: usize) -> Option<Answer>
+fn hear_long<I: Read>(alloc: Global, reader: &mut I, count: usize) -> Option<KeeperAnswer>
     ensures heard { IfSome result (λ told. HearsIn count (I.remaining reader.old) told (I.remaining reader.new)) }
     ensures none { IfNone result (LosesSome (I.remaining reader.old) (I.remaining reader.new)) }
 {

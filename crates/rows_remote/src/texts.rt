@@ -3,7 +3,7 @@ ghost use Rattle.std.specs.Prelude.{OnOk};
 ghost use Rattle.codec.specs.Forms.{Reads, Appends, Form};
 ghost use Rattle.codec.specs.Fields.{name, component, block};
 
-use crate::inputs::Input;
+use crate::inputs::AnswerInput;
 use crate::outputs::put_block;
 use codec::WireFault;
 use collections::Bytes;
@@ -12,7 +12,7 @@ use std::alloc::{AllocError, Global};
 use std::str;
 
 #[tactic(auto, unfolding(codec::specs::Fields::name))]
-pub(crate) fn read_name(alloc: Global, input: &mut Input) -> Result<Name, WireFault>
+pub(crate) fn read_name(alloc: Global, input: &mut AnswerInput) -> Result<Name, WireFault>
     ensures { Reads (λ x. x) result input.new (name.read input.old) }
 {
     let bytes = input.block()?;
@@ -30,7 +30,7 @@ pub(crate) fn put_name(out: &mut Vec<u8>, text: &Name) -> Result<(), AllocError>
 }
 
 #[tactic(auto, unfolding(codec::specs::Fields::component))]
-pub(crate) fn read_component(alloc: Global, input: &mut Input) -> Result<Component, WireFault>
+pub(crate) fn read_component(alloc: Global, input: &mut AnswerInput) -> Result<Component, WireFault>
     ensures { Reads (λ x. x) result input.new (component.read input.old) }
 {
     let bytes = input.block()?;
@@ -48,7 +48,7 @@ pub(crate) fn put_component(out: &mut Vec<u8>, text: &Component) -> Result<(), A
 }
 
 #[tactic(auto, unfolding(codec::specs::Fields::component))]
-pub(crate) fn read_principal(alloc: Global, input: &mut Input) -> Result<Principal, WireFault>
+pub(crate) fn read_principal(alloc: Global, input: &mut AnswerInput) -> Result<Principal, WireFault>
     ensures { Reads (λ x. x) result input.new (component.read input.old) }
 {
     let bytes = input.block()?;
@@ -66,7 +66,7 @@ pub(crate) fn put_principal(out: &mut Vec<u8>, text: &Principal) -> Result<(), A
 }
 
 // A content, or the bytes of a sequencer.
-pub(crate) fn read_bytes(alloc: Global, input: &mut Input) -> Result<Bytes, WireFault>
+pub(crate) fn read_bytes(alloc: Global, input: &mut AnswerInput) -> Result<Bytes, WireFault>
     ensures { Reads (λ x. x) result input.new (block.read input.old) }
 {
     let bytes = input.block()?;

@@ -3,7 +3,7 @@ ghost use Rattle.std.specs.Prelude.{◌≡◌, ◌+◌, ◌++◌, nat_lt, OnOk};
 ghost use Rattle.collections.specs.Results.{Gives};
 ghost use Rattle.codec.specs.Forms.{Appends, Form, length_end};
 ghost use Rattle.rows_remote.specs.Forms.{stored, named, own, row};
-ghost use Rattle.rows_remote.specs.declared.frames.Answer.TheVariants as answers;
+ghost use Rattle.rows_remote.specs.declared.frames.KeeperAnswer.TheVariants as answers;
 ghost use Rattle.rows_remote.specs.Frames.{answer, framed, row_written, front_before, rows_front};
 
 use crate::frames::{Own, Row};

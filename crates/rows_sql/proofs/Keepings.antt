@@ -17,15 +17,15 @@ use Rattle.rows_sql.specs.Held.{Says}
 use Rattle.rows_sql.specs.Ready.{tables_of, IsReady, IsStill, Quiet}
 use Rattle.rows_sql.proofs.SaidTables.{one_said}
 use Rattle.rows_sql.specs.Ongoing.{IsStore, Committed, MayCommit}
-use Rattle.rows_sql.specs.declared.records.Note.{Note}
+use Rattle.rows_sql.specs.declared.records.StoreHistory.{StoreHistory}
 use Rattle.rows_sql.specs.Keeping.{Stood, no_rows, noted, stood, IsLeft, Keeps, GoesOn}
 
 fold_last : {A B : Type 0} (f : B → A → B) (b : B) (xs : List A) (x : A) → fold f b (xs ++ x ∷ []) ≡ f (fold f b xs) x
 fold_last f b [] x = refl
 fold_last f b (y ∷ xs) x = fold_last f (f b y) xs x
 
-pub stood_last : (items : List (Note × List Edit)) (n : Note) (change : List Edit) → stood (items ++ (n, change) ∷ []) ≡ noted n change (stood items)
-stood_last items n change = fold_last (λ (s : Stood) (m : Note × List Edit). noted m.0 m.1 s) (record { rows = no_rows; left = [] }) items (n, change)
+pub stood_last : (items : List (StoreHistory × List Edit)) (n : StoreHistory) (change : List Edit) → stood (items ++ (n, change) ∷ []) ≡ noted n change (stood items)
+stood_last items n change = fold_last (λ (s : Stood) (m : StoreHistory × List Edit). noted m.0 m.1 s) (record { rows = no_rows; left = [] }) items (n, change)
 
 pub some_is : {X : Type 0} (a b : X) → Some a ≡ Some b → a ≡ b
 some_is a b e = cc

@@ -28,7 +28,7 @@ use Rattle.sqlite_rules.proofs.ListLemmas.{all_has}
 use Rattle.sqlite_rules.proofs.TableLemmas.{int_is}
 use Rattle.sqlite.specs.State.{State, Executes}
 use Rattle.names_cell.specs.Text.{is_component}
-use Rattle.rows_cell.specs.declared.tables.Session.{Session}
+use Rattle.rows_cell.specs.declared.tables.SessionRow.{SessionRow}
 use Rattle.rows_cell.specs.declared.tables.Edit.TheVariants.{PutSession}
 use Rattle.rows_sql.specs.OurSchema.{the_schema, sessions}
 use Rattle.rows_sql.specs.Decode.{count_of, count_in, live_of, component_in, session_from, session_in}
@@ -69,8 +69,8 @@ unfolding same_name joined
 nor_none = refl
 
 -- the client that a row says
-client_said : (o : Option ℕ) (b : Option Bool) (p : Option (List ℕ)) (e : ℕ × Session) → session_from o b p ≡ Some e → o ≡ Some e.0
-client_said (Some client) (Some live) (Some principal) e is = ap (λ (x : ℕ × Session). Some x.0) (same_some is)
+client_said : (o : Option ℕ) (b : Option Bool) (p : Option (List ℕ)) (e : ℕ × SessionRow) → session_from o b p ≡ Some e → o ≡ Some e.0
+client_said (Some client) (Some live) (Some principal) e is = ap (λ (x : ℕ × SessionRow). Some x.0) (same_some is)
 client_said _ _ _ e is = absurd cc
 
 module _ (c : ℤ) (p : List ℕ) (l : ℤ) where
@@ -116,7 +116,7 @@ module _ (c : ℤ) (p : List ℕ) (l : ℤ) where
       idle = nor_none;
     }
 
-    tested : (client : ℕ) → count_of c ≡ Some client → (r : Row) → Has es r → (e : ℕ × Session) → session_in (session_shown r) ≡ Some e → clash r ≡ is_at (nat_cmp client) e.0
+    tested : (client : ℕ) → count_of c ≡ Some client → (r : Row) → Has es r → (e : ℕ × SessionRow) → session_in (session_shown r) ≡ Some e → clash r ≡ is_at (nat_cmp client) e.0
     tested client counted r there e says =
         session_clash new r ∙ alone_and _ ∙ ap (λ v. equal Binary v (Int c)) (int_at r there)
         ∙ equal_counts (id_in (rowid r)) c e.0 client (client_said (count_in (column r 0)) (live_of (id_in (column r 3))) (component_in (column r 2)) e says) counted
@@ -125,7 +125,7 @@ module _ (c : ℤ) (p : List ℕ) (l : ℤ) where
         → PutIn 2 sessions refl put_session_text terms project params old new_state refl values 4 new new (0 ∷ []) becomes × Rewrote 4 (new_state.now.trees 4) old.now new_state.now
     session_put count ran = ran_put 2 sessions refl put_session_text terms project params old new_state refl values 4 new new (0 ∷ []) put_session_is put_session_plain becomes store how count ran
 
-pub session_there : (client : ℕ) (session : Session) (c p l : ValueRef) → bound_value (owned p) ≡ Text session.principal → is_component session.principal ≡ true → IsNumber c client → IsReadAs live_of l session.live
+pub session_there : (client : ℕ) (session : SessionRow) (c p l : ValueRef) → bound_value (owned p) ≡ Text session.principal → is_component session.principal ≡ true → IsNumber c client → IsReadAs live_of l session.live
     → (old new : State) → RanInside put_session_text (bound (c ∷ p ∷ l ∷ [])) old new → Changed (PutSession client session ∷ []) old new
 session_there client session c p l is_text named nc nl old new run =
     let row : bound (c ∷ p ∷ l ∷ []) ≡ Int nc.0 ∷ Text session.principal ∷ Int nl.0 ∷ [] = λ j. bound_value (owned (nc.1 j)) ∷ is_text j ∷ bound_value (owned (nl.1 j)) ∷ [] in

@@ -18,7 +18,7 @@ use Rattle.rows_cell.specs.declared.tables.Rows.{Rows}
 use Rattle.rows_sql.specs.declared.schema.ours.Version.{Version}
 use Rattle.rows_sql.specs.Decode.{meta_as}
 use Rattle.rows_sql.specs.Children.{Parents}
-use Rattle.rows_cell.specs.declared.tables.Session.{Session}
+use Rattle.rows_cell.specs.declared.tables.SessionRow.{SessionRow}
 use Rattle.rows_cell.specs.Rows.{StoredNodes, StoredLocks}
 use Rattle.sqlite_trees.proofs.ListLemmas.{map-map}
 use Rattle.std.specs.List.Sorted.{IsPermutation}
@@ -123,7 +123,7 @@ module _ (old new : Database) (rows : List Row) where
       children = subst (λ rs. HoldsChildren (map child_shown rs) children) (sym (children_kept 1 (λ e. absurd (omega (arith, e))) done)) h.children;
     }
 
-    pub sessions_say : Rewrote 4 rows old new → (sessions : List (ℕ × Session)) → HoldsSessions (map session_shown rows) sessions → SaysWith version (tables_of new.trees) (record was { sessions = sessions }) children
+    pub sessions_say : Rewrote 4 rows old new → (sessions : List (ℕ × SessionRow)) → HoldsSessions (map session_shown rows) sessions → SaysWith version (tables_of new.trees) (record was { sessions = sessions }) children
     sessions_say done sessions said = record {
       meta = ap (λ rs. map (meta_as version) (map meta_shown rs)) (metas_kept 4 (λ e. absurd (omega (arith, e))) done) ∙ h.meta;
       nodes = subst (λ rs. HoldsNodes (map node_shown rs) was.nodes) (sym (nodes_kept 4 (λ e. absurd (omega (arith, e))) done)) h.nodes;

@@ -10,7 +10,7 @@ use Rattle.node_core.specs.declared.kinds.Kind.TheVariants.{File, Directory}
 use Rattle.node_core.specs.declared.kinds.Life.{Life}
 use Rattle.node_core.specs.declared.kinds.Life.TheVariants.{Permanent, Ephemeral}
 use Rattle.rows_cell.specs.declared.tables.StoredNode.{StoredNode}
-use Rattle.rows_cell.specs.declared.tables.Session.{Session}
+use Rattle.rows_cell.specs.declared.tables.SessionRow.{SessionRow}
 use Rattle.rows_cell.specs.declared.tables.LockRow.{LockRow}
 use Rattle.rows_cell.specs.declared.tables.LockState.{LockState}
 use Rattle.rows_cell.specs.declared.tables.LockState.TheVariants.{Lapsed, Exclusive, Shared}
@@ -93,12 +93,12 @@ node_in r = node_from (numbers_in r) (acls_in r) (name_in (column r 0)) (bytes (
 
 -- ---- a session
 
-abbrev pub session_from : Option ℕ → Option Bool → Option (List ℕ) → Option (ℕ × Session)
+abbrev pub session_from : Option ℕ → Option Bool → Option (List ℕ) → Option (ℕ × SessionRow)
 session_from (Some client) (Some live) (Some principal) = Some (client, record { principal = principal; live = live })
 session_from _ _ _ = None
 
 -- client, principal, live
-abbrev pub session_in : Row → Option (ℕ × Session)
+abbrev pub session_in : Row → Option (ℕ × SessionRow)
 session_in r = session_from (count_in (column r 0)) (live_of (id_in (column r 2))) (component_in (column r 1))
 
 -- ---- a lock

@@ -8,7 +8,7 @@ use Rattle.std.specs.Cmp.Lexicographic.{slice_cmp}
 use Rattle.sqlite_value.specs.Order.{Row}
 use Rattle.rows_cell.specs.Keys.{lock_order}
 use Rattle.rows_cell.specs.declared.tables.StoredNode.{StoredNode}
-use Rattle.rows_cell.specs.declared.tables.Session.{Session}
+use Rattle.rows_cell.specs.declared.tables.SessionRow.{SessionRow}
 use Rattle.rows_cell.specs.declared.tables.LockRow.{LockRow}
 use Rattle.rows_cell.specs.declared.tables.Rows.{Rows}
 use Rattle.rows_cell.specs.declared.keys.LockKey.{LockKey}
@@ -30,7 +30,7 @@ IsRead {K} {V} cmp read rows o = MatchOption o ((es : List (K × V)) → ¬ Hold
 abbrev pub HoldsNodes : List Row → List (List ℕ × StoredNode) → Type 0
 HoldsNodes = Holds (slice_cmp nat_cmp) node_in
 
-abbrev pub HoldsSessions : List Row → List (ℕ × Session) → Type 0
+abbrev pub HoldsSessions : List Row → List (ℕ × SessionRow) → Type 0
 HoldsSessions = Holds nat_cmp session_in
 
 abbrev pub HoldsLocks : List Row → List (LockKey × LockRow) → Type 0

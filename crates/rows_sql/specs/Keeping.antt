@@ -13,8 +13,8 @@ use Rattle.rows_cell.specs.Rows.{changed_rows}
 use Rattle.rows_sql.specs.Held.{Says}
 use Rattle.rows_sql.specs.Ready.{tables_of, IsSettled, Rests}
 use Rattle.rows_sql.specs.Ongoing.{IsStore}
-use Rattle.rows_sql.specs.declared.records.Note.{Note}
-use Rattle.rows_sql.specs.declared.records.Note.TheVariants.{Adopted, Read, Done, Tried}
+use Rattle.rows_sql.specs.declared.records.StoreHistory.{StoreHistory}
+use Rattle.rows_sql.specs.declared.records.StoreHistory.TheVariants.{Adopted, Read, Done, Tried}
 
 -- the rows that stand, and those that a crash may leave
 pub record Stood : Type 0 where
@@ -25,21 +25,21 @@ abbrev pub no_rows : Rows
 no_rows = record { cell = []; secret = []; epoch = 0; next_instance = 0; nodes = []; sessions = []; locks = [] }
 
 -- rows that are taken over stand alone; those of a read stand from then on; a change stands alone once it is committed, and where it is refused a crash may leave it beside all that it could leave before
-abbrev pub noted : Note → List Edit → Stood → Stood
+abbrev pub noted : StoreHistory → List Edit → Stood → Stood
 noted (Adopted rows) change s = record { rows = rows; left = rows ∷ [] }
 noted (Read rows) change s = record s { rows = rows }
 noted Done change s = record { rows = changed_rows s.rows change; left = changed_rows s.rows change ∷ [] }
 noted Tried change s = record s { left = s.left ++ changed_rows s.rows change ∷ [] }
 
 -- the rows of a note, if there are any
-abbrev pub told_in : Note → Option Rows
+abbrev pub told_in : StoreHistory → Option Rows
 told_in (Adopted rows) = Some rows
 told_in (Read rows) = Some rows
 told_in Done = None
 told_in Tried = None
 
 -- what a history comes to
-abbrev pub stood : List (Note × List Edit) → Stood
+abbrev pub stood : List (StoreHistory × List Edit) → Stood
 stood = fold (λ s n. noted n.0 n.1 s) (record { rows = no_rows; left = [] })
 
 -- one of these rows is what the trees say

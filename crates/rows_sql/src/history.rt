@@ -6,25 +6,25 @@ use std::marker::{Model, PhantomData};
 
 /// A clause reads the pairs as `items`.
 #[derive(Drop)]
-pub struct GhostLog<A, B> {
+pub struct StoreLog<A, B> {
     of: PhantomData<(A, B)>,
     pub ghost items: { List (A × B) },
 }
 
-impl<A, B> Model for GhostLog<A, B> {
+impl<A, B> Model for StoreLog<A, B> {
     ghost also_owns = { λ _. ftrue };
 }
 
-impl<A, B> GhostLog<A, B> {
-    pub fn new() -> GhostLog<A, B>
+impl<A, B> StoreLog<A, B> {
+    pub fn new() -> StoreLog<A, B>
         ensures { result.items ≡ [] }
     {
-        GhostLog { of: PhantomData }
+        StoreLog { of: PhantomData }
     }
 
-    pub fn and(&self, first: &A, second: &B) -> GhostLog<A, B>
+    pub fn and(&self, first: &A, second: &B) -> StoreLog<A, B>
         ensures { result.items ≡ self.now.items ++ (first.now, second.now) ∷ [] }
     {
-        GhostLog { of: PhantomData }
+        StoreLog { of: PhantomData }
     }
 }

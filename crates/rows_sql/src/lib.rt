@@ -16,7 +16,7 @@ mod steps;
 mod writing;
 
 pub use files::{inspect_file, verdict};
-pub use history::GhostLog;
+pub use history::StoreLog;
 pub use laws::carrying_keeps;
 pub use reading::{Acls, Meta, Numbers, can_read, children_of, inspect, load_as, load_said};
 pub use records::SqlRecords;

@@ -11,7 +11,7 @@ ghost use Rattle.rows_sql.specs.Keeping.{told_in, noted, stood, IsLeft};
 ghost use Rattle.rows_sql.specs.Adopting.{Adopts, ComesBack, IsOther, IsFull};
 
 use crate::adoption::{reopen, take_over};
-use crate::history::GhostLog;
+use crate::history::StoreLog;
 use crate::steps::{goes_on, is_committed, load_sound};
 use collections::Items;
 use names_cell::Component;
@@ -23,7 +23,7 @@ use std::marker::Model;
 
 /// What was done to the rows: they were taken over, or read again, or a change was committed, or refused.
 #[derive(Drop)]
-pub enum Note {
+pub enum StoreHistory {
     Adopted(Rows),
     Read(Rows),
     Done,
@@ -39,7 +39,7 @@ pub struct SqlRecords<S: Alter> {
     refusals: u64,
     is_shut: bool,
     first: Option<Rows>,
-    past: GhostLog<Note, Items<Edit>>,
+    past: StoreLog<StoreHistory, Items<Edit>>,
 }
 
 impl<S: Alter> Model for SqlRecords<S> {
@@ -79,22 +79,22 @@ impl<S: Alter + Drop> Drop for SqlRecords<S> {
 }
 
 fn noted(
-    past: &GhostLog<Note, Items<Edit>>,
-    note: &Note,
+    past: &StoreLog<StoreHistory, Items<Edit>>,
+    note: &StoreHistory,
     change: &Items<Edit>,
-) -> GhostLog<Note, Items<Edit>>
+) -> StoreLog<StoreHistory, Items<Edit>>
     ensures { stood result.items ≡ noted note.now change.now (stood past.now.items) }
 {
     past.and(note, change)
 }
 
 // The rows of a note, if there are any.
-fn rows_in(note: Note) -> Option<Rows>
+fn rows_in(note: StoreHistory) -> Option<Rows>
     ensures { result ≡ told_in note }
 {
     match note {
-        Note::Adopted(rows) | Note::Read(rows) => Some(rows),
-        Note::Done | Note::Tried => None,
+        StoreHistory::Adopted(rows) | StoreHistory::Read(rows) => Some(rows),
+        StoreHistory::Done | StoreHistory::Tried => None,
     }
 }
 
@@ -132,7 +132,7 @@ impl<S: Alter> Records for SqlRecords<S> {
         match load_sound(self.alloc, &mut self.conn, &self.cell) {
             Ok(rows) => {
                 let none = Items::new(self.alloc);
-                let note = Note::Read(rows);
+                let note = StoreHistory::Read(rows);
                 self.past = noted(&self.past, &note, &none);
                 drop(none);
                 rows_in(note).ok_or(StoreFault::NoMemory)
@@ -159,12 +159,12 @@ impl<S: Alter> Records for SqlRecords<S> {
         }
         self.first = None;
         if !is_committed(&mut self.conn, change) {
-            self.past = noted(&self.past, &Note::Tried, change);
+            self.past = noted(&self.past, &StoreHistory::Tried, change);
             self.is_shut = !goes_on(self.alloc, &mut self.conn);
             self.refusals += 1;
             return Err(StoreFault::Refused);
         }
-        self.past = noted(&self.past, &Note::Done, change);
+        self.past = noted(&self.past, &StoreHistory::Done, change);
         Ok(())
     }
 }
@@ -208,8 +208,8 @@ impl<S: Alter + Drop> SqlRecords<S> {
         match take_over(alloc, &mut conn, settings) {
             Ok(rows) => {
                 let none = Items::new(alloc);
-                let note = Note::Adopted(rows);
-                let past = noted(&GhostLog::new(), &note, &none);
+                let note = StoreHistory::Adopted(rows);
+                let past = noted(&StoreLog::new(), &note, &none);
                 Ok(SqlRecords {
                     alloc,
                     conn,

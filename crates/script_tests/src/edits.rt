@@ -3,7 +3,7 @@ use crate::troubles::Trouble;
 use collections::{Bytes, Items};
 use names_cell::{Component, Name, Principal};
 use node_core::{Kind, Life, Node};
-use rows_cell::{Edit, LockKey, LockRow, LockState, Session};
+use rows_cell::{Edit, LockKey, LockRow, LockState, SessionRow};
 use scripts::number;
 use std::alloc::Global;
 use std::str;
@@ -57,7 +57,7 @@ fn session(alloc: Global, client: &str, principal: &str, state: &str) -> Result<
         _ => return Err(NO_EDIT),
     };
     let principal = Principal::parse(alloc, principal).map_err(|_| NO_EDIT)?;
-    Ok(Edit::PutSession(client, Session { principal, live }))
+    Ok(Edit::PutSession(client, SessionRow { principal, live }))
 }
 
 fn key_of(words: &[&str]) -> Result<LockKey, Trouble> {

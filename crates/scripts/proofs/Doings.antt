@@ -17,8 +17,8 @@ use Rattle.world_cell.proofs.PartsOfRuns.{take_more}
 use Rattle.scripts.specs.declared.steps.Parsed.{Parsed}
 use Rattle.scripts.specs.declared.steps.Parsed.TheVariants as parsed
 use Rattle.scripts.specs.Readings.{IsParsed}
-use Rattle.scripts.specs.declared.stops.Stop.{Stop}
-use Rattle.scripts.specs.declared.stops.Stop.TheVariants.{Unwritten}
+use Rattle.scripts.specs.declared.stops.ScriptStop.{ScriptStop}
+use Rattle.scripts.specs.declared.stops.ScriptStop.TheVariants.{Unwritten}
 use Rattle.scripts.specs.Ran.{Writes}
 use Rattle.scripts.specs.Settling.{Played, played, PlaysMade, PlaysRefused, turn_step, is_waiting, is_idle, Turns, TakesTurn, SettlesBy, Settles}
 use Rattle.scripts.specs.Texts.{Reading, Advances}
@@ -61,7 +61,7 @@ written_front xs i x a b c less is h k =
     ap (λ bytes. bytes ++ lines_text rest) first ∙ sym (both_texts (take (i + 1) xs) rest) ∙ ap lines_text (take-append-drop (i + 1) xs) in
     subst (AppendsFront a c) all (front_before a c _ (lines_text rest) (front_behind a b c (lines_text (take i xs)) (lines_text (x ∷ [])) h k))
 
-pub exit_written : (r : Result (Unit {0}) Stop) (stop : Stop) (xs : List Line) (i : ℕ) (x : Line) (a b c : Option (List ℕ)) → IsErr r × IsErrAnd r (λ e. e ≡ stop) → i < length xs → x ≡ slice_index_or xs i x → Appends a b (lines_text (take i xs))
+pub exit_written : (r : Result (Unit {0}) ScriptStop) (stop : ScriptStop) (xs : List Line) (i : ℕ) (x : Line) (a b c : Option (List ℕ)) → IsErr r × IsErrAnd r (λ e. e ≡ stop) → i < length xs → x ≡ slice_index_or xs i x → Appends a b (lines_text (take i xs))
     → (stop ≡ Unwritten) × AppendsFront b c (lines_text (x ∷ [])) → Writes r xs a c
 exit_written (Ok y) stop xs i x a b c exit less is h k = let none = exit.0 in cc
 exit_written (Err e) stop xs i x a b c exit less is h k = (exit.1 ∙ k.0, written_front xs i x a b c less is h k.1)

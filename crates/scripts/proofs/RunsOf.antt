@@ -22,8 +22,8 @@ use Rattle.world_cell.proofs.SureRuns.{run_doubts}
 use Rattle.scripts.specs.declared.steps.Parsed.{Parsed}
 use Rattle.scripts.specs.declared.steps.Parsed.TheVariants as parsed
 use Rattle.scripts.specs.Readings.{IsParsed}
-use Rattle.scripts.specs.declared.stops.Stop.{Stop}
-use Rattle.scripts.specs.declared.stops.Stop.TheVariants.{BadStep, Unread, NoMemory, Unwritten}
+use Rattle.scripts.specs.declared.stops.ScriptStop.{ScriptStop}
+use Rattle.scripts.specs.declared.stops.ScriptStop.TheVariants.{BadStep, Unread, NoMemory, Unwritten}
 use Rattle.scripts.specs.Settling.{Played, played, PlaysMade, PlaysRefused, TakesTurn, Turns, SettlesBy, Settles}
 use Rattle.output.specs.Fronts.{AppendsFront}
 use Rattle.scripts.specs.Scripts.{lines_text, told, DoesParsed, DoesLine, DoesLines, IsOfPart, IsOfScript, Wrote, WroteFront}
@@ -204,42 +204,42 @@ pub step_ran : (old new : Played) (step : Step) (r : Result (List Line) Fault) �
 step_ran old new step (Ok printed) made refused = made_ran old new step printed made
 step_ran old new step (Err fault) made refused = refused_ran old new step (lines.Refused fault ∷ []) refused
 
-module _ {Y : Type 0} (P : Y → List Line → Type 0) (Q : Stop → List Line → Type 0) (a c : Option (List ℕ)) where
-  unwritten : (stop : Stop) (printed : List Line) → stop ≡ Unwritten → Q Unwritten printed → AppendsFront a c (lines_text printed) → (let r : Result Y Stop = Err stop in EndsAs r P Q a c)
-  unwritten stop printed is h k = subst (λ s. (let r : Result Y Stop = Err s in EndsAs r P Q a c)) (sym is) (printed, h, k)
+module _ {Y : Type 0} (P : Y → List Line → Type 0) (Q : ScriptStop → List Line → Type 0) (a c : Option (List ℕ)) where
+  unwritten : (stop : ScriptStop) (printed : List Line) → stop ≡ Unwritten → Q Unwritten printed → AppendsFront a c (lines_text printed) → (let r : Result Y ScriptStop = Err stop in EndsAs r P Q a c)
+  unwritten stop printed is h k = subst (λ s. (let r : Result Y ScriptStop = Err s in EndsAs r P Q a c)) (sym is) (printed, h, k)
 
   -- lines can't be written
-  pub exit_unwritten : (r : Result Y Stop) (stop : Stop) (printed : List Line) → IsErr r × IsErrAnd r (λ e. e ≡ stop) → (stop ≡ Unwritten) × AppendsFront a c (lines_text printed) → Q Unwritten printed → EndsAs r P Q a c
+  pub exit_unwritten : (r : Result Y ScriptStop) (stop : ScriptStop) (printed : List Line) → IsErr r × IsErrAnd r (λ e. e ≡ stop) → (stop ≡ Unwritten) × AppendsFront a c (lines_text printed) → Q Unwritten printed → EndsAs r P Q a c
   exit_unwritten (Ok y) stop printed exit is h = let none = exit.0 in cc
   exit_unwritten (Err e) stop printed exit is h = unwritten e printed (exit.1 ∙ is.0) h is.1
 
 -- what was done and written before, and then what breaks off so
 module _ {X Y : Type 0} (O : X → List Line → Type 0) (P : Y → List Line → Type 0) (old mid new : WorldView) (a b c : Option (List ℕ)) where
-  broken_then : (stop : Stop) → Wrote (Ran old mid) a b → (let q : Result X Stop = Err stop in EndsAs q O (Breaks mid new) b c) → (let r : Result Y Stop = Err stop in EndsAs r P (Breaks old new) a c)
+  broken_then : (stop : ScriptStop) → Wrote (Ran old mid) a b → (let q : Result X ScriptStop = Err stop in EndsAs q O (Breaks mid new) b c) → (let r : Result Y ScriptStop = Err stop in EndsAs r P (Breaks old new) a c)
   broken_then Unwritten h k = front_then (Ran old mid) (Ran mid new) (Ran old new) a b c (λ front back f g. ran_then old mid new front back f g) h k
   broken_then NoMemory h k = wrote_then (Ran old mid) (Ran mid new) (Ran old new) a b c (λ front back f g. ran_then old mid new front back f g) h k
   broken_then (BadStep line) h k = absurd k.1
   broken_then (Unread line) h k = absurd k.1
 
-  pub exit_then : (r : Result Y Stop) (stop : Stop) → IsErr r × IsErrAnd r (λ e. e ≡ stop) → Wrote (Ran old mid) a b → (let q : Result X Stop = Err stop in EndsAs q O (Breaks mid new) b c) → EndsAs r P (Breaks old new) a c
+  pub exit_then : (r : Result Y ScriptStop) (stop : ScriptStop) → IsErr r × IsErrAnd r (λ e. e ≡ stop) → Wrote (Ran old mid) a b → (let q : Result X ScriptStop = Err stop in EndsAs q O (Breaks mid new) b c) → EndsAs r P (Breaks old new) a c
   exit_then (Ok y) stop exit h k = let none = exit.0 in cc
   exit_then (Err e) stop exit h k =
-      broken_then e h (subst (λ s. (let q : Result X Stop = Err s in EndsAs q O (Breaks mid new) b c)) (sym exit.1) k)
+      broken_then e h (subst (λ s. (let q : Result X ScriptStop = Err s in EndsAs q O (Breaks mid new) b c)) (sym exit.1) k)
 
 -- what breaks off a part breaks off the whole
-module _ {X Y : Type 0} (O : X → List Line → Type 0) (P : Y → List Line → Type 0) (Q : Stop → List Line → Type 0) (a b : Option (List ℕ)) where
-  same_break : (stop : Stop) → (let q : Result X Stop = Err stop in EndsAs q O Q a b) → (let r : Result Y Stop = Err stop in EndsAs r P Q a b)
+module _ {X Y : Type 0} (O : X → List Line → Type 0) (P : Y → List Line → Type 0) (Q : ScriptStop → List Line → Type 0) (a b : Option (List ℕ)) where
+  same_break : (stop : ScriptStop) → (let q : Result X ScriptStop = Err stop in EndsAs q O Q a b) → (let r : Result Y ScriptStop = Err stop in EndsAs r P Q a b)
   same_break Unwritten h = h
   same_break NoMemory h = h
   same_break (BadStep line) h = h
   same_break (Unread line) h = h
 
-  pub exit_same : (r : Result Y Stop) (stop : Stop) → IsErr r × IsErrAnd r (λ e. e ≡ stop) → (let q : Result X Stop = Err stop in EndsAs q O Q a b) → EndsAs r P Q a b
+  pub exit_same : (r : Result Y ScriptStop) (stop : ScriptStop) → IsErr r × IsErrAnd r (λ e. e ≡ stop) → (let q : Result X ScriptStop = Err stop in EndsAs q O Q a b) → EndsAs r P Q a b
   exit_same (Ok y) stop exit h = let none = exit.0 in cc
-  exit_same (Err e) stop exit h = same_break e (subst (λ s. (let q : Result X Stop = Err s in EndsAs q O Q a b)) (sym exit.1) h)
+  exit_same (Err e) stop exit h = same_break e (subst (λ s. (let q : Result X ScriptStop = Err s in EndsAs q O Q a b)) (sym exit.1) h)
 
 -- without a master nothing is settled
-pub settles_down : (w : Played) (up : Bool) (a b : Option (List ℕ)) (r : Result (Unit {0}) Stop) → up ≡ is_some w.view.world.master → up ≡ false → Writes r (lines.Refused MasterDown ∷ []) a b → EndsAs r (λ _ printed. Settles w printed w) (Breaks w.view w.view) a b
+pub settles_down : (w : Played) (up : Bool) (a b : Option (List ℕ)) (r : Result (Unit {0}) ScriptStop) → up ≡ is_some w.view.world.master → up ≡ false → Writes r (lines.Refused MasterDown ∷ []) a b → EndsAs r (λ _ printed. Settles w printed w) (Breaks w.view w.view) a b
 settles_down w up a b (Ok x) is down h = (lines.Refused MasterDown ∷ [], subst (λ up. SettlesBy up w (lines.Refused MasterDown ∷ []) w) (sym down ∙ is) (refl, refl), h)
 settles_down w up a b (Err e) is down h =
     unwritten (λ (x : Unit {0}) printed. Settles w printed w) (Breaks w.view w.view) a b e (lines.Refused MasterDown ∷ []) h.0 (refusal_ran w.view w.view MasterDown (lines.Refused MasterDown ∷ []) refl refl) h.1
@@ -263,15 +263,15 @@ line_unread line number w a = wrote_none (Ran w.view w.view) a (ran_none w.view)
 
 -- what breaks off a step breaks off its line
 module _ {X : Type 0} (O : X → List Line → Type 0) (P : Unit {0} → List Line → Type 0) (line : List ℕ) (number : ℕ) (old new : Played) (a b : Option (List ℕ)) where
-  line_breaks : (stop : Stop) → (let q : Result X Stop = Err stop in EndsAs q O (Breaks old.view new.view) a b) → (let r : Result (Unit {0}) Stop = Err stop in EndsAs r P (BreaksLine line number old new) a b)
+  line_breaks : (stop : ScriptStop) → (let q : Result X ScriptStop = Err stop in EndsAs q O (Breaks old.view new.view) a b) → (let r : Result (Unit {0}) ScriptStop = Err stop in EndsAs r P (BreaksLine line number old new) a b)
   line_breaks Unwritten h = h
   line_breaks NoMemory h = h
   line_breaks (BadStep at) h = absurd h.1
   line_breaks (Unread at) h = absurd h.1
 
-  pub exit_line : (r : Result (Unit {0}) Stop) (stop : Stop) → IsErr r × IsErrAnd r (λ e. e ≡ stop) → (let q : Result X Stop = Err stop in EndsAs q O (Breaks old.view new.view) a b) → EndsAs r P (BreaksLine line number old new) a b
+  pub exit_line : (r : Result (Unit {0}) ScriptStop) (stop : ScriptStop) → IsErr r × IsErrAnd r (λ e. e ≡ stop) → (let q : Result X ScriptStop = Err stop in EndsAs q O (Breaks old.view new.view) a b) → EndsAs r P (BreaksLine line number old new) a b
   exit_line (Ok y) stop exit h = let none = exit.0 in cc
-  exit_line (Err e) stop exit h = line_breaks e (subst (λ s. (let q : Result X Stop = Err s in EndsAs q O (Breaks old.view new.view) a b)) (sym exit.1) h)
+  exit_line (Err e) stop exit h = line_breaks e (subst (λ s. (let q : Result X ScriptStop = Err s in EndsAs q O (Breaks old.view new.view) a b)) (sym exit.1) h)
 
 -- ---- the whole script
 
@@ -283,7 +283,7 @@ next_line : (at number count : ℕ) → number ≡ count → at ≡ min (number 
 next_line at number count is next few = grind arith
 
 module _ (text rest : Option (List ℕ)) (count : ℕ) (old : WorldView) (new : Played) (a b : Option (List ℕ)) where
-  unread_by : (stop : Stop) → (count ≤ 1000000 → StopsReading rest count stop) → Wrote (λ printed. IsOfPart text rest count old printed new) a b → (let r : Result (Unit {0}) Stop = Err stop in EndsIn r (Ends text old new.view r) a b)
+  unread_by : (stop : ScriptStop) → (count ≤ 1000000 → StopsReading rest count stop) → Wrote (λ printed. IsOfPart text rest count old printed new) a b → (let r : Result (Unit {0}) ScriptStop = Err stop in EndsIn r (Ends text old new.view r) a b)
   unread_by Unwritten h k = front_of (Ran old new.view) a b (parts_ran text rest count old new a b k)
   unread_by NoMemory h k = parts_ran text rest count old new a b k
   unread_by (BadStep at) h k =
@@ -293,7 +293,7 @@ module _ (text rest : Option (List ℕ)) (count : ℕ) (old : WorldView) (new : 
       wrote_as (λ printed. IsOfPart text rest count old printed new) (Ends text old new.view (Err (Unread at))) a b
       (λ printed f. done_before text rest count at old new printed (h f.few) f) k
 
-  pub exit_unread : (r : Result (Unit {0}) Stop) (stop : Stop) → IsErr r × IsErrAnd r (λ e. e ≡ stop) → (count ≤ 1000000 → StopsReading rest count stop) → Wrote (λ printed. IsOfPart text rest count old printed new) a b → EndsIn r (Ends text old new.view r) a b
+  pub exit_unread : (r : Result (Unit {0}) ScriptStop) (stop : ScriptStop) → IsErr r × IsErrAnd r (λ e. e ≡ stop) → (count ≤ 1000000 → StopsReading rest count stop) → Wrote (λ printed. IsOfPart text rest count old printed new) a b → EndsIn r (Ends text old new.view r) a b
   exit_unread (Ok x) stop exit h k = let none = exit.0 in cc
   exit_unread (Err e) stop exit h k = unread_by e (λ few. subst (StopsReading rest count) (sym exit.1) (h few)) k
 
@@ -311,7 +311,7 @@ module _ (text : Option (List ℕ)) (mid after : Reading) (old : WorldView) (w n
       let stands : IsOfPart text mid.rest mid.number old (front ++ back) new = subst (IsOfPart text mid.rest mid.number old (front ++ back)) (sym g.3) (subst (λ xs. IsOfPart text mid.rest mid.number old xs w) same f) in
       (done_before text mid.rest mid.number at old new (front ++ back) (g.0 ∙ next.1.0) stands, (after.line, after.rest, next.0, inl g.1))
 
-  broken : (stop : Stop) → Advances true mid after → Wrote (λ printed. IsOfPart text mid.rest mid.number old printed w) a b → (let q : Result (Unit {0}) Stop = Err stop in EndsAs q (λ _ printed. DoesLine w after.line printed new) (BreaksLine after.line after.number w new) b c) → (let r : Result (Unit {0}) Stop = Err stop in EndsIn r (Ends text old new.view r) a c)
+  broken : (stop : ScriptStop) → Advances true mid after → Wrote (λ printed. IsOfPart text mid.rest mid.number old printed w) a b → (let q : Result (Unit {0}) ScriptStop = Err stop in EndsAs q (λ _ printed. DoesLine w after.line printed new) (BreaksLine after.line after.number w new) b c) → (let r : Result (Unit {0}) ScriptStop = Err stop in EndsIn r (Ends text old new.view r) a c)
   broken Unwritten next h k =
       front_then (Ran old w.view) (Ran w.view new.view) (Ran old new.view) a b c (λ front back f g. ran_then old w.view new.view front back f g) (parts_ran text mid.rest mid.number old w a b h) k
   broken NoMemory next h k =
@@ -320,15 +320,15 @@ module _ (text : Option (List ℕ)) (mid after : Reading) (old : WorldView) (w n
       wrote_then (λ p. IsOfPart text mid.rest mid.number old p w) (BreaksLine after.line after.number w new (BadStep at)) (Ends text old new.view (Err (BadStep at))) a b c (λ front back f g. bad_line at front back next f g) h k
   broken (Unread at) next h k = absurd k.1
 
-  pub exit_broken : (there : Bool) (r : Result (Unit {0}) Stop) (stop : Stop) → IsErr r × IsErrAnd r (λ e. e ≡ stop) → there ≡ true → Advances there mid after → Wrote (λ printed. IsOfPart text mid.rest mid.number old printed w) a b → (let q : Result (Unit {0}) Stop = Err stop in EndsAs q (λ _ printed. DoesLine w after.line printed new) (BreaksLine after.line after.number w new) b c) → EndsIn r (Ends text old new.view r) a c
+  pub exit_broken : (there : Bool) (r : Result (Unit {0}) ScriptStop) (stop : ScriptStop) → IsErr r × IsErrAnd r (λ e. e ≡ stop) → there ≡ true → Advances there mid after → Wrote (λ printed. IsOfPart text mid.rest mid.number old printed w) a b → (let q : Result (Unit {0}) ScriptStop = Err stop in EndsAs q (λ _ printed. DoesLine w after.line printed new) (BreaksLine after.line after.number w new) b c) → EndsIn r (Ends text old new.view r) a c
   exit_broken there (Ok x) stop exit is next h k = let none = exit.0 in cc
   exit_broken there (Err e) stop exit is next h k =
       broken e (subst (λ t. Advances t mid after) is next) h
-      (subst (λ s. (let q : Result (Unit {0}) Stop = Err s in EndsAs q (λ _ printed. DoesLine w after.line printed new) (BreaksLine after.line after.number w new) b c)) (sym exit.1) k)
+      (subst (λ s. (let q : Result (Unit {0}) ScriptStop = Err s in EndsAs q (λ _ printed. DoesLine w after.line printed new) (BreaksLine after.line after.number w new) b c)) (sym exit.1) k)
 
 -- whatever the end, what was done is a run
 module _ (text : Option (List ℕ)) (old new : WorldView) where
-  ends_ran : (r : Result (Unit {0}) Stop) (printed : List Line) → Ends text old new r printed → Ran old new printed
+  ends_ran : (r : Result (Unit {0}) ScriptStop) (printed : List Line) → Ends text old new r printed → Ran old new printed
   ends_ran (Ok x) printed h = subst (λ w. Ran old w printed) h.1 (lines_ran (played old []) h.0.new h.0.texts printed h.0.does)
   ends_ran (Err (BadStep at)) printed h = part_ran text h.0.rest h.0.count old printed (played new h.0.marks) h.0.before
   ends_ran (Err (Unread at)) printed h = part_ran text h.rest h.count old printed (played new h.marks) h.before
@@ -336,17 +336,17 @@ module _ (text : Option (List ℕ)) (old new : WorldView) where
   ends_ran (Err Unwritten) printed h = h
 
   -- there is no memory for a line
-  pub exit_unbegun : (a : Option (List ℕ)) (r : Result (Unit {0}) Stop) (stop : Stop) → new ≡ old → IsErr r × IsErrAnd r (λ e. e ≡ stop) → stop ≡ NoMemory → EndsIn r (Ends text old new r) a a
+  pub exit_unbegun : (a : Option (List ℕ)) (r : Result (Unit {0}) ScriptStop) (stop : ScriptStop) → new ≡ old → IsErr r × IsErrAnd r (λ e. e ≡ stop) → stop ≡ NoMemory → EndsIn r (Ends text old new r) a a
   exit_unbegun a (Ok x) stop same exit is = let none = exit.0 in cc
   exit_unbegun a (Err e) stop same exit is =
-      subst (λ s. (let r : Result (Unit {0}) Stop = Err s in EndsIn r (Ends text old new r) a a)) (sym (exit.1 ∙ is))
+      subst (λ s. (let r : Result (Unit {0}) ScriptStop = Err s in EndsIn r (Ends text old new r) a a)) (sym (exit.1 ∙ is))
       (wrote_none (Ran old new) a (subst (λ w. Ran old w []) (sym same) (ran_none old)))
 
-  all_front : (a b c : Option (List ℕ)) (r : Result (Unit {0}) Stop) → Wrote (Ends text old new r) a b → Keeps b c → WroteFront (Ran old new) a c
+  all_front : (a b c : Option (List ℕ)) (r : Result (Unit {0}) ScriptStop) → Wrote (Ends text old new r) a b → Keeps b c → WroteFront (Ran old new) a c
   all_front a b c r h k = front_of (Ran old new) a c (wrote_kept (Ran old new) a b c (wrote_as (Ends text old new r) (Ran old new) a b (ends_ran r) h) k)
 
   -- a front of it is written, where the writer can't be flushed
-  some_front : (a b c : Option (List ℕ)) (r : Result (Unit {0}) Stop) → EndsIn r (Ends text old new r) a b → Keeps b c → WroteFront (Ran old new) a c
+  some_front : (a b c : Option (List ℕ)) (r : Result (Unit {0}) ScriptStop) → EndsIn r (Ends text old new r) a b → Keeps b c → WroteFront (Ran old new) a c
   some_front a b c (Ok x) h k = all_front a b c (Ok x) h k
   some_front a b c (Err (BadStep at)) h k = all_front a b c (Err (BadStep at)) h k
   some_front a b c (Err (Unread at)) h k = all_front a b c (Err (Unread at)) h k
@@ -354,7 +354,7 @@ module _ (text : Option (List ℕ)) (old new : WorldView) where
   some_front a b c (Err Unwritten) h k = front_kept (Ran old new) a b c h k
 
   -- what was written stays written
-  pub ends_kept : (a b c : Option (List ℕ)) (r : Result (Unit {0}) Stop) → EndsIn r (Ends text old new r) a b → Keeps b c → EndsIn r (Ends text old new r) a c
+  pub ends_kept : (a b c : Option (List ℕ)) (r : Result (Unit {0}) ScriptStop) → EndsIn r (Ends text old new r) a b → Keeps b c → EndsIn r (Ends text old new r) a c
   ends_kept a b c (Ok x) h k = wrote_kept (Ends text old new (Ok x)) a b c h k
   ends_kept a b c (Err (BadStep at)) h k = wrote_kept (Ends text old new (Err (BadStep at))) a b c h k
   ends_kept a b c (Err (Unread at)) h k = wrote_kept (Ends text old new (Err (Unread at))) a b c h k
@@ -362,19 +362,19 @@ module _ (text : Option (List ℕ)) (old new : WorldView) where
   ends_kept a b c (Err Unwritten) h k = front_kept (Ends text old new (Err Unwritten)) a b c h k
 
   -- and the laws of runs hold of it
-  well : HoldsOfRuns old → (r : Result (Unit {0}) Stop) (printed : List Line) → Ends text old new r printed → EndsWell text old new r printed
+  well : HoldsOfRuns old → (r : Result (Unit {0}) ScriptStop) (printed : List Line) → Ends text old new r printed → EndsWell text old new r printed
   well laws r printed h = (h, ran_well old new laws printed (ends_ran r printed h))
 
   pub ends_well : HoldsOfRuns old → (a b : Option (List ℕ)) → Wrote (Ends text old new (Ok tt)) a b → EndsWith 0 (EndsWell text old new) a b
   ends_well laws a b h = (Ok tt, refl, wrote_as (Ends text old new (Ok tt)) (EndsWell text old new (Ok tt)) a b (well laws (Ok tt)) h)
 
-  stops_in : HoldsOfRuns old → (a b : Option (List ℕ)) (stop : Stop) → (let r : Result (Unit {0}) Stop = Err stop in EndsIn r (Ends text old new r) a b) → (let r : Result (Unit {0}) Stop = Err stop in EndsIn r (EndsWell text old new r) a b)
+  stops_in : HoldsOfRuns old → (a b : Option (List ℕ)) (stop : ScriptStop) → (let r : Result (Unit {0}) ScriptStop = Err stop in EndsIn r (Ends text old new r) a b) → (let r : Result (Unit {0}) ScriptStop = Err stop in EndsIn r (EndsWell text old new r) a b)
   stops_in laws a b Unwritten h = front_as (Ends text old new (Err Unwritten)) (EndsWell text old new (Err Unwritten)) a b (well laws (Err Unwritten)) h
   stops_in laws a b NoMemory h = wrote_as (Ends text old new (Err NoMemory)) (EndsWell text old new (Err NoMemory)) a b (well laws (Err NoMemory)) h
   stops_in laws a b (BadStep at) h = wrote_as (Ends text old new (Err (BadStep at))) (EndsWell text old new (Err (BadStep at))) a b (well laws (Err (BadStep at))) h
   stops_in laws a b (Unread at) h = wrote_as (Ends text old new (Err (Unread at))) (EndsWell text old new (Err (Unread at))) a b (well laws (Err (Unread at))) h
 
-  pub stops_well : HoldsOfRuns old → (a b : Option (List ℕ)) (status : ℕ) (stop : Stop) → status ≡ status_of stop → (let r : Result (Unit {0}) Stop = Err stop in EndsIn r (Ends text old new r) a b) → EndsWith status (EndsWell text old new) a b
+  pub stops_well : HoldsOfRuns old → (a b : Option (List ℕ)) (status : ℕ) (stop : ScriptStop) → status ≡ status_of stop → (let r : Result (Unit {0}) ScriptStop = Err stop in EndsIn r (Ends text old new r) a b) → EndsWith status (EndsWell text old new) a b
   stops_well laws a b status stop is h = (Err stop, is, stops_in laws a b stop h)
 
   -- a script that came to its end
@@ -382,18 +382,18 @@ module _ (text : Option (List ℕ)) (old new : WorldView) where
   all_written a b h = wrote_as (Ends text old new (Ok tt)) (IsOfScript text old) a b (λ printed f. f.0) h
 
 -- the last lines can't be written
-pub exit_unflushed : (text other : Option (List ℕ)) (old new : WorldView) (a b c : Option (List ℕ)) (ended r : Result (Unit {0}) Stop) → IsErr r × IsErrAnd r (λ e. e ≡ Unwritten) → EndsIn ended (Ends other old new ended) a b → Keeps b c → EndsIn r (Ends text old new r) a c
+pub exit_unflushed : (text other : Option (List ℕ)) (old new : WorldView) (a b c : Option (List ℕ)) (ended r : Result (Unit {0}) ScriptStop) → IsErr r × IsErrAnd r (λ e. e ≡ Unwritten) → EndsIn ended (Ends other old new ended) a b → Keeps b c → EndsIn r (Ends text old new r) a c
 exit_unflushed text other old new a b c ended (Ok x) exit h k = let none = exit.0 in cc
 exit_unflushed text other old new a b c ended (Err e) exit h k =
-    subst (λ s. (let r : Result (Unit {0}) Stop = Err s in EndsIn r (Ends text old new r) a c)) (sym exit.1) (some_front other old new a b c ended h k)
+    subst (λ s. (let r : Result (Unit {0}) ScriptStop = Err s in EndsIn r (Ends text old new r) a c)) (sym exit.1) (some_front other old new a b c ended h k)
 
 -- ---- where nothing is in doubt
 
 module _ (text : Option (List ℕ)) (old new : WorldView) (none : IsUndoubted new) where
-  surely : (r : Result (Unit {0}) Stop) (printed : List Line) → EndsWell text old new r printed → EndsSurely text old new r printed
+  surely : (r : Result (Unit {0}) ScriptStop) (printed : List Line) → EndsWell text old new r printed → EndsSurely text old new r printed
   surely r printed h = record { ends = h.0; ran = h.1.ran; holds = h.1.holds none; tells = h.1.tells none }
 
-  sure_in : (a b : Option (List ℕ)) (r : Result (Unit {0}) Stop) → EndsIn r (EndsWell text old new r) a b → EndsIn r (EndsSurely text old new r) a b
+  sure_in : (a b : Option (List ℕ)) (r : Result (Unit {0}) ScriptStop) → EndsIn r (EndsWell text old new r) a b → EndsIn r (EndsSurely text old new r) a b
   sure_in a b (Ok x) h = wrote_as (EndsWell text old new (Ok x)) (EndsSurely text old new (Ok x)) a b (surely (Ok x)) h
   sure_in a b (Err Unwritten) h = front_as (EndsWell text old new (Err Unwritten)) (EndsSurely text old new (Err Unwritten)) a b (surely (Err Unwritten)) h
   sure_in a b (Err NoMemory) h = wrote_as (EndsWell text old new (Err NoMemory)) (EndsSurely text old new (Err NoMemory)) a b (surely (Err NoMemory)) h
@@ -406,7 +406,7 @@ module _ (text : Option (List ℕ)) (old new : WorldView) (none : IsUndoubted ne
       let last : new.doubt ≡ 0 = none in
       let first : old.doubt ≡ 0 = omega arith in first
 
-  some_ran : (a b : Option (List ℕ)) (r : Result (Unit {0}) Stop) → EndsIn r (EndsWell text old new r) a b → (printed : List Line) × Ran old new printed
+  some_ran : (a b : Option (List ℕ)) (r : Result (Unit {0}) ScriptStop) → EndsIn r (EndsWell text old new r) a b → (printed : List Line) × Ran old new printed
   some_ran a b (Ok x) h = (h.0, h.1.1.ran)
   some_ran a b (Err Unwritten) h = (h.0, h.1.1.ran)
   some_ran a b (Err NoMemory) h = (h.0, h.1.1.ran)

@@ -12,8 +12,8 @@ use Rattle.world_steps.specs.World.{WorldView, IsUndoubted}
 use Rattle.world_cell.specs.Runs.{AnyRun, map_at, after_lines, epoch_at, live_at, applied, Rises}
 use Rattle.world_cell.specs.Served.{ServesPresentByThen}
 use Rattle.world_cell.specs.RunLaws.{HoldsOfRun}
-use Rattle.scripts.specs.declared.stops.Stop.{Stop}
-use Rattle.scripts.specs.declared.stops.Stop.TheVariants.{BadStep, Unread, NoMemory, Unwritten}
+use Rattle.scripts.specs.declared.stops.ScriptStop.{ScriptStop}
+use Rattle.scripts.specs.declared.stops.ScriptStop.TheVariants.{BadStep, Unread, NoMemory, Unwritten}
 use Rattle.scripts.specs.Settling.{Played, played}
 use Rattle.scripts.specs.Scripts.{lines_text, DoesParsed, IsOfPart, IsOfScript, Wrote, WroteFront}
 use Rattle.scripts.specs.declared.steps.Parsed.{Parsed}
@@ -65,7 +65,7 @@ IsNoStep rest number =
     × (IsParsed (utf8_lossy line) parsed.Bad ⊎ ((1048576 < length line) ⊎ (1000000 < number)))
 
 -- of a text of which so many lines were read, no more was: the next is no step, or can't be read
-abbrev pub StopsReading : Option (List ℕ) → ℕ → Stop → Type 0
+abbrev pub StopsReading : Option (List ℕ) → ℕ → ScriptStop → Type 0
 StopsReading rest count (BadStep number) = (number ≡ count + 1) × IsNoStep rest number
 StopsReading rest count (Unread number) = number ≡ count + 1
 StopsReading rest count NoMemory = ⊤
@@ -81,7 +81,7 @@ pub record IsDoneBefore (text : Option (List ℕ)) (number : ℕ) (old new : Wor
 
 -- what was done of a text where a script ended so: all its lines; those before the one that is no step or can't be read;
 -- or steps
-abbrev pub Ends : Option (List ℕ) → WorldView → WorldView → Result (Unit {0}) Stop → List Line → Type 0
+abbrev pub Ends : Option (List ℕ) → WorldView → WorldView → Result (Unit {0}) ScriptStop → List Line → Type 0
 Ends text old new (Ok x) printed = (all : IsOfScript text old printed) × (all.new.view ≡ new)
 Ends text old new (Err (BadStep number)) printed = (done : IsDoneBefore text number old new printed) × IsNoStep done.rest number
 Ends text old new (Err (Unread number)) printed = IsDoneBefore text number old new printed
@@ -89,42 +89,42 @@ Ends text old new (Err NoMemory) printed = Ran old new printed
 Ends text old new (Err Unwritten) printed = Ran old new printed
 
 -- that, and the laws of the run that it is
-abbrev pub EndsWell : Option (List ℕ) → WorldView → WorldView → Result (Unit {0}) Stop → List Line → Type 0
+abbrev pub EndsWell : Option (List ℕ) → WorldView → WorldView → Result (Unit {0}) ScriptStop → List Line → Type 0
 EndsWell text old new ended printed = Ends text old new ended printed × RanWell old new printed
 
 -- the same where nothing is in doubt: the laws hold
-pub record EndsSurely (text : Option (List ℕ)) (old new : WorldView) (ended : Result (Unit {0}) Stop) (printed : List Line) : Type 0 where
+pub record EndsSurely (text : Option (List ℕ)) (old new : WorldView) (ended : Result (Unit {0}) ScriptStop) (printed : List Line) : Type 0 where
   pub ends : Ends text old new ended printed
   pub ran : Ran old new printed
   pub holds : HoldsOfRun old ran.steps ran.told new
   pub tells : TellsOfRun old new printed
 
 -- lines of which P holds are written whole; where they can't be written, a front of them is
-abbrev pub EndsIn : {X : Type 0} → Result X Stop → (List Line → Type 0) → Option (List ℕ) → Option (List ℕ) → Type 0
+abbrev pub EndsIn : {X : Type 0} → Result X ScriptStop → (List Line → Type 0) → Option (List ℕ) → Option (List ℕ) → Type 0
 EndsIn (Ok x) P before after = Wrote P before after
 EndsIn (Err Unwritten) P before after = WroteFront P before after
 EndsIn (Err stop) P before after = Wrote P before after
 
 -- what came to an end did what P says; what stopped before did what Q says; and the lines of it are written whole;
 -- where they can't be, a front of them is
-abbrev pub EndsAs : {X : Type 0} → Result X Stop → (X → List Line → Type 0) → (Stop → List Line → Type 0) → Option (List ℕ) → Option (List ℕ) → Type 0
+abbrev pub EndsAs : {X : Type 0} → Result X ScriptStop → (X → List Line → Type 0) → (ScriptStop → List Line → Type 0) → Option (List ℕ) → Option (List ℕ) → Type 0
 EndsAs (Ok x) P Q before after = Wrote (P x) before after
 EndsAs (Err Unwritten) P Q before after = WroteFront (Q Unwritten) before after
 EndsAs (Err stop) P Q before after = Wrote (Q stop) before after
 
 -- a line that is a step stops for want of memory, or as its lines can't be written, and leaves steps
-abbrev pub Breaks : WorldView → WorldView → Stop → List Line → Type 0
+abbrev pub Breaks : WorldView → WorldView → ScriptStop → List Line → Type 0
 Breaks old new NoMemory printed = Ran old new printed
 Breaks old new Unwritten printed = Ran old new printed
 Breaks old new stop printed = ⊥
 
 -- a line stops so too, or it is no step, and does nothing
-abbrev pub BreaksLine : List ℕ → ℕ → Played → Played → Stop → List Line → Type 0
+abbrev pub BreaksLine : List ℕ → ℕ → Played → Played → ScriptStop → List Line → Type 0
 BreaksLine line number old new (BadStep at) printed = (at ≡ number) × IsParsed (utf8_lossy line) parsed.Bad × (printed ≡ []) × (new ≡ old)
 BreaksLine line number old new stop printed = Breaks old.view new.view stop printed
 
 -- lines are written whole; or they can't be, and a front of them is
-abbrev pub Writes : {X : Type 0} → Result X Stop → List Line → Option (List ℕ) → Option (List ℕ) → Type 0
+abbrev pub Writes : {X : Type 0} → Result X ScriptStop → List Line → Option (List ℕ) → Option (List ℕ) → Type 0
 Writes (Ok x) printed before after = Appends before after (lines_text printed)
 Writes (Err stop) printed before after = (stop ≡ Unwritten) × AppendsFront before after (lines_text printed)
 
@@ -133,14 +133,14 @@ abbrev pub Obeys : Bool → Played → Parsed → List Line → Played → Type 
 Obeys true old meant printed new = DoesParsed old meant printed new
 Obeys false old meant printed new = (meant ≡ parsed.Bad) × (printed ≡ []) × (new ≡ old)
 
-abbrev pub status_at : Result (Unit {0}) Stop → ℕ
+abbrev pub status_at : Result (Unit {0}) ScriptStop → ℕ
 status_at (Ok x) = 0
 status_at (Err stop) = status_of stop
 
 -- with this status a script came to its end; or to a line that is no step or can't be read, or to want of memory, and
 -- what it printed before is written whole; or that can't be written, and a front of it is
-abbrev pub EndsWith : ℕ → (Result (Unit {0}) Stop → List Line → Type 0) → Option (List ℕ) → Option (List ℕ) → Type 0
-EndsWith status P before after = (ended : Result (Unit {0}) Stop) × (status ≡ status_at ended) × EndsIn ended (P ended) before after
+abbrev pub EndsWith : ℕ → (Result (Unit {0}) ScriptStop → List Line → Type 0) → Option (List ℕ) → Option (List ℕ) → Type 0
+EndsWith status P before after = (ended : Result (Unit {0}) ScriptStop) × (status ≡ status_at ended) × EndsIn ended (P ended) before after
 
 -- records of a type in which none is ever in doubt
 abbrev pub IsNeverInDoubt : {R : Type 0} → (R → Store) → Type 0

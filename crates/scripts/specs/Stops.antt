@@ -1,9 +1,9 @@
 -- How a script ends.
 use Rattle.std.specs.Prelude.{◌≡◌, ◌⊎◌, ℕ}
-use Rattle.scripts.specs.declared.stops.Stop.{Stop}
-use Rattle.scripts.specs.declared.stops.Stop.TheVariants.{BadStep, Unread, NoMemory, Unwritten}
+use Rattle.scripts.specs.declared.stops.ScriptStop.{ScriptStop}
+use Rattle.scripts.specs.declared.stops.ScriptStop.TheVariants.{BadStep, Unread, NoMemory, Unwritten}
 
-abbrev pub status_of : Stop → ℕ
+abbrev pub status_of : ScriptStop → ℕ
 status_of (BadStep line) = 1
 status_of (Unread line) = 1
 status_of NoMemory = 4

@@ -6,7 +6,7 @@ ghost use Rattle.std.specs.Io.BufRead.{strip_last};
 ghost use Rattle.scripts.specs.Texts.{Advances, Fills};
 ghost use Rattle.scripts.specs.Ran.{StopsReading};
 
-use crate::stops::Stop;
+use crate::stops::ScriptStop;
 use std::alloc::Global;
 use std::io;
 use std::io::{BufRead, BufReader, ErrorKind, Read};
@@ -105,9 +105,9 @@ impl<R: Read + Drop> Model for ScriptLines<R> {
 }
 
 impl<R: Read + Drop> ScriptLines<R> {
-    pub(crate) fn new(alloc: Global, reader: R) -> Result<ScriptLines<R>, Stop>
+    pub(crate) fn new(alloc: Global, reader: R) -> Result<ScriptLines<R>, ScriptStop>
         ensures new { IfOk result (λ lines. lines ≡ record { rest = R.remaining reader; line = []; number = 0 }) }
-        ensures only { IfErr result (λ stop. stop ≡ Stop.NoMemory) }
+        ensures only { IfErr result (λ stop. stop ≡ ScriptStop.NoMemory) }
     {
         let rationed = Rationed {
             reader: Counted::new(reader, READ_LIMIT),
@@ -119,7 +119,7 @@ impl<R: Read + Drop> ScriptLines<R> {
                 line: Vec::new(alloc),
                 number: 0,
             }),
-            Err(_) => Err(Stop::NoMemory),
+            Err(_) => Err(ScriptStop::NoMemory),
         }
     }
 
@@ -130,7 +130,7 @@ impl<R: Read + Drop> ScriptLines<R> {
 
     /// Goes on to the next line; false where there is none. A line that is too long, too many or can't be read is no
     /// step.
-    pub(crate) fn advance(&mut self) -> Result<bool, Stop>
+    pub(crate) fn advance(&mut self) -> Result<bool, ScriptStop>
         ensures advances { IfOk result (λ is_there. Advances is_there self.old self.new) }
         ensures stopped { IfErr result (λ stop. self.old.number ≤ 1000000 → StopsReading self.old.rest self.old.number stop) }
     {
@@ -140,10 +140,10 @@ impl<R: Read + Drop> ScriptLines<R> {
         }
         cut(&mut self.line);
         if self.number > LINE_COUNT_LIMIT {
-            return Err(Stop::BadStep(self.number));
+            return Err(ScriptStop::BadStep(self.number));
         }
         if self.line.len() > LINE_LENGTH_LIMIT {
-            return Err(Stop::BadStep(self.number));
+            return Err(ScriptStop::BadStep(self.number));
         }
         Ok(true)
     }
@@ -163,16 +163,16 @@ impl<R: Read + Drop> ScriptLines<R> {
     }
 
     // Reads up to and with the next LF, and little more than a line may have.
-    fn fill(&mut self) -> Result<usize, Stop>
+    fn fill(&mut self) -> Result<usize, ScriptStop>
         ensures filled { IfOk result (λ count. Fills count self.old self.new) }
-        ensures only { IfErr result (λ stop. (stop ≡ Stop.NoMemory) ⊎ (stop ≡ Stop.Unread self.old.number)) }
+        ensures only { IfErr result (λ stop. (stop ≡ ScriptStop.NoMemory) ⊎ (stop ≡ ScriptStop.Unread self.old.number)) }
     {
         self.line.clear();
         self.reader.get_mut().allow(LINE_LENGTH_LIMIT + 1);
         match self.reader.read_until(b'\n', &mut self.line) {
             Ok(count) => Ok(count),
-            Err(error) if error.kind() == ErrorKind::OutOfMemory => Err(Stop::NoMemory),
-            Err(_) => Err(Stop::Unread(self.number)),
+            Err(error) if error.kind() == ErrorKind::OutOfMemory => Err(ScriptStop::NoMemory),
+            Err(_) => Err(ScriptStop::Unread(self.number)),
         }
     }
 }

@@ -12,7 +12,7 @@ ghost use Rattle.scripts.specs.Texts.{Advances};
 use crate::deliveries::Deliveries;
 use crate::lines::{LINE_COUNT_LIMIT, ScriptLines};
 use crate::steps::{Parsed, read_line};
-use crate::stops::Stop;
+use crate::stops::ScriptStop;
 use crate::traces::Trace;
 use collections::Items;
 use node_core::{Fault, Line};
@@ -86,7 +86,7 @@ fn run<R: Records + Drop, I: Read + Drop, W: Write, E: Write + Drop>(
     reader: I,
     writer: &mut W,
     trace: &mut Trace<E>,
-) -> Result<(), Stop>
+) -> Result<(), ScriptStop>
     ensures { EndsIn result (Ends (I.remaining reader) world.old world.new result) (W.contents writer.old) (W.contents writer.new) }
 {
     let mut lines = ScriptLines::new(alloc, reader)?;
@@ -101,7 +101,7 @@ fn run_lines<R: Records + Drop, I: Read + Drop, W: Write, E: Write + Drop>(
     lines: &mut ScriptLines<I>,
     output: &mut W,
     trace: &mut Trace<E>,
-) -> Result<(), Stop>
+) -> Result<(), ScriptStop>
     requires { lines.old.number ≡ 0 }
     ensures { EndsIn result (Ends lines.old.rest world.old world.new result) (W.contents output.old) (W.contents output.new) }
 {
@@ -112,14 +112,14 @@ fn run_lines<R: Records + Drop, I: Read + Drop, W: Write, E: Write + Drop>(
         }
         run_told(alloc, world, lines, &mut delivered, output, trace)?;
     }
-    Err(Stop::Unread(lines.number().saturating_add(1)))
+    Err(ScriptStop::Unread(lines.number().saturating_add(1)))
 }
 
 // Goes on to the next line; false where there is none. What was printed is written before more input is read.
 fn advance<I: Read + Drop, W: Write>(
     lines: &mut ScriptLines<I>,
     output: &mut W,
-) -> Result<bool, Stop>
+) -> Result<bool, ScriptStop>
     ensures advances { IfOk result (λ is_there. Advances is_there lines.old lines.new) }
     ensures stopped { IfErr result (λ stop. lines.old.number ≤ 1000000 → StopsReading lines.old.rest lines.old.number stop) }
     ensures kept { Keeps (W.contents output.old) (W.contents output.new) }
@@ -138,7 +138,7 @@ fn run_told<R: Records + Drop, I: Read + Drop, W: Write, E: Write + Drop>(
     delivered: &mut Deliveries,
     output: &mut W,
     trace: &mut Trace<E>,
-) -> Result<(), Stop>
+) -> Result<(), ScriptStop>
     requires { length lines.now.line ≤ 1048576 }
     ensures { EndsAs result (λ _ printed. DoesLine (played world.old delivered.old) lines.now.line printed (played world.new delivered.new)) (BreaksLine lines.now.line lines.now.number (played world.old delivered.old) (played world.new delivered.new)) (W.contents output.old) (W.contents output.new) }
 {
@@ -154,13 +154,13 @@ fn run_line<R: Records + Drop, I: Read + Drop, W: Write>(
     lines: &ScriptLines<I>,
     delivered: &mut Deliveries,
     output: &mut W,
-) -> Result<(), Stop>
+) -> Result<(), ScriptStop>
     requires { length lines.now.line ≤ 1048576 }
     ensures { EndsAs result (λ _ printed. DoesLine (played world.old delivered.old) lines.now.line printed (played world.new delivered.new)) (BreaksLine lines.now.line lines.now.number (played world.old delivered.old) (played world.new delivered.new)) (W.contents output.old) (W.contents output.new) }
 {
     let parsed = read_line(alloc, lines.line())?;
     if !obey(world, &parsed, delivered, output)? {
-        return Err(Stop::BadStep(lines.number()));
+        return Err(ScriptStop::BadStep(lines.number()));
     }
     Ok(())
 }
@@ -171,7 +171,7 @@ fn obey<R: Records + Drop, W: Write>(
     parsed: &Parsed,
     delivered: &mut Deliveries,
     output: &mut W,
-) -> Result<bool, Stop>
+) -> Result<bool, ScriptStop>
     ensures { EndsAs result (λ done printed. Obeys done (played world.old delivered.old) parsed.now printed (played world.new delivered.new)) (Breaks world.old world.new) (W.contents output.old) (W.contents output.new) }
 {
     match parsed {
@@ -190,7 +190,7 @@ fn settle<R: Records + Drop, W: Write>(
     world: &mut World<R>,
     delivered: &mut Deliveries,
     output: &mut W,
-) -> Result<(), Stop>
+) -> Result<(), ScriptStop>
     ensures { EndsAs result (λ _ printed. Settles (played world.old delivered.old) printed (played world.new delivered.new)) (Breaks world.old world.new) (W.contents output.old) (W.contents output.new) }
 {
     if !world.is_up() {
@@ -202,7 +202,7 @@ fn settle<R: Records + Drop, W: Write>(
         }
     }
     // So many turns send more messages than memory holds.
-    Err(Stop::NoMemory)
+    Err(ScriptStop::NoMemory)
 }
 
 // One turn; false where it was the last.
@@ -210,7 +210,7 @@ fn settle_on<R: Records + Drop, W: Write>(
     world: &mut World<R>,
     delivered: &mut Deliveries,
     output: &mut W,
-) -> Result<bool, Stop>
+) -> Result<bool, ScriptStop>
     ensures { EndsAs result (λ more printed. TakesTurn more (played world.old delivered.old) printed (played world.new delivered.new)) (Breaks world.old world.new) (W.contents output.old) (W.contents output.new) }
 {
     match settle_turn(world, delivered) {
@@ -255,7 +255,10 @@ fn has_waiting<R: Records + Drop>(world: &World<R>, delivered: &Deliveries) -> b
 }
 
 // Writes what a step printed, or its refusal.
-fn write_answer<W: Write>(output: &mut W, answer: &Result<Items<Line>, Fault>) -> Result<(), Stop>
+fn write_answer<W: Write>(
+    output: &mut W,
+    answer: &Result<Items<Line>, Fault>,
+) -> Result<(), ScriptStop>
     ensures { Writes result (told answer.now) (W.contents output.old) (W.contents output.new) }
 {
     match answer {
@@ -264,7 +267,7 @@ fn write_answer<W: Write>(output: &mut W, answer: &Result<Items<Line>, Fault>) -
     }
 }
 
-fn write_lines<W: Write>(output: &mut W, lines: &[Line]) -> Result<(), Stop>
+fn write_lines<W: Write>(output: &mut W, lines: &[Line]) -> Result<(), ScriptStop>
     ensures { Writes result lines.now (W.contents output.old) (W.contents output.new) }
 {
     for line in lines {
@@ -273,7 +276,7 @@ fn write_lines<W: Write>(output: &mut W, lines: &[Line]) -> Result<(), Stop>
     Ok(())
 }
 
-fn write_refusal<W: Write>(output: &mut W, fault: Fault) -> Result<(), Stop>
+fn write_refusal<W: Write>(output: &mut W, fault: Fault) -> Result<(), ScriptStop>
     ensures { Writes result (Line.Refused fault ∷ []) (W.contents output.old) (W.contents output.new) }
 {
     let line = Line::Refused(fault);
@@ -282,11 +285,11 @@ fn write_refusal<W: Write>(output: &mut W, fault: Fault) -> Result<(), Stop>
     written
 }
 
-fn write_line<W: Write>(output: &mut W, line: &Line) -> Result<(), Stop>
+fn write_line<W: Write>(output: &mut W, line: &Line) -> Result<(), ScriptStop>
     ensures { Writes result (line.now ∷ []) (W.contents output.old) (W.contents output.new) }
 {
     match output::write_line(output, line) {
         Ok(()) => Ok(()),
-        Err(_) => Err(Stop::Unwritten),
+        Err(_) => Err(ScriptStop::Unwritten),
     }
 }

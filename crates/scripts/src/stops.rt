@@ -7,7 +7,7 @@ use std::io;
 
 /// Why a script stops before its end.
 #[derive(Clone, Copy, Debug)]
-pub(crate) enum Stop {
+pub(crate) enum ScriptStop {
     /// The line of this number, counted from 1, is no step.
     BadStep(u64),
     /// The line of this number can't be read.
@@ -18,36 +18,36 @@ pub(crate) enum Stop {
     Unwritten,
 }
 
-impl Stop {
+impl ScriptStop {
     /// The exit status.
     pub(crate) fn status(&self) -> u8
         ensures { result ≡ status_of self.now }
     {
         match self {
-            Stop::BadStep(_) | Stop::Unread(_) | Stop::Unwritten => 1,
-            Stop::NoMemory => 4,
+            ScriptStop::BadStep(_) | ScriptStop::Unread(_) | ScriptStop::Unwritten => 1,
+            ScriptStop::NoMemory => 4,
         }
     }
 }
 
-impl From<AllocError> for Stop {
+impl From<AllocError> for ScriptStop {
     ghost use Rattle.std.specs.Prelude.{◌≡◌};
-    ghost use Rattle.scripts.specs.declared.stops.Stop.TheVariants.{NoMemory};
+    ghost use Rattle.scripts.specs.declared.stops.ScriptStop.TheVariants.{NoMemory};
 
     ghost from_gives = { λ _ e. e ≡ NoMemory };
 
-    fn from(_e: AllocError) -> Stop {
-        Stop::NoMemory
+    fn from(_e: AllocError) -> ScriptStop {
+        ScriptStop::NoMemory
     }
 }
 
-impl From<io::Error> for Stop {
+impl From<io::Error> for ScriptStop {
     ghost use Rattle.std.specs.Prelude.{◌≡◌};
-    ghost use Rattle.scripts.specs.declared.stops.Stop.TheVariants.{Unwritten};
+    ghost use Rattle.scripts.specs.declared.stops.ScriptStop.TheVariants.{Unwritten};
 
     ghost from_gives = { λ _ e. e ≡ Unwritten };
 
-    fn from(_e: io::Error) -> Stop {
-        Stop::Unwritten
+    fn from(_e: io::Error) -> ScriptStop {
+        ScriptStop::Unwritten
     }
 }

@@ -1,5 +1,5 @@
 //! What is told of messages as they are sent.
-use crate::stops::Stop;
+use crate::stops::ScriptStop;
 use std::io::{self, Write};
 use tags_cell::{Call, Out, Request};
 use world_steps::Message;
@@ -35,13 +35,13 @@ impl<E: Write + Drop> Trace<E> {
     }
 
     /// Tells why a script stops.
-    pub(crate) fn stop(&mut self, stop: &Stop) -> io::Result<()> {
+    pub(crate) fn stop(&mut self, stop: &ScriptStop) -> io::Result<()> {
         match stop {
-            Stop::BadStep(line) | Stop::Unread(line) => {
+            ScriptStop::BadStep(line) | ScriptStop::Unread(line) => {
                 writeln!(&mut self.errors, "line {line}: bad step")
             }
-            Stop::NoMemory => writeln!(&mut self.errors, "out of memory"),
-            Stop::Unwritten => Ok(()),
+            ScriptStop::NoMemory => writeln!(&mut self.errors, "out of memory"),
+            ScriptStop::Unwritten => Ok(()),
         }
     }
 }

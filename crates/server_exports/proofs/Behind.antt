@@ -13,7 +13,7 @@ use Rattle.codec.specs.Fields.{word, client}
 use Rattle.codec.specs.Outs.{out_message, out_written}
 use Rattle.codec.proofs.FormLaws.{IsBytes, read_was_written, written_begins}
 use Rattle.codec.proofs.OutLaws.{has_bytes_form, form_written}
-use Rattle.hosting.specs.declared.tellings.Told.TheVariants as tells
+use Rattle.hosting.specs.declared.tellings.MasterFrame.TheVariants as tells
 use Rattle.hosting.specs.Told.{told}
 use Rattle.hosting.proofs.ToldLaws.{told_form}
 

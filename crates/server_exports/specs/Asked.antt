@@ -10,7 +10,7 @@ use Rattle.tags_cell.specs.declared.messages.requests.Request.TheVariants as req
 use Rattle.codec.specs.Calls.{call_kind, call_place}
 use Rattle.codec.specs.Requests.{request_kind, request_place}
 use Rattle.master_parts.specs.Calls.{bytes_of}
-use Rattle.server_exports.specs.declared.asked.Asked.{Asked}
+use Rattle.server_exports.specs.declared.asked.RequestParts.{RequestParts}
 use Rattle.server_exports.specs.Shown.{shown_instance, shown_name}
 
 -- which message it is: one above the byte of its kind
@@ -55,7 +55,7 @@ asked_name (requests.Start message) = message.principal
 asked_name (requests.Beat message) = []
 asked_name (requests.Call message) = call_name message.call
 
-abbrev pub asked_parts : Request → Asked
+abbrev pub asked_parts : Request → RequestParts
 asked_parts (requests.Start message) = record {
   what = request_number (requests.Start message);
   call = 0;

@@ -12,9 +12,9 @@ use Rattle.codec.specs.declared.faults.WireFault.TheVariants.{BadKind}
 use Rattle.codec.specs.Forms.{◌>>=◌, read_whole}
 use Rattle.codec.specs.Fields.{kind_place, life_place, lock_mode_place}
 use Rattle.codec.specs.Lines.{line_kind, line_place, mod_kind, mod_place}
-use Rattle.hosting.specs.declared.standing.Counts.{Counts}
-use Rattle.hosting.specs.declared.tellings.Told.{Told}
-use Rattle.hosting.specs.declared.tellings.Told.TheVariants as tells
+use Rattle.hosting.specs.declared.standing.MasterCounts.{MasterCounts}
+use Rattle.hosting.specs.declared.tellings.MasterFrame.{MasterFrame}
+use Rattle.hosting.specs.declared.tellings.MasterFrame.TheVariants as tells
 use Rattle.hosting.specs.Told.{told, told_kind, told_place, fault_place}
 use Rattle.server_exports.specs.declared.said.Said.{Said}
 use Rattle.server_exports.specs.declared.heard.Heard.{Heard}
@@ -52,7 +52,7 @@ bare what line = record {
 }
 
 -- what is told: one above the byte of its kind
-abbrev pub told_number : Told → ℕ
+abbrev pub told_number : MasterFrame → ℕ
 told_number given = told_place (told_kind given) + 1
 
 -- which line it is: one above the byte of its kind
@@ -99,10 +99,10 @@ abbrev pub mark_parts : ℕ → Option ℕ → Heard
 mark_parts what None = bare what 0
 mark_parts what (Some moment) = record (bare what 0) { is_timed = 1; moment = moment }
 
-abbrev pub count_parts : ℕ → Counts → Heard
+abbrev pub count_parts : ℕ → MasterCounts → Heard
 count_parts what counts = record (bare what 0) { epoch = counts.epoch; sessions = counts.sessions; nodes = counts.nodes; rights = counts.rights; changes = counts.changes }
 
-abbrev pub heard_parts : Told → Heard
+abbrev pub heard_parts : MasterFrame → Heard
 heard_parts (tells.Line printed) = line_parts printed
 heard_parts (tells.Message client message) = record (bare (told_number (tells.Message client message)) 0) { client = client; said = said_parts message }
 heard_parts (tells.Bad fault) = record (bare (told_number (tells.Bad fault)) 0) { fault = fault_place fault }
@@ -124,7 +124,7 @@ line_name (lines.Applied client call change names) = changed_name change
 line_name (lines.Granted right client name) = name
 line_name printed = []
 
-abbrev pub heard_name : Told → List ℕ
+abbrev pub heard_name : MasterFrame → List ℕ
 heard_name (tells.Line printed) = line_name printed
 heard_name (tells.Touches name) = name
 heard_name given = []
@@ -132,7 +132,7 @@ heard_name given = []
 -- ---- texts
 
 -- a line as it is printed; nothing else has a text
-abbrev pub told_text : Told → Result (List ℕ) WireFault
+abbrev pub told_text : MasterFrame → Result (List ℕ) WireFault
 told_text (tells.Line printed) = Ok (line_text printed)
 told_text given = Err BadKind
 

@@ -14,7 +14,7 @@ use Rattle.codec.specs.Requests.{request}
 use Rattle.codec.specs.Outs.{out_written}
 use Rattle.codec.specs.Laws.{AreBytes}
 use Rattle.hosting.specs.declared.frames.Frame.TheVariants as frames
-use Rattle.hosting.specs.declared.tellings.Told.TheVariants as tells
+use Rattle.hosting.specs.declared.tellings.MasterFrame.TheVariants as tells
 use Rattle.hosting.specs.Blocks.{framed}
 use Rattle.hosting.specs.Frames.{frame}
 use Rattle.hosting.specs.Told.{told}

@@ -16,7 +16,7 @@ use tags_cell::{Call, CallMessage, Create, NewNode, Request};
 /// A client's message, in plain numbers; what doesn't belong to its kind is 0. In C a struct.
 #[repr(C)]
 #[derive(Clone, Copy)]
-pub struct Asked {
+pub struct RequestParts {
     /// 1 a Start, 2 a Beat, 3 a call.
     pub what: u32,
     /// 1 to 15: Open, Close, Read, Stat, List, Set, SetAcl, Delete, Acquire, TryAcquire, Release, GetSequencer, SetSequencer,
@@ -38,7 +38,12 @@ pub struct Asked {
 }
 
 // A message by its parts, of its bytes; or what is wrong with them.
-pub(crate) fn tell_asked(alloc: Global, message: &[u8], out: &mut Asked, name: &mut [u8]) -> u32
+pub(crate) fn tell_asked(
+    alloc: Global,
+    message: &[u8],
+    out: &mut RequestParts,
+    name: &mut [u8],
+) -> u32
     ensures { Tells asked_parts asked_name (read_whole request message.now) out.old out.new name.old name.new result }
 {
     match read_request(alloc, message) {
@@ -51,7 +56,7 @@ pub(crate) fn tell_asked(alloc: Global, message: &[u8], out: &mut Asked, name: &
     }
 }
 
-fn put_asked(request: &Request, out: &mut Asked, name: &mut [u8]) -> u32
+fn put_asked(request: &Request, out: &mut RequestParts, name: &mut [u8]) -> u32
     ensures { Parts asked_parts asked_name (Ok request.now) out.old out.new name.old name.new result }
 {
     *out = asked_parts(request);
@@ -59,11 +64,11 @@ fn put_asked(request: &Request, out: &mut Asked, name: &mut [u8]) -> u32
     0
 }
 
-fn asked_parts(request: &Request) -> Asked
+fn asked_parts(request: &Request) -> RequestParts
     ensures { result ≡ asked_parts request.now }
 {
     match request {
-        Request::Start(start) => Asked {
+        Request::Start(start) => RequestParts {
             what: 1,
             call: 0,
             client: start.client.get(),
@@ -74,7 +79,7 @@ fn asked_parts(request: &Request) -> Asked
             length: 0,
             name_length: start.principal.as_str().as_bytes().len() as u64,
         },
-        Request::Beat(beat) => Asked {
+        Request::Beat(beat) => RequestParts {
             what: 2,
             call: 0,
             client: beat.client.get(),
@@ -89,11 +94,11 @@ fn asked_parts(request: &Request) -> Asked
     }
 }
 
-fn call_parts(message: &CallMessage) -> Asked
+fn call_parts(message: &CallMessage) -> RequestParts
     ensures { result ≡ asked_parts (Request.Call message.now) }
 {
     let call = &message.call;
-    Asked {
+    RequestParts {
         what: 3,
         call: call_number(call),
         client: message.client.get(),

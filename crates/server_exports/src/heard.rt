@@ -13,7 +13,7 @@ use crate::rooms::fill;
 use crate::said::{Said, said_parts};
 use codec::WireFault;
 use collections::Bytes;
-use hosting::{Counts, Told, read_told};
+use hosting::{MasterCounts, MasterFrame, read_told};
 use node_core::{Kind, Life, Line, LockMode, Mod};
 use std::alloc::Global;
 
@@ -76,7 +76,7 @@ pub(crate) fn tell_heard(alloc: Global, block: &[u8], out: &mut Heard, name: &mu
     }
 }
 
-fn put_heard(given: &Told, out: &mut Heard, name: &mut [u8]) -> u32
+fn put_heard(given: &MasterFrame, out: &mut Heard, name: &mut [u8]) -> u32
     ensures { Parts heard_parts heard_name (Ok given.now) out.old out.new name.old name.new result }
 {
     *out = heard_parts(given);
@@ -98,11 +98,11 @@ pub(crate) fn block_text(alloc: Global, block: &[u8]) -> Result<Bytes, WireFault
     }
 }
 
-fn told_text(alloc: Global, given: &Told) -> Result<Bytes, WireFault>
+fn told_text(alloc: Global, given: &MasterFrame) -> Result<Bytes, WireFault>
     ensures { Gives WireFault.NoMemory result (told_text given.now) }
 {
     match given {
-        Told::Line(line) => {
+        MasterFrame::Line(line) => {
             let text = format!(in alloc; "{line}")?;
             Ok(Bytes::copy_of(alloc, text.as_str().as_bytes())?)
         }
@@ -153,35 +153,35 @@ pub(crate) fn bare(what: u32, line: u32) -> Heard
     }
 }
 
-fn heard_parts(given: &Told) -> Heard
+fn heard_parts(given: &MasterFrame) -> Heard
     ensures { result ≡ heard_parts given.now }
 {
     match given {
-        Told::Line(line) => line_parts(line),
-        Told::Message(client, message) => Heard {
+        MasterFrame::Line(line) => line_parts(line),
+        MasterFrame::Message(client, message) => Heard {
             client: client.get(),
             said: said_parts(message),
             ..bare(2, 0)
         },
-        Told::Bad(fault) => Heard {
+        MasterFrame::Bad(fault) => Heard {
             fault: fault_place(*fault),
             ..bare(3, 0)
         },
-        Told::End(deadline) => mark_parts(*deadline),
-        Told::Counts(counts) => count_parts(*counts),
-        Told::Recovers(until) => Heard {
+        MasterFrame::End(deadline) => mark_parts(*deadline),
+        MasterFrame::Counts(counts) => count_parts(*counts),
+        MasterFrame::Recovers(until) => Heard {
             moment: *until,
             ..bare(6, 0)
         },
-        Told::Waits(number) => Heard {
+        MasterFrame::Waits(number) => Heard {
             number: *number,
             ..bare(7, 0)
         },
-        Told::Touches(name) => Heard {
+        MasterFrame::Touches(name) => Heard {
             name_length: name.len() as u64,
             ..bare(8, 0)
         },
-        Told::Awaited(client) => Heard {
+        MasterFrame::Awaited(client) => Heard {
             client: *client,
             ..bare(9, 0)
         },
@@ -208,7 +208,7 @@ fn mark_parts(deadline: Option<u64>) -> Heard
     }
 }
 
-fn count_parts(counts: Counts) -> Heard
+fn count_parts(counts: MasterCounts) -> Heard
     ensures { result ≡ count_parts 5 counts }
 {
     Heard {
@@ -369,12 +369,12 @@ fn line_name(line: &Line) -> &[u8]
     }
 }
 
-fn heard_name(given: &Told) -> &[u8]
+fn heard_name(given: &MasterFrame) -> &[u8]
     ensures { result.now ≡ heard_name given.now }
 {
     match given {
-        Told::Line(line) => line_name(line),
-        Told::Touches(name) => name.as_slice(),
+        MasterFrame::Line(line) => line_name(line),
+        MasterFrame::Touches(name) => name.as_slice(),
         _ => &[],
     }
 }

@@ -22,7 +22,7 @@ ghost use Rattle.hosting.specs.declared.frames.Frame.TheVariants as frames;
 ghost use Rattle.hosting.specs.Blocks.{framed};
 ghost use Rattle.hosting.specs.Frames.{frame};
 ghost use Rattle.hosting.specs.Told.{told};
-ghost use Rattle.rows_remote.specs.declared.frames.Answer.TheVariants as answers;
+ghost use Rattle.rows_remote.specs.declared.frames.KeeperAnswer.TheVariants as answers;
 ghost use Rattle.rows_remote.specs.Frames.{asked as asked_of_rows, answer, edit_at, framed as framed_answer};
 ghost use Rattle.server_exports.specs.Codes.{Shows, Tells};
 ghost use Rattle.server_exports.specs.Asked.{asked_parts, asked_name};
@@ -33,7 +33,7 @@ ghost use Rattle.server_exports.specs.Questions.{question_parts, question_name};
 ghost use Rattle.server_exports.specs.Edits.{edit_parts, edit_texts};
 ghost use Rattle.server_exports.specs.Rows.{node_row, session_row, lock_row, front_in};
 
-pub use asked::Asked;
+pub use asked::RequestParts;
 use asked::tell_asked;
 pub use edits::EditParts;
 use edits::tell_edit;
@@ -58,7 +58,7 @@ use written::{message_frame, store_refused};
 pub extern "C" fn cell_server_asked(
     alloc: Global,
     message: &[u8],
-    out: &mut Asked,
+    out: &mut RequestParts,
     name: &mut [u8],
 ) -> u32
     ensures { Tells asked_parts asked_name (read_whole request message.now) out.old out.new name.old name.new result }

@@ -6,7 +6,7 @@ ghost use Rattle.server_exports.specs.Codes.{Tells};
 ghost use Rattle.server_exports.specs.Questions.{question_parts, question_name};
 
 use crate::codes::fault_code;
-use rows_remote::{Asked, EDITS_AT, read_asked};
+use rows_remote::{EDITS_AT, KeeperQuestion, read_asked};
 use std::alloc::Global;
 
 /// What a master asks of the program that keeps its rows, in plain numbers; what doesn't belong to its kind is 0. In C a struct.
@@ -37,17 +37,17 @@ pub(crate) fn tell_question(alloc: Global, block: &[u8], out: &mut Question) -> 
     }
 }
 
-fn question_parts(question: &Asked) -> Question
+fn question_parts(question: &KeeperQuestion) -> Question
     ensures { result ≡ question_parts question.now }
 {
     match question {
-        Asked::Load => Question {
+        KeeperQuestion::Load => Question {
             what: 1,
             edits_at: 0,
             number: 0,
             edits: 0,
         },
-        Asked::Commit(number, edits) => Question {
+        KeeperQuestion::Commit(number, edits) => Question {
             what: 2,
             edits_at: EDITS_AT,
             number: *number,

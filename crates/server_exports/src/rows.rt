@@ -7,7 +7,7 @@ use codec::WireFault;
 use collections::{Bytes, Secret};
 use names_cell::{Component, Name, Principal};
 use node_core::{Kind, Life, Node};
-use rows_cell::{LockKey, LockRow, LockState, Session, StoredNode};
+use rows_cell::{LockKey, LockRow, LockState, SessionRow, StoredNode};
 use rows_remote::{Own, Row, write_front, write_row};
 use std::alloc::Global;
 use std::str;
@@ -119,7 +119,7 @@ pub(crate) fn session_row(
     ensures { Gives WireFault.NoMemory result (session_row client principal.now live) }
 {
     let principal = principal_in(alloc, principal)?;
-    let session = Session {
+    let session = SessionRow {
         principal,
         live: live != 0,
     };

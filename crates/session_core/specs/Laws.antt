@@ -8,7 +8,7 @@ use Rattle.std.specs.List.Sorted.{IsStrictlySortedBy}
 use Rattle.node_core.specs.declared.events.Event.{Event}
 use Rattle.tags_cell.specs.declared.messages.beats.Beat.{Beat}
 use Rattle.session_core.specs.declared.records.Parked.{Parked}
-use Rattle.session_core.specs.declared.records.Kept.{Kept}
+use Rattle.session_core.specs.declared.records.LastCall.{LastCall}
 use Rattle.session_core.specs.declared.records.Session.{Session}
 use Rattle.session_core.specs.Session.{prolonged, ended, told, issued_to, issued_through, live_beat_fault, beaten, offered_span, answered, keeping}
 use Rattle.session_core.specs.Sessions.{SessionTable, session_of, kept_of, with_session, with_new, issued_by}
@@ -22,7 +22,7 @@ pub data Step (K : Type 0) : Type 0 where
   IssuedThrough : ℕ → Step K
   Beaten : Beat → ℕ → Step K
   Answered : ℕ → ℕ → Step K
-  Keeping : Kept K → Step K
+  Keeping : LastCall K → Step K
 
 abbrev pub stepped : {K : Type 0} → Step K → Session K → Session K
 stepped (Prolonged moment) session = prolonged moment session
@@ -67,7 +67,7 @@ is_keeping _ = false
 
 -- what is kept of a client's calls is what `keep` last put
 pub record KeepsTheLastCall (K : Type 0) : Type 0 where
-  pub put : (s : SessionTable K) (client : ℕ) (kept : Kept K) → is_some (session_of s client) ≡ true → kept_of (with_session s client (keeping kept)) client ≡ Some kept
+  pub put : (s : SessionTable K) (client : ℕ) (kept : LastCall K) → is_some (session_of s client) ≡ true → kept_of (with_session s client (keeping kept)) client ≡ Some kept
   pub stays : (step : Step K) (session : Session K) → is_keeping step ≡ false → (stepped step session).kept ≡ session.kept
 
 -- a step of one client changes its own session alone

@@ -15,7 +15,7 @@ use Rattle.session_core.specs.declared.records.Tally.{Tally}
 use Rattle.session_core.specs.declared.records.Parked.{Parked}
 use Rattle.session_core.specs.declared.records.Mark.{Mark}
 use Rattle.session_core.specs.declared.records.Offer.{Offer}
-use Rattle.session_core.specs.declared.records.Kept.{Kept}
+use Rattle.session_core.specs.declared.records.LastCall.{LastCall}
 use Rattle.session_core.specs.declared.records.Session.{Session}
 
 -- ---- the beginning and the end of a session
@@ -221,7 +221,7 @@ answered lease now session = option_map_or (λ beat. prolonged (now + lease) (un
 
 -- by the last call of the client: a new one comes, or the last one again, with its reply once there is one; an older one, and a new one while the last one
 -- waits, are refused
-abbrev pub kept_answer : {K : Type 0} → Option (Kept K) → ℕ → Result (Option (Kept K)) Fault
+abbrev pub kept_answer : {K : Type 0} → Option (LastCall K) → ℕ → Result (Option (LastCall K)) Fault
 kept_answer None number = Ok None
 kept_answer (Some kept) number =
     if number == kept.number then Ok (Some kept)
@@ -229,5 +229,5 @@ kept_answer (Some kept) number =
     else if is_none kept.reply then Err faults.CallOutstanding
     else Ok None
 
-abbrev pub keeping : {K : Type 0} → Kept K → Session K → Session K
+abbrev pub keeping : {K : Type 0} → LastCall K → Session K → Session K
 keeping kept session = record session { kept = Some kept }

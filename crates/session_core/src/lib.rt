@@ -17,5 +17,5 @@ pub use laws::{
     acknowledged_was_issued, last_call_is_kept, offer_is_covered, session_outlives_its_lease,
     step_is_its_own, table_issues_to_each, timeout_never_moves_back,
 };
-pub use records::{Begun, Kept, Mark, Offer, PATIENCE, Parked, Session, Tally};
+pub use records::{Begun, LastCall, Mark, Offer, PATIENCE, Parked, Session, Tally};
 pub use sessions::Sessions;

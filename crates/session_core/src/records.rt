@@ -69,7 +69,7 @@ pub struct Begun {
 
 /// The last call of a client, and its reply once there is one: the same call gets it again.
 #[derive(Drop)]
-pub struct Kept<K> {
+pub struct LastCall<K> {
     pub number: MessageNumber,
     /// None while the call waits.
     pub reply: Option<K>,
@@ -95,7 +95,7 @@ pub struct Session<K> {
     pub parked: Option<Parked>,
     /// What it was told that others wait for, and hasn't acknowledged.
     pub mark: Option<Mark>,
-    pub kept: Option<Kept<K>>,
+    pub kept: Option<LastCall<K>>,
 }
 
 impl<K> Session<K> {

@@ -6,7 +6,7 @@ use Rattle.cache_core.specs.Caches.{CacheState}
 use Rattle.node_core.specs.Limits.{number_end}
 use Rattle.node_core.specs.declared.refusals.Fault.TheVariants as faults
 use Rattle.share_cell.specs.Keeping.{KeeperState, Publishes, unless_last}
-use Rattle.share_cell.specs.declared.keeper.Kept.{Kept}
+use Rattle.share_cell.specs.declared.keeper.LateAnswer.{LateAnswer}
 use Rattle.node_core.specs.declared.refusals.Fault.{Fault}
 use Rattle.tags_cell.specs.declared.messages.outs.Out.{Out}
 use Rattle.client_core.specs.declared.parts.asks.Ask.{Ask}
@@ -96,11 +96,11 @@ less n m h = grind (arith, nat_tests)
 pub has_room : {X : Type 0} (client : ClientState) (views : List CacheState) (published : ℕ) (step : ClientState × Result X Fault) → published ≡ length views → published + 1 < number_end → unless_last client views step ≡ step
 has_room client views published step is room = room_by (nat_lt (length views + 1) number_end) step (client, Err faults.Exhausted) (less (length views + 1) number_end (omega (arith, is, room)))
 
-abbrev keeper_of : ClientState → Option Kept → List CacheState → KeeperState
+abbrev keeper_of : ClientState → Option LateAnswer → List CacheState → KeeperState
 keeper_of client late views = record { client = client; late = late; views = views }
 
 -- what the client refuses is refused, and nothing has changed
-pub refused : {X : Type 0} (keep : X → Kept) (client new : ClientState) (late : Option Kept) (views : List CacheState) (fault : Fault) (step : ClientState × Result X Fault) → unless_last client views step ≡ step
+pub refused : {X : Type 0} (keep : X → LateAnswer) (client new : ClientState) (late : Option LateAnswer) (views : List CacheState) (fault : Fault) (step : ClientState × Result X Fault) → unless_last client views step ≡ step
     → ((fault ≢ faults.NoMemory → step ≡ (new, Err fault)) × (fault ≡ faults.NoMemory → new ≡ client)) → new ≡ client
     → Publishes keep (keeper_of client late views) (keeper_of new late views) (Err fault) (unless_last client views step)
 refused keep client new late views fault step room does same =

@@ -6,12 +6,12 @@ use Rattle.node_core.specs.declared.refusals.Fault.TheVariants as faults
 use Rattle.cache_core.specs.Caches.{CacheState}
 use Rattle.client_core.specs.State.{ClientState}
 use Rattle.share_cell.specs.Published.{EndsWith, Shows}
-use Rattle.share_cell.specs.declared.keeper.Kept.{Kept}
+use Rattle.share_cell.specs.declared.keeper.LateAnswer.{LateAnswer}
 
 -- its client, the answer that waits for its view to be published, and the views that were published
 pub record KeeperState : Type 0 where
   pub client : ClientState
-  pub late : Option Kept
+  pub late : Option LateAnswer
   pub views : List CacheState
 
 -- the client's step; behind the last number of a view nothing changes
@@ -19,18 +19,18 @@ abbrev pub unless_last : {X : Type 0} → ClientState → List CacheState → Cl
 unless_last client views step = if nat_lt (length views + 1) number_end then step else (client, Err faults.Exhausted)
 
 -- the keeper is late: the client's step stands and its answer is kept, and the views that were published before stand
-abbrev pub FallsLate : {X : Type 0} → (X → Kept) → KeeperState → KeeperState → ClientState × Result X Fault → Type 0
+abbrev pub FallsLate : {X : Type 0} → (X → LateAnswer) → KeeperState → KeeperState → ClientState × Result X Fault → Type 0
 FallsLate {X} keep old new step = (answer : X) × (step ≡ (new.client, Ok answer)) × (new.late ≡ Some (keep answer)) × (new.views ≡ old.views)
 
 -- an answer is that of the client's step, and the last published view is then what the client's cache holds; a refusal changes nothing, but that one for
 -- want of memory may leave the keeper late
-abbrev pub Publishes : {X : Type 0} → (X → Kept) → KeeperState → KeeperState → Result X Fault → ClientState × Result X Fault → Type 0
+abbrev pub Publishes : {X : Type 0} → (X → LateAnswer) → KeeperState → KeeperState → Result X Fault → ClientState × Result X Fault → Type 0
 Publishes keep old new (Ok answer) step = (step ≡ (new.client, Ok answer)) × (new.late ≡ None) × Shows old.views new.client.cache new.views
 Publishes keep old new (Err fault) step =
     (fault ≢ faults.NoMemory → (step ≡ (new.client, Err fault)) × (new ≡ old)) × (fault ≡ faults.NoMemory → (new ≡ old) ⊎ FallsLate keep old new step)
 
 -- a keeper that was late shows what its client has, and another one changes nothing
-abbrev pub IsShown : Option Kept → List CacheState → CacheState → List CacheState → Type 0
+abbrev pub IsShown : Option LateAnswer → List CacheState → CacheState → List CacheState → Type 0
 IsShown None views cache new = new ≡ views
 IsShown (Some _) views cache new = Shows views cache new
 

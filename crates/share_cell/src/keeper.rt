@@ -12,11 +12,11 @@ ghost use Rattle.client_core.specs.Gives.{give_step};
 ghost use Rattle.share_cell.specs.Published.{opening, IsOpening};
 ghost use Rattle.share_cell.specs.Owed.{newest, ops_of, AllPlaced};
 
-use crate::rule::{Adds, Known, Longer, Published, Same};
-use crate::side::{Side, Step};
-use crate::viewer::{Told, Viewer};
+use crate::rule::{Adds, Known, KnowsTheSame, Longer, Published};
+use crate::side::{Side, SideStep};
+use crate::viewer::{PublishedCount, Viewer};
 use cache_core::{Cache, CacheOp};
-use client_core::{Ask, Asked, Beaten, Client, Given};
+use client_core::{Ask, AskOutcome, Beaten, Client, Given};
 use core::mem::replace_with;
 use left_right::reader::Factory;
 use left_right::writer::Writer;
@@ -32,8 +32,8 @@ const TOLD_PLACES: usize = 64;
 
 /// An answer that waits until what the client has then is published.
 #[derive(Drop)]
-pub enum Kept {
-    Asked(Asked),
+pub enum LateAnswer {
+    Asked(AskOutcome),
     Given(Given),
     Beaten(Beaten),
 }
@@ -48,10 +48,10 @@ pub enum Kept {
 /// It can't be let go, only closed.
 pub struct Keeper {
     client: Client,
-    writer: Writer<Side, Step, Known, Published>,
+    writer: Writer<Side, SideStep, Known, Published>,
     // The changes that the writer has not taken yet.
     rest: VecDeque<CacheOp>,
-    late: Option<Kept>,
+    late: Option<LateAnswer>,
     published: u64,
     ghost counted: { (published ≡ length (view writer.desk.place)) × (writer.desk.shown.value.place ≡ published) × (0 < published) },
     ghost last: { newest (view writer.desk.place) ≡ writer.desk.shown.value.cache } by { Prim.hlevel props },
@@ -62,7 +62,10 @@ pub struct Keeper {
 }
 
 /// The two copies and their writer.
-fn sides(alloc: Global, readers: usize) -> Result<Writer<Side, Step, Known, Published>, AllocError>
+fn sides(
+    alloc: Global,
+    readers: usize,
+) -> Result<Writer<Side, SideStep, Known, Published>, AllocError>
     requires { (0 < readers) × (readers < 2 ^ 32) }
     ensures { IfOk result (λ w. IsOpening w.desk.shown.value × (drop w.behind w.log.items ≡ []) × (view w.desk.place ≡ opening)) }
 {
@@ -93,7 +96,7 @@ fn seats(
 
 /// Hands the changes to the writer, as steps for the view at that place. What it could not take stays.
 fn hand_over(
-    writer: &mut Writer<Side, Step, Known, Published>,
+    writer: &mut Writer<Side, SideStep, Known, Published>,
     rest: &mut VecDeque<CacheOp>,
     place: u64,
 ) -> Result<(), AllocError>
@@ -104,8 +107,8 @@ fn hand_over(
     ensures all { OnOk result (rest.new.items ≡ []) }
 {
     while let Some(op) = rest.pop_front() {
-        if let Err(step) = writer.append(Step { place, op }) {
-            let Step { place: _, op } = step;
+        if let Err(step) = writer.append(SideStep { place, op }) {
+            let SideStep { place: _, op } = step;
             rest.push_front_reserved(op);
             return Err(AllocError);
         }
@@ -182,9 +185,9 @@ impl Keeper {
 
     /// Asks the client for a call (`Client::ask`), and publishes what its cache holds then before the answer is handed out.
     /// Refused for want of memory, nothing has changed, or the keeper is late. Behind the last view, 2^63-1, it is Exhausted.
-    pub fn ask<R: Wait>(&mut self, rt: &R, now: u64, asked: &Ask) -> Result<Asked, Fault>
+    pub fn ask<R: Wait>(&mut self, rt: &R, now: u64, asked: &Ask) -> Result<AskOutcome, Fault>
         requires on_time { self.old.late ≡ None }
-        ensures { Publishes Kept.Asked
+        ensures { Publishes LateAnswer.Asked
             (record { client = self.old.client; late = self.old.late; views = view self.old.writer.desk.place })
             (record { client = self.new.client; late = self.new.late; views = view self.new.writer.desk.place })
             result (unless_last self.old.client (view self.old.writer.desk.place) (ask_step self.old.client now asked.now)) }
@@ -203,9 +206,9 @@ impl Keeper {
             }
         };
         drop(mem::replace(&mut self.rest, ops));
-        drop(mem::replace(&mut self.late, Some(Kept::Asked(answer))));
+        drop(mem::replace(&mut self.late, Some(LateAnswer::Asked(answer))));
         match self.resume(rt) {
-            Ok(Some(Kept::Asked(answer))) => Ok(answer),
+            Ok(Some(LateAnswer::Asked(answer))) => Ok(answer),
             Ok(_) => unreachable!(),
             Err(_) => Err(Fault::NoMemory),
         }
@@ -214,7 +217,7 @@ impl Keeper {
     /// Gives the client a message (`Client::give`), as `ask` asks it for a call.
     pub fn give<R: Wait>(&mut self, rt: &R, now: u64, out: &Out) -> Result<Given, Fault>
         requires on_time { self.old.late ≡ None }
-        ensures { Publishes Kept.Given
+        ensures { Publishes LateAnswer.Given
             (record { client = self.old.client; late = self.old.late; views = view self.old.writer.desk.place })
             (record { client = self.new.client; late = self.new.late; views = view self.new.writer.desk.place })
             result (unless_last self.old.client (view self.old.writer.desk.place) (give_step self.old.client now out.now)) }
@@ -233,9 +236,9 @@ impl Keeper {
             }
         };
         drop(mem::replace(&mut self.rest, ops));
-        drop(mem::replace(&mut self.late, Some(Kept::Given(answer))));
+        drop(mem::replace(&mut self.late, Some(LateAnswer::Given(answer))));
         match self.resume(rt) {
-            Ok(Some(Kept::Given(answer))) => Ok(answer),
+            Ok(Some(LateAnswer::Given(answer))) => Ok(answer),
             Ok(_) => unreachable!(),
             Err(_) => Err(Fault::NoMemory),
         }
@@ -244,7 +247,7 @@ impl Keeper {
     /// Asks the client for what keeps its session (`Client::beat`), as `ask` asks it for a call.
     pub fn beat<R: Wait>(&mut self, rt: &R, now: u64) -> Result<Beaten, Fault>
         requires on_time { self.old.late ≡ None }
-        ensures { Publishes Kept.Beaten
+        ensures { Publishes LateAnswer.Beaten
             (record { client = self.old.client; late = self.old.late; views = view self.old.writer.desk.place })
             (record { client = self.new.client; late = self.new.late; views = view self.new.writer.desk.place })
             result (unless_last self.old.client (view self.old.writer.desk.place) (beat_step self.old.client now)) }
@@ -263,9 +266,9 @@ impl Keeper {
             }
         };
         drop(mem::replace(&mut self.rest, ops));
-        drop(mem::replace(&mut self.late, Some(Kept::Beaten(answer))));
+        drop(mem::replace(&mut self.late, Some(LateAnswer::Beaten(answer))));
         match self.resume(rt) {
-            Ok(Some(Kept::Beaten(answer))) => Ok(answer),
+            Ok(Some(LateAnswer::Beaten(answer))) => Ok(answer),
             Ok(_) => unreachable!(),
             Err(_) => Err(Fault::NoMemory),
         }
@@ -273,7 +276,7 @@ impl Keeper {
 
     /// Publishes what the client's cache holds, and hands out the answer that was kept. It is None where the keeper is not late.
     /// Refused for want of memory, the keeper is still late, and viewers see what they saw.
-    pub fn resume<R: Wait>(&mut self, rt: &R) -> Result<Option<Kept>, AllocError>
+    pub fn resume<R: Wait>(&mut self, rt: &R) -> Result<Option<LateAnswer>, AllocError>
         ensures client { self.new.client ≡ self.old.client }
         ensures shown { MatchResult result
             (λ kept. (kept ≡ self.old.late) × (self.new.late ≡ None) × IsShown self.old.late (view self.old.writer.desk.place) self.old.client.cache (view self.new.writer.desk.place))
@@ -283,17 +286,17 @@ impl Keeper {
     }
 
     /// Tells how many views are published, for one viewer to learn. It is None where no more viewers can be told at a time.
-    pub fn tell(&mut self) -> Option<Told>
+    pub fn tell(&mut self) -> Option<PublishedCount>
         ensures told { IfSome result (λ t. (t ≡ view self.old.writer.desk.place) × (length t ≡ self.old.published)) }
         ensures same { (view self.new.writer.desk.place ≡ view self.old.writer.desk.place) × (self.new.client ≡ self.old.client) × (self.new.late ≡ self.old.late) }
     {
         let mut reader = self.writer.factory().reader().ok()?;
-        reader.learn::<Longer>(self.writer.tell::<Same>());
-        Some(Told::of(reader, self.published))
+        reader.learn::<Longer>(self.writer.tell::<KnowsTheSame>());
+        Some(PublishedCount::of(reader, self.published))
     }
 
     // Publishes what the client has, if it differs from what is shown, and takes the answer that was kept.
-    fn show<R: Wait>(self, rt: &R) -> (Keeper, Result<Option<Kept>, AllocError>)
+    fn show<R: Wait>(self, rt: &R) -> (Keeper, Result<Option<LateAnswer>, AllocError>)
         ensures client { result.0.client ≡ self.client }
         ensures shown { MatchResult result.1
             (λ kept. (kept ≡ self.late) × (result.0.late ≡ None) × IsShown self.late (view self.writer.desk.place) self.client.cache (view result.0.writer.desk.place))

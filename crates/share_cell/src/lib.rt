@@ -11,7 +11,7 @@ mod side;
 mod viewer;
 
 pub use hit::Hit;
-pub use keeper::{Keeper, Kept};
+pub use keeper::{Keeper, LateAnswer};
 pub use rule::{Known, Published};
-pub use side::{Side, Step};
-pub use viewer::{Told, Viewer};
+pub use side::{Side, SideStep};
+pub use viewer::{PublishedCount, Viewer};

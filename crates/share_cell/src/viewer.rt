@@ -19,12 +19,12 @@ use std::marker::Model;
 
 // A reader, and the number of published views that it knows of.
 #[derive(Drop)]
-struct Place {
+struct ReaderPlace {
     reader: Reader<Side, Known, Published>,
     front: u64,
 }
 
-impl Model for Place {
+impl Model for ReaderPlace {
     ghost use Rattle.std.specs.Prelude.{◌≡◌, List, length};
     ghost use Rattle.left_right.specs.Sides.{view as view_of};
     ghost use Rattle.cache_core.specs.Caches.{CacheState};
@@ -41,7 +41,7 @@ impl Model for Place {
 /// A hit writes it, so no other viewer stands on its cache lines, wherever both are kept.
 #[derive(Drop)]
 pub struct Viewer {
-    place: CachePadded<Place>,
+    place: CachePadded<ReaderPlace>,
 }
 
 impl Model for Viewer {
@@ -56,12 +56,12 @@ impl Model for Viewer {
 
 /// What the keeper told a viewer: so many views were published.
 #[derive(Drop)]
-pub struct Told {
+pub struct PublishedCount {
     reader: Reader<Side, Known, Published>,
     count: u64,
 }
 
-impl Model for Told {
+impl Model for PublishedCount {
     ghost use Rattle.std.specs.Prelude.{◌≡◌, List, length};
     ghost use Rattle.left_right.specs.Sides.{view as view_of};
     ghost use Rattle.cache_core.specs.Caches.{CacheState};
@@ -73,12 +73,12 @@ impl Model for Told {
     ghost invariant = { λ t. t.count ≡ length (view_of t.reader.place) };
 }
 
-impl Told {
-    pub(crate) fn of(reader: Reader<Side, Known, Published>, count: u64) -> Told
+impl PublishedCount {
+    pub(crate) fn of(reader: Reader<Side, Known, Published>, count: u64) -> PublishedCount
         requires { count ≡ length (view reader.place) }
         ensures { result ≡ view reader.place }
     {
-        Told { reader, count }
+        PublishedCount { reader, count }
     }
 
     /// So many views were published.
@@ -95,7 +95,7 @@ impl Viewer {
         ensures { result ≡ view reader.place }
     {
         Viewer {
-            place: CachePadded::new(Place { reader, front }),
+            place: CachePadded::new(ReaderPlace { reader, front }),
         }
     }
 
@@ -120,7 +120,7 @@ impl Viewer {
     }
 
     /// From now on the viewer knows of so many views at least.
-    pub fn learn(&mut self, told: Told)
+    pub fn learn(&mut self, told: PublishedCount)
         ensures front { length (self.new) ≡ max (length (self.old)) (length told) }
         ensures known { self.new ≡ (if nat_lt (length (self.old)) (length told) then told else self.old) }
     {
@@ -132,21 +132,21 @@ impl Viewer {
     }
 }
 
-impl Place {
+impl ReaderPlace {
     fn front(&self) -> u64
         ensures { result ≡ length (self.now) }
     {
         self.front
     }
 
-    fn ask<C: Clock>(self, name: &Name, clock: &C) -> (Place, Result<Hit, AllocError>)
+    fn ask<C: Clock>(self, name: &Name, clock: &C) -> (ReaderPlace, Result<Hit, AllocError>)
         ensures { MatchResult result.1
             (Hits (C.is_reading clock.now) name.now (self) (result.0))
             (λ _. StartsWith (result.0) (self)) }
     {
-        let Place { reader, front } = self;
+        let ReaderPlace { reader, front } = self;
         match reader.enter_as::<Sees>() {
-            Err(reader) => (Place { reader, front }, Ok(Hit::Gone)),
+            Err(reader) => (ReaderPlace { reader, front }, Ok(Hit::Gone)),
             Ok(reading) => {
                 let side = reading.get();
                 let front = side.place;
@@ -157,18 +157,18 @@ impl Place {
                     Some(Some(found)) => shared(found),
                 };
                 let reader = reading.leave();
-                (Place { reader, front }, hit)
+                (ReaderPlace { reader, front }, hit)
             }
         }
     }
 
-    fn taught(self, told: Told) -> Place
+    fn taught(self, told: PublishedCount) -> ReaderPlace
         ensures front { length (result) ≡ max (length (self)) (length told) }
         ensures known { result ≡ (if nat_lt (length (self)) (length told) then told else self) }
     {
         if self.front < told.count {
-            let Told { reader, count } = told;
-            Place {
+            let PublishedCount { reader, count } = told;
+            ReaderPlace {
                 reader,
                 front: count,
             }

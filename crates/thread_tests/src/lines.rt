@@ -1,6 +1,6 @@
 //! What runs of clients print.
 use std::test::Fail;
-use threads::{Idle, live_with};
+use threads::{NoHook, live_with};
 
 // Clients, rounds, the status and what is printed.
 const RUNS: &[(u64, u64, u8, &str)] = &[
@@ -14,7 +14,7 @@ const RUNS: &[(u64, u64, u8, &str)] = &[
 fn runs(rt: HostRuntime) -> Result<(), Fail> {
     for (clients, rounds, status, line) in RUNS {
         let mut printed: Vec<u8> = Vec::new(rt.alloc());
-        let ended = live_with(&rt, rt.alloc(), *clients, *rounds, &Idle, &mut printed);
+        let ended = live_with(&rt, rt.alloc(), *clients, *rounds, &NoHook, &mut printed);
         assert_eq!(&rt; ended, *status);
         assert!(&rt;
             printed.as_slice() == line.as_bytes(),

@@ -2,7 +2,7 @@
 use std::sync::atomic::{AtomicU64, Ordering};
 use std::test::Fail;
 use std::thread::yield_now;
-use threads::{Turn, live_with};
+use threads::{AnswerHook, live_with};
 
 // Who comes first waits for the other, for so many turns at most.
 const TURNS: u64 = 10_000_000;
@@ -30,7 +30,7 @@ impl Meeting {
     }
 }
 
-impl Turn for Meeting {
+impl AnswerHook for Meeting {
     fn answered(&self, _client: u64) {
         self.came.fetch_add(1, Ordering::SeqCst);
         for _ in 0..TURNS {

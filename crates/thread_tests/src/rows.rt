@@ -3,7 +3,7 @@ use crate::stages::{Seats, Stage};
 use lease_core::Clock;
 use names_cell::Name;
 use node_core::{Fault, View};
-use share_cell::{Hit, Keeper, Kept, Viewer};
+use share_cell::{Hit, Keeper, LateAnswer, Viewer};
 use std::alloc::{AllocError, Global};
 use std::sync::Wait;
 use std::test::Fail;
@@ -180,7 +180,7 @@ fn is_on_time<W: Wait>(rt: &W, keeper: &mut Keeper) -> bool {
     is_nothing(keeper.resume(rt))
 }
 
-fn is_nothing(resumed: Result<Option<Kept>, AllocError>) -> bool {
+fn is_nothing(resumed: Result<Option<LateAnswer>, AllocError>) -> bool {
     let is_nothing = match &resumed {
         Ok(None) => true,
         _ => false,

@@ -2,7 +2,7 @@
 ghost use Rattle.std.specs.Prelude.{◌≡◌, None, IfOk, OnOk};
 ghost use Rattle.cache_core.specs.Caches.{new_cache};
 
-use client_core::{Ask, Asked, Beaten, Client, Given, Outcome};
+use client_core::{Ask, AskOutcome, Beaten, Client, Given, Outcome};
 use collections::Items;
 use names_cell::Principal;
 use node_core::{Fault, Line};
@@ -187,7 +187,7 @@ impl Stage {
 
     fn ask<W: Wait>(&mut self, rt: &W, keeper: &mut Keeper, asked: &Ask) -> Result<(), Fault> {
         on_time(keeper)?;
-        let Asked { lines, outcome } = keeper.ask(rt, self.clock, asked)?;
+        let AskOutcome { lines, outcome } = keeper.ask(rt, self.clock, asked)?;
         let printed = self.print_all(lines);
         printed.and(self.came(outcome))
     }

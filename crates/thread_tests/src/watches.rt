@@ -18,7 +18,7 @@ use tags_cell::{
     Open, Request, Start,
 };
 use threads::{give_up, new_cell, retire};
-use watch_cell::{Blanks, Closed, Event, Opening, Pass, Watch};
+use watch_cell::{Blanks, Closed, Opening, Pass, Watch, WatchEvent};
 
 // What is done with a watch and its passes.
 #[derive(Clone, Copy)]
@@ -181,7 +181,7 @@ fn goes<R: Records, O: Opening, I: Ledger, A: Ledger, E: Ledger, C: Ledger, W: W
     pass: &mut Pass<I, A, E, C>,
     request: Request,
 ) -> bool {
-    watch.call(rt, pass, Event::Take(0, request)).is_ok() && sweeps(rt, watch, pass, 4)
+    watch.call(rt, pass, WatchEvent::Take(0, request)).is_ok() && sweeps(rt, watch, pass, 4)
 }
 
 // So many sweeps through a pass.
@@ -192,7 +192,7 @@ fn sweeps<R: Records, O: Opening, I: Ledger, A: Ledger, E: Ledger, C: Ledger, W:
     count: u64,
 ) -> bool {
     for _ in 0..count {
-        if watch.call(rt, pass, Event::Sweep(0)).is_err() {
+        if watch.call(rt, pass, WatchEvent::Sweep(0)).is_err() {
             return false;
         }
     }
@@ -305,7 +305,7 @@ fn fills<R: Records, O: Opening, I: Ledger, A: Ledger, E: Ledger, C: Ledger, W: 
     if !sweeps(rt, watch, pass, 1_000_000) {
         return false;
     }
-    let refused = match watch.call(rt, pass, Event::Sweep(0)) {
+    let refused = match watch.call(rt, pass, WatchEvent::Sweep(0)) {
         Ok(_) => false,
         Err(fault) => fault == Fault::WatchFull,
     };

@@ -35,8 +35,8 @@ use Rattle.master_parts.specs.contracts.tables.Tables.TheInside as tables_in
 use Rattle.master_parts.proofs.candidates.Candidates.TheSendSync as candidates
 use Rattle.master_state.specs.contracts.masters.Master as Master
 use Rattle.master_state.specs.contracts.masters.Master.TheInside as master_in
-use Rattle.cell_core.specs.contracts.cells.Cell as Cell
-use Rattle.cell_core.specs.contracts.cells.Cell.TheInside as cell_in
+use Rattle.cell_core.specs.contracts.cells.MemoryMaster as MemoryMaster
+use Rattle.cell_core.specs.contracts.cells.MemoryMaster.TheInside as cell_in
 use Rattle.rows_cell.specs.declared.records.Records as records
 use Rattle.over_core.specs.contracts.keeping.Keeping as Keeping
 use Rattle.over_core.specs.contracts.keeping.Keeping.TheInside as keeping_in
@@ -103,7 +103,7 @@ master_send = view_send master_in.the_row _ _ _ _ master_inside
 cell_inside : IsSend cell_in.the_row
 cell_inside = recorded_send (cell_in.the_field).row _ _ (cell_in.the_type).to_one (struct_send (shape cell_in.the_type) (master_send, tt))
 
-cell_send : IsSend Cell.the_row
+cell_send : IsSend MemoryMaster.the_row
 cell_send = view_send cell_in.the_row _ _ _ _ cell_inside
 
 module _ (R : RattleType) (r : records.Ghosts R.Denot) where

@@ -1,7 +1,7 @@
 //! The thread of a client.
 use crate::letters::{Letter, Letters};
 use crate::players::{FILE, Player};
-use crate::turns::Turn;
+use crate::turns::AnswerHook;
 use crate::viewers::view;
 use names_cell::Name;
 use node_core::Fault;
@@ -13,7 +13,7 @@ use std::sync::atomic::{AtomicU64, Ordering};
 use std::sync::ledger::Ledger;
 use std::thread::{Threads, join};
 use tags_cell::{Out, Request};
-use watch_cell::{Event, Opening, Pass, Watch};
+use watch_cell::{Opening, Pass, Watch, WatchEvent};
 
 /// A client's threads, until all clients have finished or one was refused: then all end.
 pub(crate) fn client<
@@ -24,7 +24,7 @@ pub(crate) fn client<
     E: Ledger,
     C: Ledger,
     W: Threads + Wait + Sync,
-    T: Turn,
+    T: AnswerHook,
 >(
     rt: &W,
     alloc: Global,
@@ -50,7 +50,7 @@ fn share<
     E: Ledger,
     C: Ledger,
     W: Threads + Wait + Sync,
-    T: Turn,
+    T: AnswerHook,
 >(
     rt: &W,
     alloc: Global,
@@ -77,7 +77,7 @@ fn share<
     played
 }
 
-fn play<R: Records, O: Opening, I: Ledger, A: Ledger, E: Ledger, C: Ledger, W: Wait, T: Turn>(
+fn play<R: Records, O: Opening, I: Ledger, A: Ledger, E: Ledger, C: Ledger, W: Wait, T: AnswerHook>(
     rt: &W,
     watch: &Watch<R, O, I, A, E, C>,
     pass: &mut Pass<I, A, E, C>,
@@ -106,7 +106,16 @@ fn play<R: Records, O: Opening, I: Ledger, A: Ledger, E: Ledger, C: Ledger, W: W
 }
 
 // Takes a message, and sweeps until the master is quiet.
-fn deliver<R: Records, O: Opening, I: Ledger, A: Ledger, E: Ledger, C: Ledger, W: Wait, T: Turn>(
+fn deliver<
+    R: Records,
+    O: Opening,
+    I: Ledger,
+    A: Ledger,
+    E: Ledger,
+    C: Ledger,
+    W: Wait,
+    T: AnswerHook,
+>(
     rt: &W,
     watch: &Watch<R, O, I, A, E, C>,
     pass: &mut Pass<I, A, E, C>,
@@ -117,9 +126,9 @@ fn deliver<R: Records, O: Opening, I: Ledger, A: Ledger, E: Ledger, C: Ledger, W
     let Some(request) = request else {
         return Ok(());
     };
-    call(rt, watch, pass, letters, turn, Event::Take(0, request))?;
+    call(rt, watch, pass, letters, turn, WatchEvent::Take(0, request))?;
     for _ in rt.forever() {
-        if call(rt, watch, pass, letters, turn, Event::Sweep(0))? {
+        if call(rt, watch, pass, letters, turn, WatchEvent::Sweep(0))? {
             return Ok(());
         }
     }
@@ -127,13 +136,13 @@ fn deliver<R: Records, O: Opening, I: Ledger, A: Ledger, E: Ledger, C: Ledger, W
 }
 
 // One call of the master, whose messages go to their clients. Whether it found nothing to do.
-fn call<R: Records, O: Opening, I: Ledger, A: Ledger, E: Ledger, C: Ledger, W: Wait, T: Turn>(
+fn call<R: Records, O: Opening, I: Ledger, A: Ledger, E: Ledger, C: Ledger, W: Wait, T: AnswerHook>(
     rt: &W,
     watch: &Watch<R, O, I, A, E, C>,
     pass: &mut Pass<I, A, E, C>,
     letters: &Letters,
     turn: &T,
-    event: Event,
+    event: WatchEvent,
 ) -> Result<bool, Fault> {
     let receipt = watch.call(rt, pass, event)?;
     turn.answered(pass.number());

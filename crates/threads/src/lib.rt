@@ -12,4 +12,4 @@ mod viewers;
 
 pub use live::{live_with, new_cell};
 pub use runs::{give_up, retire, run_clients};
-pub use turns::{Idle, Turn};
+pub use turns::{AnswerHook, NoHook};

@@ -4,7 +4,7 @@ ghost use Rattle.threads.specs.Bounds.{is_within, IsStatus};
 
 use crate::bounds::is_within;
 use crate::runs::run_clients;
-use crate::turns::Turn;
+use crate::turns::AnswerHook;
 use node_core::Fault;
 use over_core::Cell;
 use rights_core::Totals;
@@ -17,7 +17,7 @@ use std::thread::Threads;
 /// So many clients, each in a thread of its own, use the master of a new cell in lists for so many rounds. Writes one line, and
 /// answers the exit status: 0 where all went well, 2 out of the bounds, behind which nothing is done, and 5 where something
 /// was refused, which the line tells.
-pub fn live_with<W: Threads + Wait + Sync, T: Turn + Sync>(
+pub fn live_with<W: Threads + Wait + Sync, T: AnswerHook + Sync>(
     rt: &W,
     alloc: Global,
     clients: u64,
@@ -58,7 +58,7 @@ fn write_refused(writer: &mut impl Write, fault: Fault) -> u8
 }
 
 // What became of the rights that such a run granted.
-fn totals<W: Threads + Wait + Sync, T: Turn + Sync>(
+fn totals<W: Threads + Wait + Sync, T: AnswerHook + Sync>(
     rt: &W,
     alloc: Global,
     clients: u64,

@@ -2,7 +2,7 @@
 ghost use Rattle.std.specs.Prelude.{◌≡◌, None, IfOk};
 ghost use Rattle.cache_core.specs.Caches.{new_cache};
 
-use client_core::{Ask, Asked, Client, Given, NodeCall, Outcome};
+use client_core::{Ask, AskOutcome, Client, Given, NodeCall, Outcome};
 use collections::Bytes;
 use names_cell::{Name, Principal};
 use node_core::{Answer, Fault, Life, Line};
@@ -135,8 +135,8 @@ impl Player {
 }
 
 // The message of a call that has to be sent.
-fn sent(told: Result<Asked, Fault>) -> Result<Option<Request>, Fault> {
-    let Asked { lines, outcome } = told?;
+fn sent(told: Result<AskOutcome, Fault>) -> Result<Option<Request>, Fault> {
+    let AskOutcome { lines, outcome } = told?;
     drop(lines);
     match outcome {
         Outcome::Sent(request) => Ok(Some(request)),

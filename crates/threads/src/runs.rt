@@ -6,7 +6,7 @@ ghost use Rattle.watch_cell.specs.Views.{watched};
 
 use crate::clients::client;
 use crate::letters::Letters;
-use crate::turns::Turn;
+use crate::turns::AnswerHook;
 use node_core::Fault;
 use over_core::Cell;
 use rows_cell::Records;
@@ -15,7 +15,7 @@ use std::marker::Brand;
 use std::sync::Wait;
 use std::sync::ledger::Ledger;
 use std::thread::{Threads, join};
-use watch_cell::{Blanks, Closed, Event, Opening, Pass, Watch};
+use watch_cell::{Blanks, Closed, Opening, Pass, Watch, WatchEvent};
 
 // A thread for each pass.
 fn threads<
@@ -26,7 +26,7 @@ fn threads<
     E: Ledger + Send + Sync,
     C: Ledger + Send + Sync,
     W: Threads + Wait + Sync,
-    T: Turn + Sync,
+    T: AnswerHook + Sync,
 >(
     rt: &W,
     alloc: Global,
@@ -62,7 +62,7 @@ fn expire<R: Records, O: Opening, I: Ledger, A: Ledger, E: Ledger, C: Ledger, W:
         return Ok(());
     };
     for _ in rt.forever() {
-        if watch.call(rt, pass, Event::Sweep(now))?.reply().quiet {
+        if watch.call(rt, pass, WatchEvent::Sweep(now))?.reply().quiet {
             return Ok(());
         }
     }
@@ -71,7 +71,7 @@ fn expire<R: Records, O: Opening, I: Ledger, A: Ledger, E: Ledger, C: Ledger, W:
 
 /// So many clients use a master at the moment 0, each in a thread of its own; then all sessions end at the moment `end`, and the
 /// watch is closed.
-pub fn run_clients<R: Records + Drop + Send, W: Threads + Wait + Sync, T: Turn + Sync>(
+pub fn run_clients<R: Records + Drop + Send, W: Threads + Wait + Sync, T: AnswerHook + Sync>(
     rt: &W,
     alloc: Global,
     cell: Cell<R>,
@@ -103,7 +103,7 @@ fn run_with<
     E: Ledger + Send + Sync,
     C: Ledger + Send + Sync,
     W: Threads + Wait + Sync,
-    T: Turn + Sync,
+    T: AnswerHook + Sync,
 >(
     rt: &W,
     alloc: Global,
@@ -151,7 +151,7 @@ fn play_all<
     E: Ledger + Send + Sync,
     C: Ledger + Send + Sync,
     W: Threads + Wait + Sync,
-    T: Turn + Sync,
+    T: AnswerHook + Sync,
 >(
     rt: &W,
     alloc: Global,

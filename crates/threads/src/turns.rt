@@ -1,13 +1,13 @@
 //! What a client's thread does between its calls.
 
 /// What a client's thread does behind each answer of the master's.
-pub trait Turn {
+pub trait AnswerHook {
     fn answered(&self, client: u64);
 }
 
 /// Nothing.
-pub struct Idle;
+pub struct NoHook;
 
-impl Turn for Idle {
+impl AnswerHook for NoHook {
     fn answered(&self, _client: u64) {}
 }

@@ -5,15 +5,15 @@ use Rattle.std.proofs.lemmas.List.{reverse-append}
 use Rattle.node_core.specs.declared.lines.Line.{Line}
 use Rattle.node_core.specs.declared.refusals.Fault.{Fault}
 use Rattle.rights_core.specs.Grants.{is_granted_line, is_acked_line, is_expired_line}
-use Rattle.watch_cell.specs.declared.events.Event.{Event}
+use Rattle.watch_cell.specs.declared.events.WatchEvent.{WatchEvent}
 use Rattle.watch_cell.specs.Views.{WatchedState, Ticket, Hand, Desk}
 use Rattle.watch_cell.specs.Trail.{Lies, Served, Calls, CallRefuses, IsCallRefused, Retires, told_in, hand_of}
 
-pub calls_so : (opening : WatchedState) (old new : Desk) (before after : Hand) (event : Event) (r : Result Ticket Fault) → Lies opening old → Lies opening new → IfOk r (λ t. Served old new before after event t) → IfOk r (λ t. Calls opening before after event t)
+pub calls_so : (opening : WatchedState) (old new : Desk) (before after : Hand) (event : WatchEvent) (r : Result Ticket Fault) → Lies opening old → Lies opening new → IfOk r (λ t. Served old new before after event t) → IfOk r (λ t. Calls opening before after event t)
 calls_so opening old new before after event (Ok t) h k s = (old, new, h, k, s)
 calls_so opening old new before after event (Err e) h k s = tt
 
-pub refused_so : (opening : WatchedState) (old new : Desk) (event : Event) (r : Result Ticket Fault) → Lies opening old → Lies opening new → IfErr r (λ e. CallRefuses old new event e) → IfErr r (λ e. IsCallRefused opening event e)
+pub refused_so : (opening : WatchedState) (old new : Desk) (event : WatchEvent) (r : Result Ticket Fault) → Lies opening old → Lies opening new → IfErr r (λ e. CallRefuses old new event e) → IfErr r (λ e. IsCallRefused opening event e)
 refused_so opening old new event (Ok t) h k s = tt
 refused_so opening old new event (Err e) h k s = (old, new, h, k, s)
 

@@ -7,12 +7,12 @@ use Rattle.rights_core.specs.Rights.{is_acknowledged, is_expired}
 use Rattle.rights_core.specs.Grants.{Told, rights_at, told_of, Tells, is_acknowledged_told, is_expired_told, is_granted_line, is_acked_line, is_expired_line}
 use Rattle.rights_core.proofs.ToldLines.{told_both, count_told, told_balanced}
 use Rattle.over_core.specs.declared.swept.Swept.{Swept}
-use Rattle.watch_cell.specs.declared.events.Event.{Event}
+use Rattle.watch_cell.specs.declared.events.WatchEvent.{WatchEvent}
 use Rattle.watch_cell.specs.declared.events.Entry.{Entry}
 use Rattle.watch_cell.specs.Views.{WatchedState}
 use Rattle.watch_cell.specs.Trail.{entry, step_of, Replays, lines_of, grants_of, Kept}
 
-replays_push : (s t u : WatchedState) (es : List Entry) (e : Event) (r : Swept) → Replays s es t → step_of t e ≡ Ok (u, r) → Replays s (es ++ entry e r ∷ []) u
+replays_push : (s t u : WatchedState) (es : List Entry) (e : WatchEvent) (r : Swept) → Replays s es t → step_of t e ≡ Ok (u, r) → Replays s (es ++ entry e r ∷ []) u
 replays_push s t u [] e r is eq = (u, ap (λ w. step_of w e) (sym is) ∙ eq, refl)
 replays_push s t u (x ∷ es) e r is eq = (is.0, is.1, replays_push is.0 t u es e r is.2 eq)
 
@@ -20,7 +20,7 @@ lines_push : (es : List Entry) (e : Entry) → lines_of (es ++ e ∷ []) ≡ lin
 lines_push [] e = append-nil e.reply.lines
 lines_push (x ∷ es) e = ap (λ w. x.reply.lines ++ w) (lines_push es e) ∙ sym (append_assoc x.reply.lines (lines_of es) e.reply.lines)
 
-kept_push : (opening s u : WatchedState) (es : List Entry) (e : Event) (r : Swept) (i a x c : ℕ) → Kept opening s es i a x c → length es < 1000000 → step_of s e ≡ Ok (u, r) → Tells s.master.rights r.lines u.master.rights
+kept_push : (opening s u : WatchedState) (es : List Entry) (e : WatchEvent) (r : Swept) (i a x c : ℕ) → Kept opening s es i a x c → length es < 1000000 → step_of s e ≡ Ok (u, r) → Tells s.master.rights r.lines u.master.rights
     → Kept opening u (es ++ entry e r ∷ []) (i + count_by is_granted_line r.lines) (a + count_by is_acked_line r.lines) (x + count_by is_expired_line r.lines) (c + 1)
 kept_push opening s u es e r i a x c kept room eq tells =
     let old = s.master.rights in
@@ -51,7 +51,7 @@ kept_push opening s u es e r i a x c kept room eq tells =
     }
 
 -- the same, of values that are equal to these
-pub kept_after : (opening s u : WatchedState) (es es' : List Entry) (e : Event) (r : Swept) (i a x c i' a' x' c' : ℕ) → Kept opening s es i a x c → length es < 1000000 → step_of s e ≡ Ok (u, r) → Tells s.master.rights r.lines u.master.rights
+pub kept_after : (opening s u : WatchedState) (es es' : List Entry) (e : WatchEvent) (r : Swept) (i a x c i' a' x' c' : ℕ) → Kept opening s es i a x c → length es < 1000000 → step_of s e ≡ Ok (u, r) → Tells s.master.rights r.lines u.master.rights
     → es' ≡ es ++ entry e r ∷ [] → i' ≡ i + count_by is_granted_line r.lines → a' ≡ a + count_by is_acked_line r.lines → x' ≡ x + count_by is_expired_line r.lines → c' ≡ c + 1
     → Kept opening u es' i' a' x' c'
 kept_after opening s u es es' e r i a x c i' a' x' c' kept room eq tells te ti ta tx tc =

@@ -18,8 +18,8 @@ use Rattle.over_core.specs.Sweep.{IsSwept, IsHeldUp, MayHoldUp, sweep_step, swee
 use Rattle.over_core.specs.Plans.{first_action}
 use Rattle.over_core.proofs.StepsTell.{taken_tells, swept_tells}
 use Rattle.over_core.specs.declared.sweeps.SweptThrice.{SweptThrice}
-use Rattle.watch_cell.specs.declared.events.Event.{Event}
-use Rattle.watch_cell.specs.declared.events.Event.TheVariants.{Take, Sweep}
+use Rattle.watch_cell.specs.declared.events.WatchEvent.{WatchEvent}
+use Rattle.watch_cell.specs.declared.events.WatchEvent.TheVariants.{Take, Sweep}
 use Rattle.watch_cell.specs.Views.{WatchedState, watched}
 use Rattle.watch_cell.specs.Trail.{after_take, after_sweep, step_of, StepRefuses}
 
@@ -104,17 +104,17 @@ take_refused_by : (old : CellState) (now : ℕ) (request : Request) (e : Fault) 
 take_refused_by old now request faults.NoMemory after same h = inl (refl, same)
 take_refused_by old now request e after same h = inr (inl (take_err old now request e (h (λ k. cc)), same))
 
-pub take_refused : (old new : CellState) (event : Event) (now : ℕ) (request : Request) (e : Fault) → event ≡ Take now request → new ≡ old → (e ≢ faults.NoMemory → take_step old.master now request ≡ Err e)
+pub take_refused : (old new : CellState) (event : WatchEvent) (now : ℕ) (request : Request) (e : Fault) → event ≡ Take now request → new ≡ old → (e ≢ faults.NoMemory → take_step old.master now request ≡ Err e)
     → StepRefuses (watched old) event e old.store.refusals new.store.refusals
 take_refused old new event now request e is same h =
-    subst (λ (v : Event). StepRefuses (watched old) v e old.store.refusals new.store.refusals) (sym is) (take_refused_by old now request e new.store.refusals (ap (λ (c : CellState). c.store.refusals) same) h)
+    subst (λ (v : WatchEvent). StepRefuses (watched old) v e old.store.refusals new.store.refusals) (sym is) (take_refused_by old now request e new.store.refusals (ap (λ (c : CellState). c.store.refusals) same) h)
 
 sweep_refused : (old new : CellState) (now : ℕ) (e : Fault) → (sweep_step old.master now ≡ Err e × new ≡ old) ⊎ IsHeldUp e (sweep_frees old.master now) (sweep_edits old.master now) old.store new.store
     → StepRefuses (watched old) (Sweep now) e old.store.refusals new.store.refusals
 sweep_refused old new now e (inl p) = inr (inl (sweep_err old now e p.0, ap (λ (c : CellState). c.store.refusals) p.1))
 sweep_refused old new now e (inr r) = inr (inr r.why)
 
-pub swept_refused : (old new : CellState) (event : Event) (now : ℕ) (result : Result SweptThrice Fault) → event ≡ Sweep now → IfErr result (λ e. (sweep_step old.master now ≡ Err e × new ≡ old) ⊎ IsHeldUp e (sweep_frees old.master now) (sweep_edits old.master now) old.store new.store)
+pub swept_refused : (old new : CellState) (event : WatchEvent) (now : ℕ) (result : Result SweptThrice Fault) → event ≡ Sweep now → IfErr result (λ e. (sweep_step old.master now ≡ Err e × new ≡ old) ⊎ IsHeldUp e (sweep_frees old.master now) (sweep_edits old.master now) old.store new.store)
     → IfErr result (λ e. StepRefuses (watched old) event e old.store.refusals new.store.refusals)
 swept_refused old new event now (Ok t) is h = tt
-swept_refused old new event now (Err e) is h = subst (λ (v : Event). StepRefuses (watched old) v e old.store.refusals new.store.refusals) (sym is) (sweep_refused old new now e h)
+swept_refused old new event now (Err e) is h = subst (λ (v : WatchEvent). StepRefuses (watched old) v e old.store.refusals new.store.refusals) (sym is) (sweep_refused old new now e h)

@@ -11,13 +11,13 @@ use Rattle.master_state.specs.State.{MasterState}
 use Rattle.cell_core.specs.Step.{take_step}
 use Rattle.over_core.specs.declared.swept.Swept.{Swept}
 use Rattle.over_core.specs.Sweep.{sweep_step, sweep_edits, sweep_frees, MayHoldUp, swept_as}
-use Rattle.watch_cell.specs.declared.events.Event.{Event}
-use Rattle.watch_cell.specs.declared.events.Event.TheVariants.{Take, Sweep}
+use Rattle.watch_cell.specs.declared.events.WatchEvent.{WatchEvent}
+use Rattle.watch_cell.specs.declared.events.WatchEvent.TheVariants.{Take, Sweep}
 use Rattle.watch_cell.specs.declared.events.Entry.{Entry}
 use Rattle.watch_cell.specs.Views.{WatchedState, Ticket, Hand, Desk}
 use Rattle.std.specs.Prelude.{false}
 
-abbrev pub entry : Event → Swept → Entry
+abbrev pub entry : WatchEvent → Swept → Entry
 entry event reply = record { event = event; reply = reply }
 
 -- a message is taken: nothing is committed
@@ -31,22 +31,22 @@ after_sweep s edits (Ok (master, swept)) = Ok (record { master = master; rows = 
 after_sweep s edits (Err fault) = Err fault
 
 -- the step of an event, by the master's tables
-unfoldable pub step_of : WatchedState → Event → Result (WatchedState × Swept) Fault
+unfoldable pub step_of : WatchedState → WatchEvent → Result (WatchedState × Swept) Fault
 step_of s (Take now request) = after_take s (take_step s.master now request)
 step_of s (Sweep now) = after_sweep s (sweep_edits s.master now) (sweep_step s.master now)
 
 -- what it asks the store to commit
-abbrev pub commits : WatchedState → Event → List Edit
+abbrev pub commits : WatchedState → WatchEvent → List Edit
 commits s (Take now request) = []
 commits s (Sweep now) = sweep_edits s.master now
 
 -- whether it lets a change leave the gate
-abbrev pub lets_go : WatchedState → Event → Bool
+abbrev pub lets_go : WatchedState → WatchEvent → Bool
 lets_go s (Take now request) = false
 lets_go s (Sweep now) = sweep_frees s.master now
 
 -- why the step of an event is refused, by how often the store had refused before and has then: for want of memory or as the master's tables say, which leaves that; or by the store, which is asked for what the step commits
-abbrev pub StepRefuses : WatchedState → Event → Fault → ℕ → ℕ → Type 0
+abbrev pub StepRefuses : WatchedState → WatchEvent → Fault → ℕ → ℕ → Type 0
 StepRefuses s event fault before after =
     ((fault ≡ NoMemory) × (after ≡ before)) ⊎ (((step_of s event ≡ Err fault) × (after ≡ before)) ⊎ MayHoldUp (lets_go s event) (commits s event) fault before after)
 
@@ -103,7 +103,7 @@ hand_of number receipts = record {
 }
 
 -- what a pass gains
-pub record Gained (before after : Hand) (event : Event) (t : Ticket) : Type 0 where
+pub record Gained (before after : Hand) (event : WatchEvent) (t : Ticket) : Type 0 where
   pub number_is : after.number ≡ before.number
   pub event_is : t.event ≡ event
   pub receipts_is : after.receipts ≡ before.receipts ++ t ∷ []
@@ -113,7 +113,7 @@ pub record Gained (before after : Hand) (event : Event) (t : Ticket) : Type 0 wh
   pub calls_is : after.calls ≡ before.calls + 1
 
 -- the one change of a call
-pub record Served (old new : Desk) (before after : Hand) (event : Event) (t : Ticket) : Type 0 where
+pub record Served (old new : Desk) (before after : Hand) (event : WatchEvent) (t : Ticket) : Type 0 where
   pub step_is : step_of old.cell event ≡ Ok (new.cell, t.reply)
   pub refusals_is : new.refusals ≡ old.refusals
   pub trail_is : new.trail ≡ old.trail ++ entry event t.reply ∷ []
@@ -127,20 +127,20 @@ pub record Served (old new : Desk) (before after : Hand) (event : Event) (t : Ti
   pub gained : Gained before after event t
 
 -- a call finds what lies under the lock and leaves it, but for its one change
-abbrev pub Calls : WatchedState → Hand → Hand → Event → Ticket → Type 0
+abbrev pub Calls : WatchedState → Hand → Hand → WatchEvent → Ticket → Type 0
 Calls opening before after event t = (old : Desk) × (new : Desk) × Lies opening old × Lies opening new × Served old new before after event t
 
 -- why a call is refused: if the trail is full, and then alone, as that; else as its step is
-abbrev pub WhyRefused : Desk → Event → Fault → ℕ → Type 0
+abbrev pub WhyRefused : Desk → WatchEvent → Fault → ℕ → Type 0
 WhyRefused d event fault after = ((length d.trail ≡ 1000000) × (fault ≡ WatchFull) × (after ≡ d.refusals)) ⊎ ((length d.trail < 1000000) × StepRefuses d.cell event fault d.refusals after)
 
 -- a call that is refused changes nothing of what lies under the lock, but that the store counts its own refusals
-pub record CallRefuses (old new : Desk) (event : Event) (fault : Fault) : Type 0 where
+pub record CallRefuses (old new : Desk) (event : WatchEvent) (fault : Fault) : Type 0 where
   pub same : new ≡ record old { refusals = new.refusals }
   pub why : WhyRefused old event fault new.refusals
 
 -- and it finds that under the lock, and leaves it so
-abbrev pub IsCallRefused : WatchedState → Event → Fault → Type 0
+abbrev pub IsCallRefused : WatchedState → WatchEvent → Fault → Type 0
 IsCallRefused opening event fault = (old : Desk) × (new : Desk) × Lies opening old × Lies opening new × CallRefuses old new event fault
 
 -- what lies under the lock takes in a pass, and else stays

@@ -6,7 +6,7 @@ use Rattle.master_state.specs.State.{MasterState, master_of}
 use Rattle.over_core.specs.Kept.{CellState}
 use Rattle.over_core.specs.declared.swept.Swept.{Swept}
 use Rattle.rights_core.specs.declared.totals.Totals.{Totals}
-use Rattle.watch_cell.specs.declared.events.Event.{Event}
+use Rattle.watch_cell.specs.declared.events.WatchEvent.{WatchEvent}
 use Rattle.watch_cell.specs.declared.events.Entry.{Entry}
 
 -- a master, and the rows that stand: how often the store refused, and what a crash may leave, are no part of it
@@ -20,7 +20,7 @@ watched c = record { master = c.master; rows = c.store.rows }
 -- a receipt: the place in the trail, counted from 0, and the entry there
 pub record Ticket : Type 0 where
   pub place : ℕ
-  pub event : Event
+  pub event : WatchEvent
   pub reply : Swept
 
 -- a pass: its number, its shares and its receipts

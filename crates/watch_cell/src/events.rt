@@ -9,7 +9,7 @@ use tags_cell::Request;
 
 /// A step that a thread asks for. Moments are in milliseconds.
 #[derive(Drop)]
-pub enum Event {
+pub enum WatchEvent {
     /// A message is taken at a moment.
     Take(u64, Request),
     /// The master does the first action that there is at a moment.
@@ -19,35 +19,35 @@ pub enum Event {
 /// A step that was made: what was asked for, and what it printed and sent. A message that is taken is never quiet.
 #[derive(Drop)]
 pub struct Entry {
-    pub event: Event,
+    pub event: WatchEvent,
     pub reply: Swept,
 }
 
-impl Clone for Event {
+impl Clone for WatchEvent {
     ghost is_clone = { λ s t. t ≡ s };
 
-    fn clone(&self) -> Result<Event, AllocError> {
+    fn clone(&self) -> Result<WatchEvent, AllocError> {
         Ok(match self {
-            Event::Take(now, request) => Event::Take(*now, request.clone()?),
-            Event::Sweep(now) => Event::Sweep(*now),
+            WatchEvent::Take(now, request) => WatchEvent::Take(*now, request.clone()?),
+            WatchEvent::Sweep(now) => WatchEvent::Sweep(*now),
         })
     }
 }
 
-impl Alike for Event {
-    fn is_same(&self, other: &Event) -> bool {
+impl Alike for WatchEvent {
+    fn is_same(&self, other: &WatchEvent) -> bool {
         match (self, other) {
-            (Event::Take(now, request), Event::Take(then, another)) => {
+            (WatchEvent::Take(now, request), WatchEvent::Take(then, another)) => {
                 now == then && request.is_same(another)
             }
-            (Event::Sweep(now), Event::Sweep(then)) => now == then,
+            (WatchEvent::Sweep(now), WatchEvent::Sweep(then)) => now == then,
             _ => false,
         }
     }
 }
 
 /// Whether an entry has this event and this reply. Costs their size.
-pub(crate) fn is_same(entry: &Entry, event: &Event, reply: &Swept) -> bool
+pub(crate) fn is_same(entry: &Entry, event: &WatchEvent, reply: &Swept) -> bool
     ensures { IsTrue result ↔ ((entry.now.event ≡ event.now) × (entry.now.reply ≡ reply.now)) }
 {
     entry.event.is_same(event)
@@ -58,48 +58,48 @@ pub(crate) fn is_same(entry: &Entry, event: &Event, reply: &Swept) -> bool
 
 /// An event three times: for the trail, for the pass and for the caller. To a contract it is that event.
 #[derive(Drop)]
-pub(crate) struct Events {
-    first: Event,
-    second: Event,
-    third: Event,
+pub(crate) struct ThreeEvents {
+    first: WatchEvent,
+    second: WatchEvent,
+    third: WatchEvent,
 }
 
-impl Model for Events {
+impl Model for ThreeEvents {
     ghost use Rattle.std.specs.Prelude.{◌≡◌};
-    ghost use Rattle.watch_cell.specs.declared.events.Event.{Event};
+    ghost use Rattle.watch_cell.specs.declared.events.WatchEvent.{WatchEvent};
 
-    ghost Value = { Event };
+    ghost Value = { WatchEvent };
 
     ghost view = { λ e. e.first };
 
     ghost invariant = { λ e. (e.second ≡ e.first) × (e.third ≡ e.first) };
 }
 
-impl Events {
-    pub fn of(event: Event) -> Result<Events, AllocError>
+impl ThreeEvents {
+    pub fn of(event: WatchEvent) -> Result<ThreeEvents, AllocError>
         ensures { IfOk result (λ events. events ≡ event) }
     {
         let second = event.clone()?;
         let third = event.clone()?;
-        Ok(Events {
+        Ok(ThreeEvents {
             first: event,
             second,
             third,
         })
     }
 
-    pub fn event(&self) -> &Event
+    pub fn event(&self) -> &WatchEvent
         ensures { result.now ≡ self.now }
     {
         &self.first
     }
 
-    pub fn all(self) -> (Event, Event, Event)
+    pub fn all(self) -> (WatchEvent, WatchEvent, WatchEvent)
         ensures first { result.0 ≡ self }
         ensures second { result.1 ≡ self }
         ensures third { result.2 ≡ self }
     {
-        let Events {
+        let ThreeEvents {
             first,
             second,
             third,

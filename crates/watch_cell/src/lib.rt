@@ -14,7 +14,7 @@ mod steps;
 mod watches;
 
 pub use alike::Alike;
-pub use events::{Entry, Event};
+pub use events::{Entry, WatchEvent};
 pub use ledgers::{Blanks, Books, Shares};
 pub use locked::{Closed, Locked, Opening, Pass, Receipt, Spent, serve};
 pub use watches::Watch;

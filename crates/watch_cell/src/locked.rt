@@ -9,7 +9,7 @@ ghost use Rattle.watch_cell.specs.Views.{Desk, watched, opened, fresh, fresh_han
 ghost use Rattle.watch_cell.specs.Closing.{gathered, places, AllThere, SoundOf, Refuses, Settled};
 
 use crate::closing::{lowest_flaw, lowest_missing};
-use crate::events::{Entry, Event, Events};
+use crate::events::{Entry, ThreeEvents, WatchEvent};
 use crate::ledgers::{Blanks, Books, Shares};
 use crate::steps::{count_acked, count_expired, count_granted, step_thrice};
 use node_core::Fault;
@@ -44,7 +44,7 @@ impl Opening for Brand {
 #[derive(Drop)]
 pub struct Receipt {
     place: u64,
-    event: Event,
+    event: WatchEvent,
     reply: Swept,
 }
 
@@ -68,7 +68,7 @@ impl Receipt {
         self.place
     }
 
-    pub fn event(&self) -> &Event
+    pub fn event(&self) -> &WatchEvent
         ensures { result.now ≡ self.now.event }
     {
         &self.event
@@ -499,7 +499,7 @@ fn fill<I: Ledger, A: Ledger, E: Ledger, C: Ledger>(
 pub fn serve<R: Records, O: Opening, I: Ledger, A: Ledger, E: Ledger, C: Ledger>(
     locked: &mut Locked<R, O, I, A, E, C>,
     pass: &mut Pass<I, A, E, C>,
-    event: Event,
+    event: WatchEvent,
 ) -> Result<Receipt, Fault>
     ensures ok { IfOk result (λ t. Served locked.old locked.new pass.old pass.new event t) }
     ensures err { OnErr result (pass.new ≡ pass.old) }
@@ -510,7 +510,7 @@ pub fn serve<R: Records, O: Opening, I: Ledger, A: Ledger, E: Ledger, C: Ledger>
         drop(event);
         return Err(Fault::WatchFull);
     }
-    let events = Events::of(event)?;
+    let events = ThreeEvents::of(event)?;
     let Pass {
         number: _,
         shares,
@@ -560,7 +560,7 @@ pub fn serve<R: Records, O: Opening, I: Ledger, A: Ledger, E: Ledger, C: Ledger>
 
 // An event that was served, and its reply three times.
 struct Replied {
-    events: Events,
+    events: ThreeEvents,
     first: Swept,
     second: Swept,
     third: Swept,
@@ -571,7 +571,7 @@ fn made<R: Records>(
     cell: &mut Cell<R>,
     trail: &mut Vec<Entry>,
     receipts: &mut Vec<Receipt>,
-    events: Events,
+    events: ThreeEvents,
 ) -> Result<Replied, Fault>
     ensures ok { IfOk result (λ t. step_of (watched cell.old) events ≡ Ok (watched cell.new, t.first)) }
     ensures same { IfOk result (λ t. t.events ≡ events) }
@@ -606,7 +606,7 @@ fn stepped<R: Records>(
     cell: &mut Cell<R>,
     trail: &mut Vec<Entry>,
     receipts: &mut Vec<Receipt>,
-    event: &Event,
+    event: &WatchEvent,
 ) -> Result<SweptThrice, Fault>
     ensures ok { IfOk result (λ t. step_of (watched cell.old) event.now ≡ Ok (watched cell.new, swept_as t.answers t.quiet)) }
     ensures tells { IfOk result (λ t. Tells cell.old.master.rights t.answers.lines cell.new.master.rights) }

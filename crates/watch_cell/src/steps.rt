@@ -6,7 +6,7 @@ ghost use Rattle.over_core.specs.Sweep.{swept_as};
 ghost use Rattle.watch_cell.specs.Trail.{StepRefuses, step_of};
 ghost use Rattle.watch_cell.specs.Views.{watched};
 
-use crate::events::Event;
+use crate::events::WatchEvent;
 use node_core::{Fault, Line};
 use over_core::{Cell, SweptThrice};
 use rows_cell::Records;
@@ -15,7 +15,7 @@ use rows_cell::Records;
 #[tactic(auto, unfolding(crate::specs::Trail::step_of))]
 pub(crate) fn step_thrice<R: Records>(
     cell: &mut Cell<R>,
-    event: &Event,
+    event: &WatchEvent,
 ) -> Result<SweptThrice, Fault>
     ensures ok { IfOk result (λ t. step_of (watched cell.old) event.now ≡ Ok (watched cell.new, swept_as t.answers t.quiet)) }
     ensures tells { IfOk result (λ t. Tells cell.old.master.rights t.answers.lines cell.new.master.rights) }
@@ -26,14 +26,14 @@ pub(crate) fn step_thrice<R: Records>(
 {
     cell.kept();
     match event {
-        Event::Take(now, request) => match cell.take_thrice(*now, request) {
+        WatchEvent::Take(now, request) => match cell.take_thrice(*now, request) {
             Ok(answers) => Ok(SweptThrice {
                 answers,
                 quiet: false,
             }),
             Err(fault) => Err(fault),
         },
-        Event::Sweep(now) => cell.sweep_thrice(*now),
+        WatchEvent::Sweep(now) => cell.sweep_thrice(*now),
     }
 }
 

@@ -4,7 +4,7 @@ ghost use Rattle.watch_cell.specs.Trail.{Calls, IsCallRefused, Retires};
 ghost use Rattle.watch_cell.specs.Views.{watched, fresh_hands};
 ghost use Rattle.watch_cell.specs.Closing.{Settled, Refuses};
 
-use crate::events::Event;
+use crate::events::WatchEvent;
 use crate::ledgers::Blanks;
 use crate::locked::{Closed, Locked, Opening, Pass, Receipt, open_locked, serve};
 use node_core::Fault;
@@ -62,7 +62,7 @@ impl<R: Records, O: Opening, I: Ledger, A: Ledger, E: Ledger, C: Ledger> Watch<R
         &self,
         rt: &W,
         pass: &mut Pass<I, A, E, C>,
-        event: Event,
+        event: WatchEvent,
     ) -> Result<Receipt, Fault>
         ensures ok { IfOk result (λ t. Calls O.opening pass.old pass.new event t) }
         ensures err { OnErr result (pass.new ≡ pass.old) }
@@ -113,7 +113,7 @@ fn take_in<R: Records, O: Opening, I: Ledger, A: Ledger, E: Ledger, C: Ledger>(
 fn serve_one<R: Records, O: Opening, I: Ledger, A: Ledger, E: Ledger, C: Ledger>(
     locked: &mut Locked<R, O, I, A, E, C>,
     pass: &mut Pass<I, A, E, C>,
-    event: Event,
+    event: WatchEvent,
 ) -> Result<Receipt, Fault>
     ensures ok { IfOk result (λ t. Calls O.opening pass.old pass.new event t) }
     ensures err { OnErr result (pass.new ≡ pass.old) }

@@ -7,7 +7,7 @@ use Rattle.tags_cell.specs.declared.messages.outs.CallResult.{CallResult}
 use Rattle.tags_cell.specs.declared.messages.outs.Out.{Out}
 use Rattle.tags_cell.specs.declared.messages.outs.Out.TheVariants as outs
 use Rattle.tags_cell.specs.declared.messages.outs.Reply.{Reply}
-use Rattle.master_parts.specs.declared.handles.Note.{Note}
+use Rattle.master_parts.specs.declared.handles.HandleNote.{HandleNote}
 use Rattle.master_state.specs.NameSpace.{name_space, caller}
 use Rattle.master_state.specs.State.{MasterState}
 use Rattle.cell_core.specs.Names.{name_asked}
@@ -60,7 +60,7 @@ told_answer sent secret reply call name found asks opens = record {
 -- ---- what is answered
 
 -- what a message is answered at once opens its name
-pub answered_opens : (s : MasterState) (message : CallMessage) (note : Option Note) (answer : CallResult) → IsAnswered s message note answer → OpensAs message.call answer
+pub answered_opens : (s : MasterState) (message : CallMessage) (note : Option HandleNote) (answer : CallResult) → IsAnswered s message note answer → OpensAs message.call answer
 answered_opens s message _ answer h = elim h.is_answer [
   | inl t ↦ answer_opens s message.client message.number message.call message.sequencer answer t.0
   | inr t ↦ subst (OpensAs message.call) (sym t.2) tt

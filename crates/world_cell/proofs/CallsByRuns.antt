@@ -23,7 +23,7 @@ use Rattle.tags_cell.specs.declared.messages.requests.Request.{Request}
 use Rattle.tags_cell.specs.declared.messages.requests.Request.TheVariants as requests
 use Rattle.tags_cell.specs.declared.messages.requests.CallMessage.{CallMessage}
 use Rattle.tags_cell.specs.declared.messages.outs.CallResult.{CallResult}
-use Rattle.master_parts.specs.declared.handles.Note.{Note}
+use Rattle.master_parts.specs.declared.handles.HandleNote.{HandleNote}
 use Rattle.rights_core.specs.Rights.{numbers_ending}
 use Rattle.gate_core.specs.declared.pending.Waiting.{Waiting}
 use Rattle.lock_core.specs.declared.claims.Claim.{Claim}
@@ -32,8 +32,8 @@ use Rattle.lock_core.specs.Turns.{reopened, tried}
 use Rattle.lock_core.specs.Locks.{lock_at}
 use Rattle.master_state.specs.Updates.{with_locks, with_note}
 use Rattle.master_parts.specs.Claims.{claim_of}
-use Rattle.master_parts.specs.declared.pending.Asked.{Asked}
-use Rattle.master_parts.specs.declared.pending.Idle.{Idle}
+use Rattle.master_parts.specs.declared.pending.WaitingRequest.{WaitingRequest}
+use Rattle.master_parts.specs.declared.pending.Orphan.{Orphan}
 use Rattle.master_parts.specs.declared.pending.Task.{Task}
 use Rattle.master_parts.specs.declared.pending.Task.TheVariants as tasks
 use Rattle.master_parts.specs.declared.pending.Work.{Work}
@@ -217,11 +217,11 @@ calls_push : (g : Ground) (epoch : ℕ) (ws : List (Waiting Task)) (w : Waiting 
 calls_push g epoch [] w h k = (k, tt)
 calls_push g epoch (x ∷ xs) w h k = (h.0, calls_push g epoch xs w h.1 k)
 
-note_calls : (g : Ground) (s : MasterState) (note : Option Note) → AreCalled g s.epoch s.gate.waiting → AreCalled g (with_note s note).epoch (with_note s note).gate.waiting
+note_calls : (g : Ground) (s : MasterState) (note : Option HandleNote) → AreCalled g s.epoch s.gate.waiting → AreCalled g (with_note s note).epoch (with_note s note).gate.waiting
 note_calls g s None h = h
 note_calls g s (Some note) h = h
 
-epoch_note : (s : MasterState) (note : Option Note) → (with_note s note).epoch ≡ s.epoch
+epoch_note : (s : MasterState) (note : Option HandleNote) → (with_note s note).epoch ≡ s.epoch
 epoch_note s None = refl
 epoch_note s (Some note) = refl
 
@@ -254,7 +254,7 @@ parted_calls g epoch (x ∷ front) w back h = let t = parted_calls g epoch front
 application_calls : (g : Ground) (s : MasterState) (front : List (Waiting Task)) (task : Task) (back : List (Waiting Task)) → IsNextApplied s front task back → AreCalled g s.epoch s.gate.waiting → IsTaskCalled g s.epoch task × AreCalled g s.epoch (front ++ back)
 application_calls g s front task back turn h = parted_calls g s.epoch front (waits_as turn.number turn.touched task) back (subst (λ ws. AreCalled g s.epoch ws) turn.waited h)
 
-ended_calls : (g : Ground) (s : MasterState) (asked : Asked) (note : Option Note) (answer : CallResult) → AreCalled g s.epoch s.gate.waiting → AreCalled g (ended s asked note answer).epoch (ended s asked note answer).gate.waiting
+ended_calls : (g : Ground) (s : MasterState) (asked : WaitingRequest) (note : Option HandleNote) (answer : CallResult) → AreCalled g s.epoch s.gate.waiting → AreCalled g (ended s asked note answer).epoch (ended s asked note answer).gate.waiting
 ended_calls g s asked None answer h = h
 ended_calls g s asked (Some note) answer h = h
 
@@ -413,7 +413,7 @@ agreed w m s e h = rw e at h
 record IsByCall (s : MasterState) (client number : ℕ) (change : Mod) : Type 0 where
   front : List (Waiting Task)
   back : List (Waiting Task)
-  asked : Asked
+  asked : WaitingRequest
   turn : IsNextApplied s front (tasks.Asked asked) back
   call : Call
   sequencer : Option (List ℕ)
@@ -424,7 +424,7 @@ record IsByCall (s : MasterState) (client number : ℕ) (change : Mod) : Type 0 
 
 -- what the cell does by itself
 record IsByItself (s : MasterState) (client number : ℕ) (change : Mod) : Type 0 where
-  gone : Idle
+  gone : Orphan
   still : is_still_idle s gone ≡ true
   nobody : client ≡ 0
   unnumbered : number ≡ 0
@@ -436,7 +436,7 @@ record IsOfApplication (s : MasterState) (before : List Line) (client number : �
   listed : names ≡ put_listing s.nodes change
   does : IsByCall s client number change ⊎ IsByItself s client number change
 
-of_call : (s : MasterState) (front back : List (Waiting Task)) (asked : Asked) (call : Call) (sequencer : Option (List ℕ)) (made : Mod) (before told : List Line) (client number : ℕ) (change : Mod) (names : List (List ℕ)) → IsNextApplied s front (tasks.Asked asked) back → asked.work ≡ works.Calls call sequencer → change_of (effect (name_space s) (caller s asked.client) s.clock asked.number call sequencer) ≡ Some made → lines.Applied asked.client asked.number made (put_listing s.nodes made) ∷ [] ≡ before ++ lines.Applied client number change names ∷ told → IsOfApplication s before client number change names
+of_call : (s : MasterState) (front back : List (Waiting Task)) (asked : WaitingRequest) (call : Call) (sequencer : Option (List ℕ)) (made : Mod) (before told : List Line) (client number : ℕ) (change : Mod) (names : List (List ℕ)) → IsNextApplied s front (tasks.Asked asked) back → asked.work ≡ works.Calls call sequencer → change_of (effect (name_space s) (caller s asked.client) s.clock asked.number call sequencer) ≡ Some made → lines.Applied asked.client asked.number made (put_listing s.nodes made) ∷ [] ≡ before ++ lines.Applied client number change names ∷ told → IsOfApplication s before client number change names
 of_call s front back asked call sequencer made before told client number change names turn work does e =
     let t = one_split (lines.Applied asked.client asked.number made (put_listing s.nodes made)) before told (lines.Applied client number change names) e in
     let line : lines.Applied asked.client asked.number made (put_listing s.nodes made) ≡ lines.Applied client number change names = t.1 in
@@ -461,7 +461,7 @@ of_call s front back asked call sequencer made before told client number change 
       });
     }
 
-of_itself : (s : MasterState) (idle : Idle) (before told : List Line) (client number : ℕ) (change : Mod) (names : List (List ℕ)) → is_still_idle s idle ≡ true → lines.Applied 0 0 (Gone idle.name) [] ∷ [] ≡ before ++ lines.Applied client number change names ∷ told → IsOfApplication s before client number change names
+of_itself : (s : MasterState) (idle : Orphan) (before told : List Line) (client number : ℕ) (change : Mod) (names : List (List ℕ)) → is_still_idle s idle ≡ true → lines.Applied 0 0 (Gone idle.name) [] ∷ [] ≡ before ++ lines.Applied client number change names ∷ told → IsOfApplication s before client number change names
 of_itself s idle before told client number change names still e =
     let t = one_split (lines.Applied 0 0 (Gone idle.name) []) before told (lines.Applied client number change names) e in
     let line : lines.Applied 0 0 (Gone idle.name) [] ≡ lines.Applied client number change names = t.1 in
@@ -525,7 +525,7 @@ it_fits : (front : List (Waiting Task)) (w : Waiting Task) (back : List (Waiting
 it_fits [] w back h = (and_parts (task_fits w.change.body) (waiting_fits back) h).0
 it_fits (x ∷ front) w back h = it_fits front w back (and_parts (task_fits x.change.body) (waiting_fits (front ++ w ∷ back)) h).1
 
-asked_counts : (s : MasterState) (front back : List (Waiting Task)) (asked : Asked) → waiting_fits s.gate.waiting ≡ true → IsNextApplied s front (tasks.Asked asked) back → 1 ≤ asked.client
+asked_counts : (s : MasterState) (front back : List (Waiting Task)) (asked : WaitingRequest) → waiting_fits s.gate.waiting ≡ true → IsNextApplied s front (tasks.Asked asked) back → 1 ≤ asked.client
 asked_counts s front back asked fits turn =
     some_number asked.client (it_fits front (waits_as turn.number turn.touched (tasks.Asked asked)) back (subst (λ ws. waiting_fits ws ≡ true) turn.waited fits))
 
@@ -535,7 +535,7 @@ record IsIdleAt (s : MasterState) (name : List ℕ) : Type 0 where
   found : get_node s.nodes name ≡ Some view
   idle : is_idle_node s name view ≡ true
 
-idle_at : (s : MasterState) (gone : Idle) (o : Option Node) → get_node s.nodes gone.name ≡ o → option_map_or (λ view. view.instance == gone.instance && is_idle_node s gone.name view) o false ≡ true → IsIdleAt s gone.name
+idle_at : (s : MasterState) (gone : Orphan) (o : Option Node) → get_node s.nodes gone.name ≡ o → option_map_or (λ view. view.instance == gone.instance && is_idle_node s gone.name view) o false ≡ true → IsIdleAt s gone.name
 idle_at s gone None found h = cc
 idle_at s gone (Some view) found h = record { view = view; found = found; idle = (and_parts (view.instance == gone.instance) (is_idle_node s gone.name view) h).1 }
 
@@ -660,7 +660,7 @@ have_waited : (g : Ground) (s : MasterState) → g.old.world.master ≡ Some s �
 have_waited g s up front [] is = tt
 have_waited g s up front (w ∷ ws) is = (it_waited g s up front w ws w.change.body refl is, have_waited g s up (front ++ w ∷ []) ws (is ∙ sym (append_assoc front (w ∷ []) ws)))
   where
-    call_waited : (g : Ground) (s : MasterState) → g.old.world.master ≡ Some s → (front : List (Waiting Task)) (w : Waiting Task) (ws : List (Waiting Task)) (asked : Asked) (work : Work) → w.change.body ≡ tasks.Asked asked → asked.work ≡ work → s.gate.waiting ≡ front ++ w ∷ ws → IsCalled g s.epoch asked.client asked.number work
+    call_waited : (g : Ground) (s : MasterState) → g.old.world.master ≡ Some s → (front : List (Waiting Task)) (w : Waiting Task) (ws : List (Waiting Task)) (asked : WaitingRequest) (work : Work) → w.change.body ≡ tasks.Asked asked → asked.work ≡ work → s.gate.waiting ≡ front ++ w ∷ ws → IsCalled g s.epoch asked.client asked.number work
     call_waited g s up front w ws asked (works.Starts principal received) body work is = tt
     call_waited g s up front w ws asked (works.Calls call sequencer) body work is =
         inl (record {

@@ -9,7 +9,7 @@ use Rattle.std.specs.Ordering.{nat_cmp}
 use Rattle.node_core.specs.declared.refusals.Fault.TheVariants as faults
 use Rattle.node_core.specs.declared.events.Event.{Event}
 use Rattle.node_core.specs.declared.events.Event.TheVariants as events
-use Rattle.rows_cell.specs.declared.tables.Session as stored
+use Rattle.rows_cell.specs.declared.tables.SessionRow as stored
 use Rattle.tags_cell.specs.Numbers.{is_client_number}
 use Rattle.tags_cell.specs.declared.messages.beats.NumberedEvent.{NumberedEvent}
 use Rattle.tags_cell.specs.declared.messages.calls.Call.{Call}
@@ -26,14 +26,14 @@ use Rattle.lock_core.specs.declared.turns.Turn.{Turn}
 use Rattle.lock_core.specs.Turns.{reopened}
 use Rattle.lock_core.specs.Locks.{lock_at}
 use Rattle.rights_core.specs.Rights.{clients_to_ask}
-use Rattle.session_core.specs.declared.records.Kept.{Kept}
+use Rattle.session_core.specs.declared.records.LastCall.{LastCall}
 use Rattle.session_core.specs.declared.records.Parked.{Parked}
 use Rattle.session_core.specs.declared.records.Session.{Session}
 use Rattle.session_core.specs.Session as of_session
 use Rattle.session_core.specs.Session.{events_of, first_events, session_until, beaten, prolonged, answered, keeping, unparked}
 use Rattle.session_core.specs.Sessions.{SessionTable, with_session, with_new, issued_by, unacked_events, session_of as session_in}
-use Rattle.master_parts.specs.declared.handles.Note.{Note}
-use Rattle.master_parts.specs.declared.notices.Telling.{Telling}
+use Rattle.master_parts.specs.declared.handles.HandleNote.{HandleNote}
+use Rattle.master_parts.specs.declared.notices.SessionEvent.{SessionEvent}
 use Rattle.master_parts.specs.declared.pending.Task.TheVariants as tasks
 use Rattle.master_state.specs.NameSpace.{name_space, caller}
 use Rattle.master_state.specs.Notices.{with_telling}
@@ -63,7 +63,7 @@ module _ (R : Reply → Type 0) (E : Event → Type 0) where
   IfReply None = Unit {0}
   IfReply (Some reply) = R reply
 
-  abbrev pub IfKept : Option (Kept Reply) → Type 0
+  abbrev pub IfKept : Option (LastCall Reply) → Type 0
   IfKept None = Unit {0}
   IfKept (Some kept) = IfReply kept.reply
 
@@ -140,7 +140,7 @@ module _ (R : Reply → Type 0) (E : Event → Type 0) where
     of_one : (client : ℕ) (session : Session Reply) → session_in table client ≡ Some session → OfSession (Some session)
     of_one client session is = subst OfSession is (h client)
 
-    pub keeping_holds : (client : ℕ) (kept : Kept Reply) → IfReply kept.reply → OfSessions (with_session table client (keeping kept))
+    pub keeping_holds : (client : ℕ) (kept : LastCall Reply) → IfReply kept.reply → OfSessions (with_session table client (keeping kept))
     keeping_holds client kept r = each_session (λ q o. OfSession o) table client h (keeping kept) (λ session is. (r, (of_one client session is).1))
 
     issued_holds : (asked : List (ℕ × ℕ)) → OfSessions (issued_by asked table)
@@ -152,7 +152,7 @@ module _ (R : Reply → Type 0) (E : Event → Type 0) where
     begun_holds : (client : ℕ) (principal : List ℕ) (moment : ℕ) → OfSessions (with_new table client (session_until principal true moment))
     begun_holds client principal moment = each_with_new (λ q o. OfSession o) table client h (session_until principal true moment) (tt, tt)
 
-    kept_holds : (client : ℕ) (kept : Kept Reply) → kept_in (session_in table client) ≡ Some kept → IfReply kept.reply
+    kept_holds : (client : ℕ) (kept : LastCall Reply) → kept_in (session_in table client) ≡ Some kept → IfReply kept.reply
     kept_holds client kept is = found (session_in table client) (h client) is
       where
         found : (o : Option (Session Reply)) → OfSession o → kept_in o ≡ Some kept → IfReply kept.reply
@@ -176,7 +176,7 @@ module _ (R : Reply → Type 0) (E : Event → Type 0) where
   replies_hold table (reply ∷ replies) h k = replies_hold (with_session table reply.client (keeping (answered_by reply))) replies (keeping_holds table h reply.client (answered_by reply) k.0) k.1
 
   -- what clients are told of a step
-  pub tellings_hold : (table : SessionTable Reply) (tellings : List Telling) → OfSessions table → AllByRecursion (λ (telling : Telling). E telling.event) tellings → OfSessions (fold with_telling table tellings)
+  pub tellings_hold : (table : SessionTable Reply) (tellings : List SessionEvent) → OfSessions table → AllByRecursion (λ (telling : SessionEvent). E telling.event) tellings → OfSessions (fold with_telling table tellings)
   tellings_hold table [] h k = h
   tellings_hold table (telling ∷ tellings) h k =
       tellings_hold (with_telling table telling) tellings (stepped_holds table h telling.client (of_session.told telling.event) (λ session g. (g.0, told_holds telling.event session.events k.0 g.1))) k.1
@@ -196,7 +196,7 @@ module _ (R : Reply → Type 0) (E : Event → Type 0) where
 
   -- ---- a master's notes and questions
 
-  note_holds : (s : MasterState) (note : Option Note) → OfSessions s.sessions → OfSessions (with_note s note).sessions
+  note_holds : (s : MasterState) (note : Option HandleNote) → OfSessions s.sessions → OfSessions (with_note s note).sessions
   note_holds s None h = h
   note_holds s (Some note) h = h
 
@@ -249,7 +249,7 @@ module _ (R : Reply → Type 0) (E : Event → Type 0) where
   -- ---- a sweep
 
   module _ (s : MasterState) (shows : Shows s) where
-    to_hold : (answer : CallResult) (client : ℕ) (b : Bool) (o : Option (Kept Reply)) → IsShown s.nodes answer → AllByRecursion R (cond b (option_map_or (λ kept. reply_of s client kept.number answer ∷ []) o []) [])
+    to_hold : (answer : CallResult) (client : ℕ) (b : Bool) (o : Option (LastCall Reply)) → IsShown s.nodes answer → AllByRecursion R (cond b (option_map_or (λ kept. reply_of s client kept.number answer ∷ []) o []) [])
     to_hold answer client true None shown = tt
     to_hold answer client true (Some kept) shown = (shows (reply_of s client kept.number answer) shown, tt)
     to_hold answer client false o shown = tt

@@ -11,8 +11,8 @@ use Rattle.node_core.specs.declared.answers.Answer.TheVariants as answers
 use Rattle.node_core.specs.declared.lines.Line.{Line}
 use Rattle.node_core.specs.declared.lines.Line.TheVariants as lines
 use Rattle.cache_core.specs.Standings.{turn_line}
-use Rattle.cache_core.specs.declared.standings.Standing.{Standing}
-use Rattle.cache_core.specs.declared.standings.Standing.TheVariants as standings
+use Rattle.cache_core.specs.declared.standings.SessionTrust.{SessionTrust}
+use Rattle.cache_core.specs.declared.standings.SessionTrust.TheVariants as standings
 use Rattle.tags_cell.specs.declared.messages.outs.CallResult.{CallResult}
 use Rattle.tags_cell.specs.declared.messages.outs.CallResult.TheVariants as results
 use Rattle.tags_cell.specs.declared.messages.outs.Out.{Out}
@@ -41,8 +41,8 @@ use Rattle.master_state.specs.Lapses.{lapse_lines, lapses_lines, lapses_of, part
 use Rattle.over_core.specs.SweepCase.{SweepCase, swept_by}
 use Rattle.over_core.specs.SweepCase.SweepCase.{Recovers, Expires, Reopens, Tidied, Started as StartedFirst, Applied, Deleted, Locked, Left, Departed as Leaves}
 use Rattle.client_core.specs.declared.parts.asks.Ask.{Ask}
-use Rattle.client_core.specs.declared.parts.sessions.Session.{Session}
-use Rattle.client_core.specs.declared.parts.sessions.Session.TheVariants as sessions
+use Rattle.client_core.specs.declared.parts.sessions.ClientStanding.{ClientStanding}
+use Rattle.client_core.specs.declared.parts.sessions.ClientStanding.TheVariants as sessions
 use Rattle.client_core.specs.declared.parts.targets.Outstanding.{Outstanding}
 use Rattle.client_core.specs.declared.parts.targets.Target.{Target}
 use Rattle.client_core.specs.declared.parts.targets.Target.TheVariants as targets
@@ -94,7 +94,7 @@ module _ (R : Reply → Type 0) (E : Event → Type 0) where
 
   -- ---- a client's lines
 
-  turn_lines : (number : ℕ) (former now : Standing) → OfLines (option_to_list (turn_line number former now))
+  turn_lines : (number : ℕ) (former now : SessionTrust) → OfLines (option_to_list (turn_line number former now))
   turn_lines number standings.Safe standings.Safe = tt
   turn_lines number standings.Safe (standings.Jeopardy since) = (tt, tt)
   turn_lines number standings.Safe standings.Lost = (tt, tt)
@@ -103,7 +103,7 @@ module _ (R : Reply → Type 0) (E : Event → Type 0) where
   turn_lines number (standings.Jeopardy since) standings.Lost = (tt, tt)
   turn_lines number standings.Lost now = tt
 
-  noted_lines : (s : ClientState) (session : Session) (moment : ℕ) → OfLines (note_lines_in session s moment)
+  noted_lines : (s : ClientState) (session : ClientStanding) (moment : ℕ) → OfLines (note_lines_in session s moment)
   noted_lines s sessions.Unstarted moment = tt
   noted_lines s sessions.Live moment = turn_lines s.number s.standing (standing_then s moment)
   noted_lines s sessions.Lost moment = tt

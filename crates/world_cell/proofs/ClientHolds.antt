@@ -28,7 +28,7 @@ use Rattle.tags_cell.specs.declared.messages.outs.NewHandle.{NewHandle}
 use Rattle.tags_cell.specs.Messages.{request_number}
 use Rattle.cache_core.specs.Caches.{AreCacheEntries, entry_limit, entry_of, answer}
 use Rattle.cache_core.specs.Kept.{serving, with_kept}
-use Rattle.cache_core.specs.declared.kept.Kept as shared
+use Rattle.cache_core.specs.declared.kept.SharedHandle as shared
 use Rattle.cache_core.proofs.Sharing.{served_is_kept}
 use Rattle.client_core.specs.Calls.{call_on}
 use Rattle.client_core.specs.Opens.{is_plain, only_reads, is_shareable, kept_handle, cached_answer}
@@ -37,13 +37,13 @@ use Rattle.client_core.specs.declared.parts.asks.Ask.{Ask}
 use Rattle.client_core.specs.declared.parts.asks.Ask.TheVariants as asks
 use Rattle.client_core.specs.declared.parts.asks.NodeCall.{NodeCall}
 use Rattle.client_core.specs.declared.parts.handles.ClientHandle.{ClientHandle}
-use Rattle.client_core.specs.declared.parts.sessions.Session.{Session}
-use Rattle.client_core.specs.declared.parts.sessions.Session.TheVariants as sessions
+use Rattle.client_core.specs.declared.parts.sessions.ClientStanding.{ClientStanding}
+use Rattle.client_core.specs.declared.parts.sessions.ClientStanding.TheVariants as sessions
 use Rattle.client_core.specs.declared.parts.targets.Outstanding.{Outstanding}
 use Rattle.client_core.specs.declared.parts.targets.Target.{Target}
 use Rattle.client_core.specs.declared.parts.targets.Target.TheVariants as targets
-use Rattle.client_core.specs.declared.plans.Plan.{Plan}
-use Rattle.client_core.specs.declared.plans.Plan.TheVariants as plans
+use Rattle.client_core.specs.declared.plans.AskPlan.{AskPlan}
+use Rattle.client_core.specs.declared.plans.AskPlan.TheVariants as plans
 use Rattle.client_core.specs.State.{ClientState, new_client, note_in, note_live}
 use Rattle.client_core.specs.Handles.{handle_of, usable_handle, put_under, handles_behind, kept_behind}
 use Rattle.client_core.specs.Serves.{serve_answer, cached_served, read_served, share, entry_served, open_served}
@@ -193,7 +193,7 @@ pub record SameGrips (s new : ClientState) : Type 0 where
   pub kept : new.kept ≡ s.kept
   pub outstanding : new.outstanding ≡ s.outstanding
 
-pub note_grips : (s : ClientState) (session : Session) (moment : ℕ) → SameGrips s (note_in session s moment)
+pub note_grips : (s : ClientState) (session : ClientStanding) (moment : ℕ) → SameGrips s (note_in session s moment)
 note_grips s sessions.Unstarted moment = record { number = refl; opened = refl; handles = refl; kept = refl; outstanding = refl }
 note_grips s sessions.Live moment = record { number = refl; opened = refl; handles = refl; kept = refl; outstanding = refl }
 note_grips s sessions.Lost moment = record { number = refl; opened = refl; handles = refl; kept = refl; outstanding = refl }
@@ -267,12 +267,12 @@ record IsMade (s : ClientState) (call : Call) (number : ℕ) : Type 0 where
   same : call ≡ call_on handle.bytes node
 
 -- whatever the plan sends is made so
-abbrev MadeBy : ClientState → Result Plan Fault → Type 0
+abbrev MadeBy : ClientState → Result AskPlan Fault → Type 0
 MadeBy s (Ok (plans.Send call sequencer target)) = (number : ℕ) → target ≡ targets.Handle number → IsMade s call number
 MadeBy s (Ok _) = Unit {0}
 MadeBy s (Err fault) = Unit {0}
 
-abbrev MadeIf : ClientState → Option Plan → Type 0
+abbrev MadeIf : ClientState → Option AskPlan → Type 0
 MadeIf s None = Unit {0}
 MadeIf s (Some plan) = MadeBy s (Ok plan)
 
@@ -280,11 +280,11 @@ module _ (s : ClientState) where
   made_send : (call : Call) (sequencer : Option (List ℕ)) (target : Target) → ((number : ℕ) → target ≡ targets.Handle number → IsMade s call number) → MadeBy s (send_plan s call sequencer target)
   made_send call sequencer target h = elim (is_some s.outstanding) as (λ b. MadeBy s (cond b (Err faults.CallOutstanding) (Ok (plans.Send call sequencer target)))) [ true ↦ tt | false ↦ h ]
 
-  made_or : (o : Option Plan) (sent : Result Plan Fault) → MadeIf s o → MadeBy s sent → MadeBy s (served_or o sent)
+  made_or : (o : Option AskPlan) (sent : Result AskPlan Fault) → MadeIf s o → MadeBy s sent → MadeBy s (served_or o sent)
   made_or None sent h k = k
   made_or (Some plan) sent h k = h
 
-  made_if : (b : Bool) (o : Option Plan) → MadeIf s o → MadeIf s (cond b o None)
+  made_if : (b : Bool) (o : Option AskPlan) → MadeIf s o → MadeIf s (cond b o None)
   made_if true o h = h
   made_if false o h = tt
 

@@ -21,7 +21,7 @@ use Rattle.node_core.specs.declared.views.Mod.TheVariants.{Put, Gone}
 use Rattle.rows_cell.specs.declared.settings.Limits.{Limits}
 use Rattle.rows_cell.specs.declared.settings.MasterTerms.{MasterTerms}
 use Rattle.rows_cell.specs.declared.tables.Rows.{Rows}
-use Rattle.rows_cell.specs.declared.tables.Session as stored
+use Rattle.rows_cell.specs.declared.tables.SessionRow as stored
 use Rattle.rows_cell.specs.declared.tables.Edit.TheVariants.{NextInstance}
 use Rattle.rows_cell.specs.Rows.{changed_rows, map_of}
 use Rattle.tags_cell.specs.declared.messages.requests.Request.{Request}
@@ -34,8 +34,8 @@ use Rattle.tags_cell.specs.declared.messages.outs.Started.{Started}
 use Rattle.tags_cell.specs.declared.messages.outs.CallResult.TheVariants as results
 use Rattle.tags_cell.specs.declared.messages.outs.Refused.{Refused}
 use Rattle.tags_cell.specs.declared.messages.outs.Reply.{Reply}
-use Rattle.master_parts.specs.declared.handles.Note.{Note}
-use Rattle.session_core.specs.declared.records.Kept.{Kept}
+use Rattle.master_parts.specs.declared.handles.HandleNote.{HandleNote}
+use Rattle.session_core.specs.declared.records.LastCall.{LastCall}
 use Rattle.session_core.specs.declared.records.Session.{Session}
 use Rattle.event_core.specs.Queue.{count_of}
 use Rattle.session_core.specs.Session.{events_of, live_beat_fault, beat_fault}
@@ -60,7 +60,7 @@ use Rattle.master_state.specs.Lapses.{lapses_of, lapses_puts, lapses_replies}
 use Rattle.over_core.specs.SweepCase.SweepCase.{Quiet, Recovers, Expires, Reopens, Tidies, Spared, Tidied, StartedAgain, Started as StartedFirst, OfEnded, Ended, Applied, Deleted, Locked, Awaited, Left, Departed}
 use Rattle.over_core.specs.Kept.{IsKept}
 use Rattle.over_core.specs.Up.{up_edits}
-use Rattle.client_core.specs.declared.parts.sessions.Session.TheVariants as sessions
+use Rattle.client_core.specs.declared.parts.sessions.ClientStanding.TheVariants as sessions
 use Rattle.client_core.specs.State.{ClientState}
 use Rattle.world_steps.specs.declared.steps.Step.{Step}
 use Rattle.world_steps.specs.declared.steps.Step.TheVariants as steps
@@ -337,7 +337,7 @@ module _ (w : WorldState) (h : IsConsistent w) (now : ℕ) where
   }
 
   -- it knows of no call
-  no_kept : {X : Type 0} (client : ℕ) (kept : Kept Reply) → kept_in (lookup (is_at (nat_cmp client)) (map (taken_over now) w.rows.sessions)) ≡ Some kept → X
+  no_kept : {X : Type 0} (client : ℕ) (kept : LastCall Reply) → kept_in (lookup (is_at (nat_cmp client)) (map (taken_over now) w.rows.sessions)) ≡ Some kept → X
   no_kept client kept is = let none = (all_first now w.rows.sessions client).0 in cc
 
   up_holds : Becomes up
@@ -683,7 +683,7 @@ swept_epoch rows s _ = refl
 
 -- ---- the moment that a master knows
 
-note_clock : (s : MasterState) (note : Option Note) → (with_note s note).clock ≡ s.clock
+note_clock : (s : MasterState) (note : Option HandleNote) → (with_note s note).clock ≡ s.clock
 note_clock s None = refl
 note_clock s (Some note) = refl
 

@@ -10,7 +10,7 @@ use Rattle.tags_cell.specs.declared.messages.calls.Call.{Call}
 use Rattle.tags_cell.specs.declared.messages.outs.CallResult.{CallResult}
 use Rattle.tags_cell.specs.declared.messages.outs.CallResult.TheVariants as results
 use Rattle.tags_cell.specs.declared.messages.outs.Reply.{Reply}
-use Rattle.session_core.specs.declared.records.Kept.{Kept}
+use Rattle.session_core.specs.declared.records.LastCall.{LastCall}
 use Rattle.lock_core.specs.declared.claims.Claim.{Claim}
 use Rattle.lock_core.specs.declared.turns.Turn.{Turn}
 use Rattle.lock_core.specs.Turns.{is_of_client, any_waits, lapsed, concerns}
@@ -25,7 +25,7 @@ use Rattle.lock_core.specs.declared.partings.Parting.{Parting}
 
 -- it opens no handle, and may not be kept in a cache
 pub record IsLate (s : MasterState) (reply : Reply) : Type 0 where
-  pub kept : Kept Reply
+  pub kept : LastCall Reply
   pub is_kept : kept_of s reply.client ≡ Some kept
   pub same : reply.number ≡ kept.number
   pub unstamped : reply.stamp ≡ None
@@ -40,7 +40,7 @@ module _ (s : MasterState) where
   late_both [] others h k = k
   late_both (reply ∷ replies) others h k = (h.0, late_both replies others h.1 k)
 
-  one_late : (answer : CallResult) (client : ℕ) → ((call : Call) → OpensAs call answer) → awaits_lock client s.locks ≡ true → (b : Bool) (o : Option (Kept Reply)) → kept_of s client ≡ o → AreLate s (cond b (option_map_or (λ kept. reply_of s client kept.number answer ∷ []) o []) [])
+  one_late : (answer : CallResult) (client : ℕ) → ((call : Call) → OpensAs call answer) → awaits_lock client s.locks ≡ true → (b : Bool) (o : Option (LastCall Reply)) → kept_of s client ≡ o → AreLate s (cond b (option_map_or (λ kept. reply_of s client kept.number answer ∷ []) o []) [])
   one_late answer client opens awaits true None is = tt
   one_late answer client opens awaits true (Some kept) is = (record { kept = kept; is_kept = is; same = refl; unstamped = refl; opens = opens; awaits = awaits }, tt)
   one_late answer client opens awaits false o is = tt

@@ -10,7 +10,7 @@ use Rattle.tags_cell.specs.declared.messages.outs.Out.TheVariants as outs
 use Rattle.tags_cell.specs.declared.messages.outs.CallResult.{CallResult}
 use Rattle.tags_cell.specs.declared.messages.outs.CallResult.TheVariants as results
 use Rattle.tags_cell.specs.declared.messages.outs.Reply.{Reply}
-use Rattle.session_core.specs.declared.records.Kept.{Kept}
+use Rattle.session_core.specs.declared.records.LastCall.{LastCall}
 use Rattle.session_core.specs.Session.{keeping}
 use Rattle.session_core.specs.Sessions.{SessionTable, session_of as session_in}
 use Rattle.lock_core.specs.declared.claims.Claim.{Claim}
@@ -36,7 +36,7 @@ unstamped_both : (replies others : List Reply) → AreUnstamped replies → AreU
 unstamped_both [] others h k = k
 unstamped_both (reply ∷ replies) others h k = (h.0, unstamped_both replies others h.1 k)
 
-one_unstamped : (s : MasterState) (answer : CallResult) (client : ℕ) (b : Bool) (o : Option (Kept Reply)) → AreUnstamped (cond b (option_map_or (λ kept. reply_of s client kept.number answer ∷ []) o []) [])
+one_unstamped : (s : MasterState) (answer : CallResult) (client : ℕ) (b : Bool) (o : Option (LastCall Reply)) → AreUnstamped (cond b (option_map_or (λ kept. reply_of s client kept.number answer ∷ []) o []) [])
 one_unstamped s answer client true None = tt
 one_unstamped s answer client true (Some kept) = (refl, tt)
 one_unstamped s answer client false o = tt

@@ -29,21 +29,21 @@ use Rattle.gate_core.specs.Gate.{GateState}
 use Rattle.lock_core.specs.declared.claims.Claim.{Claim}
 use Rattle.lock_core.specs.Turns.{is_of_client, reopened}
 use Rattle.lock_core.specs.Locks.{lock_at}
-use Rattle.session_core.specs.declared.records.Kept.{Kept}
+use Rattle.session_core.specs.declared.records.LastCall.{LastCall}
 use Rattle.session_core.specs.declared.records.Session.{Session}
 use Rattle.session_core.specs.Session.{keeping, beaten, prolonged, answered, session_until, issued_through}
 use Rattle.session_core.specs.Session as of_session
 use Rattle.session_core.specs.Sessions.{with_session, with_new, issued_by}
 use Rattle.master_state.specs.declared.updates.Change.{Change}
 use Rattle.master_state.specs.declared.updates.LockPut.{LockPut}
-use Rattle.master_parts.specs.declared.handles.Note.{Note}
-use Rattle.master_parts.specs.declared.pending.Asked.{Asked}
-use Rattle.master_parts.specs.declared.pending.Idle.{Idle}
+use Rattle.master_parts.specs.declared.handles.HandleNote.{HandleNote}
+use Rattle.master_parts.specs.declared.pending.WaitingRequest.{WaitingRequest}
+use Rattle.master_parts.specs.declared.pending.Orphan.{Orphan}
 use Rattle.master_parts.specs.declared.pending.Task.{Task}
 use Rattle.master_parts.specs.declared.pending.Task.TheVariants as tasks
 use Rattle.master_parts.specs.declared.pending.Work.{Work}
 use Rattle.master_parts.specs.declared.pending.Work.TheVariants as works
-use Rattle.master_parts.specs.declared.notices.Telling.{Telling}
+use Rattle.master_parts.specs.declared.notices.SessionEvent.{SessionEvent}
 use Rattle.master_state.specs.NameSpace.{name_space, caller}
 use Rattle.master_state.specs.Notices.{with_telling, with_tellings}
 use Rattle.master_state.specs.State.{MasterState}
@@ -51,7 +51,7 @@ use Rattle.master_state.specs.Lookups.{session_of, kept_of, is_live, reply_of, s
 use Rattle.master_parts.specs.Calls.{bytes_of}
 use Rattle.master_parts.specs.Answered.{answered_by}
 use Rattle.node_core.specs.Nodes.{with_parent}
-use Rattle.cell_core.specs.declared.asking.Touched.{Touched}
+use Rattle.cell_core.specs.declared.asking.TouchedNames.{TouchedNames}
 use Rattle.cell_core.specs.Step.{recorded, queued, names_of, task_of, with_call, with_right, asking_for, parked, replied, granting, waits, asking}
 use Rattle.master_state.specs.Updates.{with_note, with_locks, without_lock}
 use Rattle.cell_core.specs.Ephemerals.{tidied}
@@ -91,13 +91,13 @@ waits_as number touched asked = record { number = number; change = record { touc
 -- ---- what is kept of a call
 
 -- it was sent, and a reply is to it
-record IsKeptAs (sent : List Message) (epoch : ℕ) (secret : List ℕ) (client : ℕ) (kept : Kept Reply) : Type 0 where
+record IsKeptAs (sent : List Message) (epoch : ℕ) (secret : List ℕ) (client : ℕ) (kept : LastCall Reply) : Type 0 where
   was : WasSent sent epoch client kept.number
   replied : (reply : Reply) → kept.reply ≡ Some reply → IsReplyTo client kept.number reply
   answers : (reply : Reply) → kept.reply ≡ Some reply → IsAnswer sent secret reply
 
 abbrev IsKeptSent : List Message → ℕ → List ℕ → ℕ → Option (Session Reply) → Type 0
-IsKeptSent sent epoch secret client o = (kept : Kept Reply) → kept_in o ≡ Some kept → IsKeptAs sent epoch secret client kept
+IsKeptSent sent epoch secret client o = (kept : LastCall Reply) → kept_in o ≡ Some kept → IsKeptAs sent epoch secret client kept
 
 all_kept : (sent : List Message) (s : MasterState) → FitsMessages sent s → (client : ℕ) → IsKeptSent sent s.epoch s.secret client (session_of s client)
 all_kept sent s h client kept is = record { was = h.kept client kept is; replied = λ reply of. h.replies client kept reply is of; answers = λ reply of. h.answers client kept reply is of }
@@ -125,7 +125,7 @@ replied_kept sent epoch secret client number reply was to answers = record {
 
 -- ---- more messages
 
-later_kept : (xs ys : List Message) (epoch : ℕ) (secret : List ℕ) (client : ℕ) (kept : Kept Reply) → IsKeptAs xs epoch secret client kept → IsKeptAs (xs ++ ys) epoch secret client kept
+later_kept : (xs ys : List Message) (epoch : ℕ) (secret : List ℕ) (client : ℕ) (kept : LastCall Reply) → IsKeptAs xs epoch secret client kept → IsKeptAs (xs ++ ys) epoch secret client kept
 later_kept xs ys epoch secret client kept h =
     let w = h.was in
     record {
@@ -193,7 +193,7 @@ queue_push sent epoch (x ∷ xs) w h k = (h.0, queue_push sent epoch xs w h.1 k)
 -- ---- a session's call
 
 -- behind a call that has its reply nothing waits
-none_kept : (o : Option (Kept Reply)) (number : ℕ) (numbers : List ℕ) → IsLastInTurn o numbers → IsBehind o number → numbers ≡ []
+none_kept : (o : Option (LastCall Reply)) (number : ℕ) (numbers : List ℕ) → IsLastInTurn o numbers → IsBehind o number → numbers ≡ []
 none_kept None number numbers h k = h
 none_kept (Some kept) number numbers h k = subst (λ o. IsWaiting kept.number o numbers) k.1 h
 
@@ -202,7 +202,7 @@ none_waits None number numbers h k = h
 none_waits (Some session) number numbers h k = none_kept session.kept number numbers h k
 
 -- nor is it without a reply
-unanswered_behind : (o : Option (Kept Reply)) (number : ℕ) → IsBehind o number → is_unanswered o ≡ true → ⊥
+unanswered_behind : (o : Option (LastCall Reply)) (number : ℕ) → IsBehind o number → is_unanswered o ≡ true → ⊥
 unanswered_behind None number behind h = cc
 unanswered_behind (Some kept) number behind h = let e : false ≡ true = subst (λ (o : Option Reply). is_none o ≡ true) behind.1 h in cc
 
@@ -246,7 +246,7 @@ module _ (sent : List Message) (s : MasterState) (h : FitsMessages sent s) where
       h.awaited
 
   -- a call of the client is recorded
-  is_recorded : (client : ℕ) (kept : Kept Reply) → IsKeptAs sent s.epoch s.secret client kept → (q : ℕ) → IsKeptSent sent s.epoch s.secret q (session_of (recorded s client kept) q)
+  is_recorded : (client : ℕ) (kept : LastCall Reply) → IsKeptAs sent s.epoch s.secret client kept → (q : ℕ) → IsKeptSent sent s.epoch s.secret q (session_of (recorded s client kept) q)
   is_recorded client kept as_it =
       each_session (λ q o. IsKeptSent sent s.epoch s.secret q o) s.sessions client (all_kept sent s h) (keeping kept)
       (λ session is now e. subst (λ k. IsKeptAs sent s.epoch s.secret client k) (some_same kept now e) as_it)
@@ -280,7 +280,7 @@ module _ (sent : List Message) (s : MasterState) (h : FitsMessages sent s) where
   }
 
 -- what clients are told of keeps what is kept of calls
-pub tellings_fit : (sent : List Message) (s : MasterState) (tellings : List Telling) → FitsMessages sent s → FitsMessages sent (with_tellings s tellings)
+pub tellings_fit : (sent : List Message) (s : MasterState) (tellings : List SessionEvent) → FitsMessages sent s → FitsMessages sent (with_tellings s tellings)
 tellings_fit sent s [] h = h
 tellings_fit sent s (telling ∷ tellings) h =
     tellings_fit sent (record s { sessions = with_telling s.sessions telling }) tellings (stepped_fits sent s h telling.client (of_session.told telling.event) (λ session. refl))
@@ -292,7 +292,7 @@ record IsKeptLate (sent : List Message) (s : MasterState) (reply : Reply) : Type
   as_it : IsKeptAs sent s.epoch s.secret reply.client (answered_by reply)
   none : waiting reply.client s.gate.waiting ≡ []
 
-still_late : (sent : List Message) (s : MasterState) (client : ℕ) (kept : Kept Reply) (replies : List Reply) → AllByRecursion (IsKeptLate sent s) replies → AllByRecursion (IsKeptLate sent (recorded s client kept)) replies
+still_late : (sent : List Message) (s : MasterState) (client : ℕ) (kept : LastCall Reply) (replies : List Reply) → AllByRecursion (IsKeptLate sent s) replies → AllByRecursion (IsKeptLate sent (recorded s client kept)) replies
 still_late sent s client kept [] h = tt
 still_late sent s client kept (reply ∷ replies) h = (record { as_it = h.0.as_it; none = h.0.none }, still_late sent s client kept replies h.1)
 
@@ -330,7 +330,7 @@ live_session s client session live is =
 
 -- ---- a message is taken
 
-pub fits_note : (sent : List Message) (s : MasterState) (note : Option Note) → FitsMessages sent s → FitsMessages sent (with_note s note)
+pub fits_note : (sent : List Message) (s : MasterState) (note : Option HandleNote) → FitsMessages sent s → FitsMessages sent (with_note s note)
 fits_note sent s None h = h
 fits_note sent s (Some note) h = record { queue = h.queue; kept = h.kept; replies = h.replies; answers = h.answers; turns = h.turns; awaited = h.awaited }
 
@@ -341,23 +341,23 @@ asking_fits sent s (name ∷ names) h =
     let asked = clients_to_ask name s.rights in
     asking_fits sent (asking s name) names (right_fits sent (record s { sessions = issued_by asked s.sessions }) (asked_back name s.rights) (issued_fits sent s h asked))
 
-pub behind_note : (s : MasterState) (note : Option Note) (client number : ℕ) → IsBehind (kept_of s client) number → IsBehind (kept_of (with_note s note) client) number
+pub behind_note : (s : MasterState) (note : Option HandleNote) (client number : ℕ) → IsBehind (kept_of s client) number → IsBehind (kept_of (with_note s note) client) number
 behind_note s None client number h = h
 behind_note s (Some note) client number h = h
 
-pub live_note : (s : MasterState) (note : Option Note) (client : ℕ) → is_live s client ≡ true → is_live (with_note s note) client ≡ true
+pub live_note : (s : MasterState) (note : Option HandleNote) (client : ℕ) → is_live s client ≡ true → is_live (with_note s note) client ≡ true
 live_note s None client h = h
 live_note s (Some note) client h = h
 
-pub epoch_note : (s : MasterState) (note : Option Note) → (with_note s note).epoch ≡ s.epoch
+pub epoch_note : (s : MasterState) (note : Option HandleNote) → (with_note s note).epoch ≡ s.epoch
 epoch_note s None = refl
 epoch_note s (Some note) = refl
 
-gate_note : (s : MasterState) (note : Option Note) → (with_note s note).gate ≡ s.gate
+gate_note : (s : MasterState) (note : Option HandleNote) → (with_note s note).gate ≡ s.gate
 gate_note s None = refl
 gate_note s (Some note) = refl
 
-pub secret_note : (s : MasterState) (note : Option Note) → (with_note s note).secret ≡ s.secret
+pub secret_note : (s : MasterState) (note : Option HandleNote) → (with_note s note).secret ≡ s.secret
 secret_note s None = refl
 secret_note s (Some note) = refl
 
@@ -367,7 +367,7 @@ module _ (sent : List Message) (s : MasterState) (client number : ℕ) (h : Fits
 
   kept_fits : (reply : Reply) → IsReplyTo client number reply → IsAnswer sent s.secret reply → WasSent sent s.epoch client number → FitsMessages sent (recorded s client (record { number = number; reply = Some reply }))
   kept_fits reply to answers was =
-      let kept : Kept Reply = record { number = number; reply = Some reply } in
+      let kept : LastCall Reply = record { number = number; reply = Some reply } in
       fits_by sent (recorded s client kept) h.queue (is_recorded sent s h client kept (replied_kept sent s.epoch s.secret client number reply was to answers))
       (each_session (λ q o. IsInTurn o (waiting q s.gate.waiting)) s.sessions client h.turns (keeping kept) (λ session is. free)) h.awaited
 
@@ -386,7 +386,7 @@ module _ (sent : List Message) (s : MasterState) (message : CallMessage) (h : Fi
   uncalled : waiting message.client s.gate.waiting ≡ []
   uncalled = none_waits (session_of s message.client) message.number (waiting message.client s.gate.waiting) (h.turns message.client) behind
 
-  called_fits : (touched : Option Touched) → FitsMessages sent (with_call s message touched)
+  called_fits : (touched : Option TouchedNames) → FitsMessages sent (with_call s message touched)
   called_fits touched =
       let client = message.client in
       let number = message.number in
@@ -406,7 +406,7 @@ module _ (sent : List Message) (s : MasterState) (message : CallMessage) (h : Fi
       (λ waits. absurd (unanswered_behind (kept_of s client) number behind (unanswered client waits)))
       (λ q apart waits. same q apart ∙ h.awaited q waits))
 
-  waits_fits : (touched : Option Touched) → FitsMessages sent (waits s message touched).0
+  waits_fits : (touched : Option TouchedNames) → FitsMessages sent (waits s message touched).0
   waits_fits touched = asking_fits sent (with_call s message touched) (names_of touched) (called_fits touched)
 
 -- the reply is sent, with its grant
@@ -431,7 +431,7 @@ start_fits sent s client number principal received h =
     }
 
 -- the deletion of a node that nobody holds open
-tidies_fits : (sent : List Message) (s : MasterState) (idle : Idle) → FitsMessages sent s → FitsMessages sent (tidied s idle)
+tidies_fits : (sent : List Message) (s : MasterState) (idle : Orphan) → FitsMessages sent s → FitsMessages sent (tidied s idle)
 tidies_fits sent s idle h =
     let w : Waiting Task = waits_as (s.gate.pushed + 1) (with_parent idle.name) (tasks.Tidies idle) in
     let same = λ (q : ℕ). waiting_append q s.gate.waiting (w ∷ []) ∙ append-nil (waiting q s.gate.waiting) in
@@ -450,7 +450,7 @@ beat_fits sent s beat h =
     right_fits sent (record s { sessions = with_session s.sessions beat.client (beaten beat s.clock) }) (of_rights.ended beat.client (acknowledgement beat) s.rights)
     (stepped_fits sent s h beat.client (beaten beat s.clock) (λ session. refl))
 
-unanswered_note : (s : MasterState) (note : Option Note) → AreUnanswered s → AreUnanswered (with_note s note)
+unanswered_note : (s : MasterState) (note : Option HandleNote) → AreUnanswered s → AreUnanswered (with_note s note)
 unanswered_note s None h = h
 unanswered_note s (Some note) h = h
 
@@ -493,10 +493,10 @@ take_fits sent s request c h free asked = fits_stays sent (map ToClient (taken_b
 -- ---- a sweep
 
 -- the call whose turn it is has no reply yet, and none waits beside it
-pub record IsItsTurn (o : Option (Kept Reply)) (number : ℕ) (before behind : List ℕ) : Type 0 where
+pub record IsItsTurn (o : Option (LastCall Reply)) (number : ℕ) (before behind : List ℕ) : Type 0 where
   pub front : before ≡ []
   pub back : behind ≡ []
-  pub kept : Kept Reply
+  pub kept : LastCall Reply
   pub is_kept : o ≡ Some kept
   pub no_reply : kept.reply ≡ None
   pub same : kept.number ≡ number
@@ -515,7 +515,7 @@ waiting_one number None n xs ys (inl h) = (refl, h)
 waiting_one number None n xs ys (inr h) = absurd (none_but xs ys n h)
 waiting_one number (Some reply) n xs ys h = absurd (none_but xs ys n h)
 
-kept_turn : (o : Option (Kept Reply)) (number : ℕ) (xs ys : List ℕ) → IsLastInTurn o (xs ++ number ∷ ys) → IsItsTurn o number xs ys
+kept_turn : (o : Option (LastCall Reply)) (number : ℕ) (xs ys : List ℕ) → IsLastInTurn o (xs ++ number ∷ ys) → IsItsTurn o number xs ys
 kept_turn None number xs ys h = absurd (none_but xs ys number h)
 kept_turn (Some kept) number xs ys h =
     let w = waiting_one kept.number kept.reply number xs ys h in
@@ -554,7 +554,7 @@ queue_at sent epoch (x ∷ front) w back h = let t = queue_at sent epoch front w
 
 -- a call that waits shows a handle of its client
 abbrev pub ShowsOwn : MasterState → Type 0
-ShowsOwn s = (front back : List (Waiting Task)) (asked : Asked) (call : Call) (sequencer : Option (List ℕ)) (handle : Handle) → IsNextApplied s front (tasks.Asked asked) back → asked.work ≡ works.Calls call sequencer → read_handle s.secret (bytes_of call) ≡ Some handle → handle.client ≡ asked.client
+ShowsOwn s = (front back : List (Waiting Task)) (asked : WaitingRequest) (call : Call) (sequencer : Option (List ℕ)) (handle : Handle) → IsNextApplied s front (tasks.Asked asked) back → asked.work ≡ works.Calls call sequencer → read_handle s.secret (bytes_of call) ≡ Some handle → handle.client ≡ asked.client
 
 -- behind those that wait there is one more
 waits_behind : (q : ℕ) (waiters : List Claim) (claim : Claim) → list_any (λ c. is_of_client q c.owner) (waiters ++ claim ∷ []) ≡ true → (list_any (λ c. is_of_client q c.owner) waiters ≡ true) ⊎ (claim.owner.client ≡ q)
@@ -604,11 +604,11 @@ module _ (sent : List Message) (s : MasterState) (front : List (Waiting Task)) (
   }
 
 -- what the cell does by itself
-tidied_left : (sent : List Message) (s : MasterState) (front : List (Waiting Task)) (idle : Idle) (back : List (Waiting Task)) → IsNextApplied s front (tasks.Tidies idle) back → FitsMessages sent s → FitsMessages sent (rest s front back)
+tidied_left : (sent : List Message) (s : MasterState) (front : List (Waiting Task)) (idle : Orphan) (back : List (Waiting Task)) → IsNextApplied s front (tasks.Tidies idle) back → FitsMessages sent s → FitsMessages sent (rest s front back)
 tidied_left sent s front idle back turn h = uncalled_left sent s front (tasks.Tidies idle) back turn h (λ q. refl)
 
 -- what a client asked for
-module _ (sent : List Message) (s : MasterState) (front : List (Waiting Task)) (asked : Asked) (back : List (Waiting Task)) (turn : IsNextApplied s front (tasks.Asked asked) back) (h : FitsMessages sent s) where
+module _ (sent : List Message) (s : MasterState) (front : List (Waiting Task)) (asked : WaitingRequest) (back : List (Waiting Task)) (turn : IsNextApplied s front (tasks.Asked asked) back) (h : FitsMessages sent s) where
   -- the call was sent
   pub application_sent : (call : Call) (sequencer : Option (List ℕ)) → asked.work ≡ works.Calls call sequencer → call_of sent asked.client asked.number ≡ Some (record { client = asked.client; epoch = s.epoch; number = asked.number; call = call; sequencer = sequencer })
   application_sent call sequencer work = subst (λ x. IsOfMessage sent s.epoch asked.client asked.number x) work (at_application sent s front (tasks.Asked asked) back turn h).0

@@ -22,8 +22,8 @@ use Rattle.rights_core.specs.declared.grants.Grant.{Grant}
 use Rattle.rights_core.specs.declared.grants.Grant.TheVariants as grants
 use Rattle.rights_core.specs.Rights.{grant_answer, clients_to_ask, numbers_ending}
 use Rattle.tags_cell.specs.declared.messages.outs.Reply.{Reply}
-use Rattle.master_parts.specs.declared.handles.Note.{Note}
-use Rattle.session_core.specs.declared.records.Kept.{Kept}
+use Rattle.master_parts.specs.declared.handles.HandleNote.{HandleNote}
+use Rattle.session_core.specs.declared.records.LastCall.{LastCall}
 use Rattle.session_core.specs.Session.{beaten, keeping, prolonged, answered, session_until}
 use Rattle.session_core.specs.Session as of_session
 use Rattle.session_core.specs.Sessions as of_sessions
@@ -33,11 +33,11 @@ use Rattle.lock_core.specs.declared.turns.Lapse.{Lapse}
 use Rattle.lock_core.specs.declared.turns.Turn.{Turn}
 use Rattle.lock_core.specs.Turns.{reopened}
 use Rattle.lock_core.specs.Locks.{lock_at}
-use Rattle.master_parts.specs.declared.pending.Asked.{Asked}
+use Rattle.master_parts.specs.declared.pending.WaitingRequest.{WaitingRequest}
 use Rattle.master_parts.specs.declared.pending.Task.{Task}
 use Rattle.master_parts.specs.declared.pending.Task.TheVariants as tasks
 use Rattle.master_parts.specs.declared.pending.Work.TheVariants as works
-use Rattle.master_parts.specs.declared.notices.Telling.{Telling}
+use Rattle.master_parts.specs.declared.notices.SessionEvent.{SessionEvent}
 use Rattle.master_state.specs.Notices.{with_tellings}
 use Rattle.master_state.specs.State.{MasterState}
 use Rattle.master_state.specs.Updates.{with_locks, with_note}
@@ -101,7 +101,7 @@ PastResult number None last = IsAbove last number
 PastResult number (Some reply) last = IsFrom last number
 
 -- the call that waits, or else each one that the master may still take
-abbrev PastKept : List Message → ℕ → ℕ → Option (Kept Reply) → Option ℕ → Type 0
+abbrev PastKept : List Message → ℕ → ℕ → Option (LastCall Reply) → Option ℕ → Type 0
 PastKept sent epoch client None last = (number : ℕ) (call : CallMessage) → call_of sent client number ≡ Some call → call.epoch ≡ epoch → IsAbove last number
 PastKept sent epoch client (Some kept) last = PastResult kept.number kept.reply last
 
@@ -138,7 +138,7 @@ counted_later old new client (Some last) l h =
     let b = y.calls in
     record { member = y.next; there = y.there; more = omega arith }
 
-kept_later : (xs ys : List Message) (epoch client : ℕ) (o : Option (Kept Reply)) (last : Option ℕ) → ((number : ℕ) (call : CallMessage) → call_of ys client number ≡ Some call → IsAbove last number) → PastKept xs epoch client o last → PastKept (xs ++ ys) epoch client o last
+kept_later : (xs ys : List Message) (epoch client : ℕ) (o : Option (LastCall Reply)) (last : Option ℕ) → ((number : ℕ) (call : CallMessage) → call_of ys client number ≡ Some call → IsAbove last number) → PastKept xs epoch client o last → PastKept (xs ++ ys) epoch client o last
 kept_later xs ys epoch client (Some kept) last fresh h = h
 kept_later xs ys epoch client None last fresh h = λ number call is of.
     elim (call_more xs ys client number call is) [ inl a ↦ h number call a of | inr b ↦ fresh number call b ]
@@ -154,7 +154,7 @@ outs_later xs sent client s last h =
 -- ---- a message is taken
 
 -- a new call is above the last one
-new_above : (sent : List Message) (epoch client number : ℕ) (o : Option (Kept Reply)) (last : Option ℕ) (call : CallMessage) → IsBehind o number → call_of sent client number ≡ Some call → call.epoch ≡ epoch → PastKept sent epoch client o last → IsAbove last number
+new_above : (sent : List Message) (epoch client number : ℕ) (o : Option (LastCall Reply)) (last : Option ℕ) (call : CallMessage) → IsBehind o number → call_of sent client number ≡ Some call → call.epoch ≡ epoch → PastKept sent epoch client o last → IsAbove last number
 new_above sent epoch client number None last call behind found of h = h number call found of
 new_above sent epoch client number (Some kept) None call behind found of h = tt
 new_above sent epoch client number (Some kept) (Some l) call behind found of h =
@@ -163,7 +163,7 @@ new_above sent epoch client number (Some kept) (Some l) call behind found of h =
     let k : PastResult kept.number (Some behind.0) (Some l) = rw e at h in omega arith
 
 -- what is kept of one client is the new entry, or as it was
-put_past : (sent : List Message) (s : MasterState) (whose client : ℕ) (kept : Kept Reply) (last : Option ℕ) → is_live s whose ≡ true → (whose ≡ client → PastResult kept.number kept.reply last) → PastMaster sent client s last → PastKept sent s.epoch client (kept_of (recorded s whose kept) client) last
+put_past : (sent : List Message) (s : MasterState) (whose client : ℕ) (kept : LastCall Reply) (last : Option ℕ) → is_live s whose ≡ true → (whose ≡ client → PastResult kept.number kept.reply last) → PastMaster sent client s last → PastKept sent s.epoch client (kept_of (recorded s whose kept) client) last
 put_past sent s whose client kept last live own h =
     (elim (eqb client whose) as (λ b. eqb client whose ≡ b → PastKept sent s.epoch client (kept_of (recorded s whose kept) client) last) [
       | true ↦ (λ e.
@@ -173,7 +173,7 @@ put_past sent s whose client kept last live own h =
       | false ↦ (λ e. subst (λ o. PastKept sent s.epoch client o last) (sym (kept_other s.sessions whose client kept (other client whose e))) h)
     ]) refl
 
-note_past : (sent : List Message) (s : MasterState) (note : Option Note) (client : ℕ) (last : Option ℕ) → PastMaster sent client s last → PastMaster sent client (with_note s note) last
+note_past : (sent : List Message) (s : MasterState) (note : Option HandleNote) (client : ℕ) (last : Option ℕ) → PastMaster sent client s last → PastMaster sent client (with_note s note) last
 note_past sent s None client last h = h
 note_past sent s (Some note) client last h = h
 
@@ -184,7 +184,7 @@ call_above sent t client last message behind found of h is =
     new_above sent t.epoch message.client message.number (kept_of t message.client) last message behind found of k
 
 -- a step that keeps what is kept of calls
-same_past : (sent : List Message) (epoch client : ℕ) (a b : Option (Kept Reply)) (last : Option ℕ) → b ≡ a → PastKept sent epoch client a last → PastKept sent epoch client b last
+same_past : (sent : List Message) (epoch client : ℕ) (a b : Option (LastCall Reply)) (last : Option ℕ) → b ≡ a → PastKept sent epoch client a last → PastKept sent epoch client b last
 same_past sent epoch client a b last is h = subst (λ o. PastKept sent epoch client o last) (sym is) h
 
 asking_past : (sent : List Message) (s : MasterState) (names : List (List ℕ)) (client : ℕ) (last : Option ℕ) → PastMaster sent client s last → PastMaster sent client (asking_for s names) last
@@ -304,8 +304,8 @@ from_both client last [] ys h k = k
 from_both client last (x ∷ xs) ys h k = (h.0, from_both client last xs ys h.1 k)
 
 -- the reply is to the call that is kept
-module _ (s : MasterState) (client : ℕ) (last : Option ℕ) (from : (kept : Kept Reply) → kept_of s client ≡ Some kept → IsFrom last kept.number) where
-  one_from : (answer : CallResult) (whose : ℕ) (b : Bool) (o : Option (Kept Reply)) → kept_of s whose ≡ o → AreFrom client last (cond b (option_map_or (λ kept. reply_of s whose kept.number answer ∷ []) o []) [])
+module _ (s : MasterState) (client : ℕ) (last : Option ℕ) (from : (kept : LastCall Reply) → kept_of s client ≡ Some kept → IsFrom last kept.number) where
+  one_from : (answer : CallResult) (whose : ℕ) (b : Bool) (o : Option (LastCall Reply)) → kept_of s whose ≡ o → AreFrom client last (cond b (option_map_or (λ kept. reply_of s whose kept.number answer ∷ []) o []) [])
   one_from answer whose true None is = tt
   one_from answer whose true (Some kept) is = ((λ own. from kept (ap (λ n. kept_of s n) (sym own) ∙ is)), tt)
   one_from answer whose false o is = tt
@@ -342,14 +342,14 @@ result_from : (number : ℕ) (o : Option Reply) (last : Option ℕ) → PastResu
 result_from number None last h = above_from last number h
 result_from number (Some reply) last h = h
 
-kept_from : (sent : List Message) (epoch client : ℕ) (o : Option (Kept Reply)) (last : Option ℕ) → PastKept sent epoch client o last → (kept : Kept Reply) → o ≡ Some kept → IsFrom last kept.number
+kept_from : (sent : List Message) (epoch client : ℕ) (o : Option (LastCall Reply)) (last : Option ℕ) → PastKept sent epoch client o last → (kept : LastCall Reply) → o ≡ Some kept → IsFrom last kept.number
 kept_from sent epoch client o last h kept is = let k : PastKept sent epoch client (Some kept) last = subst (λ x. PastKept sent epoch client x last) is h in result_from kept.number kept.reply last k
 
 -- ---- a sweep's cases
 
 module _ (sent : List Message) (s : MasterState) (client : ℕ) (last : Option ℕ) (fits : FitsMessages sent s) (h : PastMaster sent client s last) (some : 1 ≤ client) where
   -- the call whose turn it is is above the last one
-  application_above : (front back : List (Waiting Task)) (asked : Asked) (call : Call) (sequencer : Option (List ℕ)) → IsNextApplied s front (tasks.Asked asked) back → asked.work ≡ works.Calls call sequencer → asked.client ≡ client → IsAbove last asked.number
+  application_above : (front back : List (Waiting Task)) (asked : WaitingRequest) (call : Call) (sequencer : Option (List ℕ)) → IsNextApplied s front (tasks.Asked asked) back → asked.work ≡ works.Calls call sequencer → asked.client ≡ client → IsAbove last asked.number
   application_above front back asked call sequencer turn work own =
       let t = call_application sent s front asked back turn fits call sequencer work in
       let k : PastMaster sent asked.client s last = rw (← own) at h in
@@ -358,9 +358,9 @@ module _ (sent : List Message) (s : MasterState) (client : ℕ) (last : Option �
       subst (λ n. PastResult n None last) t.same v
 
   -- t: the master behind the change, without what is noted of a handle
-  end_past : (t : MasterState) (asked : Asked) (note : Option Note) (answer : CallResult) (next : Option ℕ) → t.sessions ≡ s.sessions → t.epoch ≡ s.epoch → is_live s asked.client ≡ true → (asked.client ≡ client → IsFrom next asked.number) → (eqb client asked.client ≡ false → next ≡ last) → PastMaster sent client (ended t asked note answer) next
+  end_past : (t : MasterState) (asked : WaitingRequest) (note : Option HandleNote) (answer : CallResult) (next : Option ℕ) → t.sessions ≡ s.sessions → t.epoch ≡ s.epoch → is_live s asked.client ≡ true → (asked.client ≡ client → IsFrom next asked.number) → (eqb client asked.client ≡ false → next ≡ last) → PastMaster sent client (ended t asked note answer) next
   end_past t asked note answer next same_sessions same_epoch live own apart =
-      let kept : Kept Reply = answered_by (reply_of t asked.client asked.number answer) in
+      let kept : LastCall Reply = answered_by (reply_of t asked.client asked.number answer) in
       let lives : is_live t asked.client ≡ true = subst (λ x. of_sessions.is_live x asked.client ≡ true) (sym same_sessions) live in
       let before : PastKept sent t.epoch client (kept_of t client) last = subst (λ x. PastKept sent t.epoch client (of_sessions.kept_of x client) last) (sym same_sessions) (subst (λ n. PastKept sent n client (kept_of s client) last) (sym same_epoch) h) in
       note_past sent (recorded t asked.client kept) note client next
@@ -378,29 +378,29 @@ module _ (sent : List Message) (s : MasterState) (client : ℕ) (last : Option �
   differ n m e = grind (arith, nat_tests)
 
   -- the call whose turn it is isn't applied
-  unapplied_past : (t : MasterState) (front back : List (Waiting Task)) (asked : Asked) (call : Call) (sequencer : Option (List ℕ)) (note : Option Note) (answer : CallResult) → t.sessions ≡ s.sessions → t.epoch ≡ s.epoch → is_live s asked.client ≡ true → IsNextApplied s front (tasks.Asked asked) back → asked.work ≡ works.Calls call sequencer → PastMaster sent client (ended t asked note answer) last
+  unapplied_past : (t : MasterState) (front back : List (Waiting Task)) (asked : WaitingRequest) (call : Call) (sequencer : Option (List ℕ)) (note : Option HandleNote) (answer : CallResult) → t.sessions ≡ s.sessions → t.epoch ≡ s.epoch → is_live s asked.client ≡ true → IsNextApplied s front (tasks.Asked asked) back → asked.work ≡ works.Calls call sequencer → PastMaster sent client (ended t asked note answer) last
   unapplied_past t front back asked call sequencer note answer same_sessions same_epoch live turn work =
       end_past t asked note answer last same_sessions same_epoch live (λ own. above_from last asked.number (application_above front back asked call sequencer turn work own)) (λ apart. refl)
 
   -- what is kept of the client then
-  still_from : (kept : Kept Reply) → kept_of s client ≡ Some kept → IsFrom last kept.number
+  still_from : (kept : LastCall Reply) → kept_of s client ≡ Some kept → IsFrom last kept.number
   still_from kept is = kept_from sent s.epoch client (kept_of s client) last h kept is
 
-  turn_from_it : (front back : List (Waiting Task)) (asked : Asked) (call : Call) (sequencer : Option (List ℕ)) → IsNextApplied s front (tasks.Asked asked) back → asked.work ≡ works.Calls call sequencer → asked.client ≡ client → (kept : Kept Reply) → kept_of s client ≡ Some kept → IsFrom (Some asked.number) kept.number
+  turn_from_it : (front back : List (Waiting Task)) (asked : WaitingRequest) (call : Call) (sequencer : Option (List ℕ)) → IsNextApplied s front (tasks.Asked asked) back → asked.work ≡ works.Calls call sequencer → asked.client ≡ client → (kept : LastCall Reply) → kept_of s client ≡ Some kept → IsFrom (Some asked.number) kept.number
   turn_from_it front back asked call sequencer turn work own kept is =
       let t = call_application sent s front asked back turn fits call sequencer work in
       let k : kept_of s asked.client ≡ Some kept = ap (λ n. kept_of s n) own ∙ is in
       let e : t.kept ≡ kept = some_same t.kept kept (sym t.is_kept ∙ k) in
-      let n : kept.number ≡ asked.number = ap (λ (x : Kept Reply). x.number) (sym e) ∙ t.same in
+      let n : kept.number ≡ asked.number = ap (λ (x : LastCall Reply). x.number) (sym e) ∙ t.same in
       omega arith
 
   -- it is applied, and others are told their replies
-  record AppliedOn (t : MasterState) (asked : Asked) (note : Option Note) (answer : CallResult) (b : Bool) : Type 0 where
+  record AppliedOn (t : MasterState) (asked : WaitingRequest) (note : Option HandleNote) (answer : CallResult) (b : Bool) : Type 0 where
     rises : RisesFrom last (cond b (asked.number ∷ []) [])
     past : PastMaster sent client (ended t asked note answer) (last_after last (cond b (asked.number ∷ []) []))
-    from : (kept : Kept Reply) → kept_of s client ≡ Some kept → IsFrom (last_after last (cond b (asked.number ∷ []) [])) kept.number
+    from : (kept : LastCall Reply) → kept_of s client ≡ Some kept → IsFrom (last_after last (cond b (asked.number ∷ []) [])) kept.number
 
-  applied_past : (t : MasterState) (front back : List (Waiting Task)) (asked : Asked) (call : Call) (sequencer : Option (List ℕ)) (note : Option Note) (answer : CallResult) → t.sessions ≡ s.sessions → t.epoch ≡ s.epoch → is_live s asked.client ≡ true → IsNextApplied s front (tasks.Asked asked) back → asked.work ≡ works.Calls call sequencer → (b : Bool) → (asked.client == client) ≡ b → AppliedOn t asked note answer b
+  applied_past : (t : MasterState) (front back : List (Waiting Task)) (asked : WaitingRequest) (call : Call) (sequencer : Option (List ℕ)) (note : Option HandleNote) (answer : CallResult) → t.sessions ≡ s.sessions → t.epoch ≡ s.epoch → is_live s asked.client ≡ true → IsNextApplied s front (tasks.Asked asked) back → asked.work ≡ works.Calls call sequencer → (b : Bool) → (asked.client == client) ≡ b → AppliedOn t asked note answer b
   applied_past t front back asked call sequencer note answer same_sessions same_epoch live turn work true e =
       let n : asked.client ≡ client = same asked.client client e in
       record {
@@ -474,7 +474,7 @@ module _ (sent : List Message) (s : MasterState) (client : ℕ) (last : Option �
       (told_past sent (ended t asked note answer) client last (turn_replies s leave.turn) (turn_from s client last still_from leave.turn)
       (unapplied_past t front back asked call sequencer note answer refl refl live turn work))
 
-telling_past : (sent : List Message) (s : MasterState) (client : ℕ) (last : Option ℕ) (tellings : List Telling) → PastMaster sent client s last → PastMaster sent client (with_tellings s tellings) last
+telling_past : (sent : List Message) (s : MasterState) (client : ℕ) (last : Option ℕ) (tellings : List SessionEvent) → PastMaster sent client s last → PastMaster sent client (with_tellings s tellings) last
 telling_past sent s client last tellings h = same_past sent s.epoch client (kept_of s client) (kept_of (with_tellings s tellings) client) last (told_kept s tellings client) h
 
 -- ---- a step
@@ -488,7 +488,7 @@ silent_on client new printed last silent h =
     let e = none_applied client printed silent in record { rises = rw e tt; past = rw e h }
 
 -- what a sweep applied was sent
-counted_put : (w : WorldState) (h : IsConsistent w) (s : MasterState) (front back : List (Waiting Task)) (asked : Asked) (call : Call) (sequencer : Option (List ℕ)) (client : ℕ) (last : Option ℕ) → IsNextApplied s front (tasks.Asked asked) back → asked.work ≡ works.Calls call sequencer → FitsMessages w.messages s → IsCounted w client last → IsCounted w client (last_after last (cond (asked.client == client) (asked.number ∷ []) []))
+counted_put : (w : WorldState) (h : IsConsistent w) (s : MasterState) (front back : List (Waiting Task)) (asked : WaitingRequest) (call : Call) (sequencer : Option (List ℕ)) (client : ℕ) (last : Option ℕ) → IsNextApplied s front (tasks.Asked asked) back → asked.work ≡ works.Calls call sequencer → FitsMessages w.messages s → IsCounted w client last → IsCounted w client (last_after last (cond (asked.client == client) (asked.number ∷ []) []))
 counted_put w h s front back asked call sequencer client last turn work fits counted =
     let sent = h.sent asked.client asked.number (record { client = asked.client; epoch = s.epoch; number = asked.number; call = call; sequencer = sequencer }) (application_sent w.messages s front asked back turn fits call sequencer work) in
     (elim (asked.client == client) as (λ b. (asked.client == client) ≡ b → IsCounted w client (last_after last (cond b (asked.number ∷ []) []))) [
@@ -632,7 +632,7 @@ first_result : (number : ℕ) (o : Option Reply) → PastResult number o None
 first_result number None = tt
 first_result number (Some reply) = tt
 
-first_kept : (sent : List Message) (epoch client : ℕ) (o : Option (Kept Reply)) → PastKept sent epoch client o None
+first_kept : (sent : List Message) (epoch client : ℕ) (o : Option (LastCall Reply)) → PastKept sent epoch client o None
 first_kept sent epoch client None = λ number call is of. tt
 first_kept sent epoch client (Some kept) = first_result kept.number kept.reply
 

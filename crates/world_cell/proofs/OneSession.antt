@@ -5,7 +5,7 @@ use Rattle.std.specs.Option.{option_map, option_map_or, option_and_then}
 use Rattle.std.proofs.lemmas.Bool.Decides.{nat_tests}
 use Rattle.collections.proofs.OneKey.{lookup_put, lookup_put_apart}
 use Rattle.tags_cell.specs.declared.messages.outs.Reply.{Reply}
-use Rattle.session_core.specs.declared.records.Kept.{Kept}
+use Rattle.session_core.specs.declared.records.LastCall.{LastCall}
 use Rattle.session_core.specs.declared.records.Session.{Session}
 use Rattle.session_core.specs.Session.{keeping, answered, prolonged, issued_through, unparked}
 use Rattle.session_core.specs.Sessions.{SessionTable, session_of, kept_of, is_live, with_session, with_new, with_issued, issued_by}
@@ -58,7 +58,7 @@ each_issued P step (entry ∷ asked) table all q =
 
 -- ---- what is kept of calls
 
-abbrev pub kept_in : Option (Session Reply) → Option (Kept Reply)
+abbrev pub kept_in : Option (Session Reply) → Option (LastCall Reply)
 kept_in o = option_and_then (λ session. session.kept) o
 
 -- a step that keeps it
@@ -84,10 +84,10 @@ is_there table client live =
     ]) live
 
 -- what is kept of a call anew
-pub kept_own : (table : Sessions) (client : ℕ) (kept : Kept Reply) → is_live table client ≡ true → kept_of (with_session table client (keeping kept)) client ≡ Some kept
+pub kept_own : (table : Sessions) (client : ℕ) (kept : LastCall Reply) → is_live table client ≡ true → kept_of (with_session table client (keeping kept)) client ≡ Some kept
 kept_own table client kept live = kept_session table client kept (is_there table client live)
 
-pub kept_other : (table : Sessions) (client q : ℕ) (kept : Kept Reply) → q ≢ client → kept_of (with_session table client (keeping kept)) q ≡ kept_of table q
+pub kept_other : (table : Sessions) (client q : ℕ) (kept : LastCall Reply) → q ≢ client → kept_of (with_session table client (keeping kept)) q ≡ kept_of table q
 kept_other table client q kept apart = ap kept_in (other_session table client (keeping kept) q apart)
 
 -- ---- a parked Beat is answered

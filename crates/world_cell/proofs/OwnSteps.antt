@@ -5,8 +5,8 @@ use Rattle.std.specs.Option.{option_to_list}
 use Rattle.std.proofs.lemmas.List.{append-nil}
 use Rattle.lease_core.specs.Lease.{is_unexpired}
 use Rattle.cache_core.specs.Standings.{turn_line}
-use Rattle.cache_core.specs.declared.standings.Standing.{Standing}
-use Rattle.cache_core.specs.declared.standings.Standing.TheVariants as standings
+use Rattle.cache_core.specs.declared.standings.SessionTrust.{SessionTrust}
+use Rattle.cache_core.specs.declared.standings.SessionTrust.TheVariants as standings
 use Rattle.node_core.specs.declared.events.Event.{Event}
 use Rattle.node_core.specs.declared.refusals.Fault.{Fault}
 use Rattle.node_core.specs.declared.refusals.Fault.TheVariants as faults
@@ -26,8 +26,8 @@ use Rattle.tags_cell.specs.declared.messages.outs.CallResult.{CallResult}
 use Rattle.tags_cell.specs.declared.messages.outs.CallResult.TheVariants as results
 use Rattle.tags_cell.specs.Messages.{request_number, out_client, is_leave}
 use Rattle.client_core.specs.declared.parts.asks.Ask.{Ask}
-use Rattle.client_core.specs.declared.parts.sessions.Session.{Session}
-use Rattle.client_core.specs.declared.parts.sessions.Session.TheVariants as sessions
+use Rattle.client_core.specs.declared.parts.sessions.ClientStanding.{ClientStanding}
+use Rattle.client_core.specs.declared.parts.sessions.ClientStanding.TheVariants as sessions
 use Rattle.client_core.specs.declared.parts.targets.Target.{Target}
 use Rattle.client_core.specs.declared.parts.targets.Target.TheVariants as targets
 use Rattle.client_core.specs.declared.parts.targets.Outstanding.{Outstanding}
@@ -115,7 +115,7 @@ it_comes P outcome new printed is h = let k : Comes P (Ok (new, printed)) = subs
 
 -- ---- the noting of the time
 
-application_quiet : (number : ℕ) (before after : Standing) → IsQuiet (option_to_list (turn_line number before after))
+application_quiet : (number : ℕ) (before after : SessionTrust) → IsQuiet (option_to_list (turn_line number before after))
 application_quiet number standings.Safe standings.Safe = tt
 application_quiet number standings.Safe (standings.Jeopardy since) = (tt, tt, tt)
 application_quiet number standings.Safe standings.Lost = (tt, tt, tt)
@@ -124,7 +124,7 @@ application_quiet number (standings.Jeopardy since) (standings.Jeopardy later) =
 application_quiet number (standings.Jeopardy since) standings.Lost = (tt, tt, tt)
 application_quiet number standings.Lost after = tt
 
-noted_in_quiet : (s : ClientState) (session : Session) (moment : ℕ) → IsQuiet (note_lines_in session s moment)
+noted_in_quiet : (s : ClientState) (session : ClientStanding) (moment : ℕ) → IsQuiet (note_lines_in session s moment)
 noted_in_quiet s sessions.Unstarted moment = tt
 noted_in_quiet s sessions.Live moment = application_quiet s.number s.standing (standing_then s moment)
 noted_in_quiet s sessions.Lost moment = tt
@@ -140,7 +140,7 @@ told_quiet s moment more quiet = append_quiet (note_lines s moment) more (noted_
 refusal_quiet : (told : List Line) (fault : Fault) → IsQuiet told → IsQuiet (with_refusal told fault)
 refusal_quiet told fault quiet = append_quiet told (lines.Refused fault ∷ []) quiet (tt, tt, tt)
 
-pub note_calls : (s : ClientState) (session : Session) (moment : ℕ) → (note_in session s moment).calls ≡ s.calls
+pub note_calls : (s : ClientState) (session : ClientStanding) (moment : ℕ) → (note_in session s moment).calls ≡ s.calls
 note_calls s sessions.Unstarted moment = refl
 note_calls s sessions.Live moment = refl
 note_calls s sessions.Lost moment = refl

@@ -2,7 +2,7 @@
 use Rattle.std.proofs.Common.{◌≡◌, ℕ, List, [], ◌∷◌, ◌++◌, ap, ◌∙◌}
 use Rattle.std.specs.BTreeMap.{insert_entry}
 use Rattle.std.specs.Ordering.{nat_cmp}
-use Rattle.rows_cell.specs.declared.tables.Session as of_rows
+use Rattle.rows_cell.specs.declared.tables.SessionRow as of_rows
 use Rattle.rows_cell.specs.declared.tables.Rows.{Rows}
 use Rattle.rows_cell.specs.declared.tables.Edit.TheVariants.{PutSession}
 use Rattle.rows_cell.specs.Rows.{changed_rows, map_of}

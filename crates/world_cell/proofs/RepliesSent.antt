@@ -17,7 +17,7 @@ use Rattle.tags_cell.specs.declared.messages.outs.CallResult.TheVariants as resu
 use Rattle.tags_cell.specs.declared.messages.outs.Out.{Out}
 use Rattle.tags_cell.specs.declared.messages.outs.Out.TheVariants as outs
 use Rattle.tags_cell.specs.declared.messages.outs.Reply.{Reply}
-use Rattle.session_core.specs.declared.records.Kept.{Kept}
+use Rattle.session_core.specs.declared.records.LastCall.{LastCall}
 use Rattle.cell_core.proofs.Told.{told_is_shown}
 use Rattle.lock_core.specs.Turns.{is_of_client, reopened}
 use Rattle.lock_core.specs.Locks.{lock_at}
@@ -26,7 +26,7 @@ use Rattle.master_state.specs.Updates.{edit_of, lock_changes, with_note}
 use Rattle.master_state.specs.Lookups.{kept_of, reply_of, stamped_reply, repeated_reply, noted}
 use Rattle.cell_core.specs.Cases.{TakeCase, taken_by}
 use Rattle.cell_core.specs.Cases.TakeCase.{StartQueued, BeatParked, LeftBefore, Repeated, Recovering, Answered, Granted, Waits}
-use Rattle.master_parts.specs.declared.pending.Asked.{Asked}
+use Rattle.master_parts.specs.declared.pending.WaitingRequest.{WaitingRequest}
 use Rattle.master_parts.specs.declared.pending.Task.{Task}
 use Rattle.master_parts.specs.declared.pending.Task.TheVariants as tasks
 use Rattle.master_parts.specs.declared.pending.Work.TheVariants as works
@@ -67,7 +67,7 @@ sends_plain sent s client number result call found opens =
     let reply = reply_of s client number result in
     (answer_stays sent (ToClient (outs.Reply reply) ∷ []) s.secret reply (plain_answer sent s.secret reply call found refl opens), tt)
 
-sends_again : (sent : List Message) (s : MasterState) (client : ℕ) (kept : Kept Reply) (o : Option Reply) → FitsMessages sent s → kept_of s client ≡ Some kept → kept.reply ≡ o → Sends sent s.secret (repeated_reply o).outs
+sends_again : (sent : List Message) (s : MasterState) (client : ℕ) (kept : LastCall Reply) (o : Option Reply) → FitsMessages sent s → kept_of s client ≡ Some kept → kept.reply ≡ o → Sends sent s.secret (repeated_reply o).outs
 sends_again sent s client kept None h is replied = tt
 sends_again sent s client kept (Some reply) h is replied = (answer_stays sent (ToClient (outs.Reply reply) ∷ []) s.secret reply (h.answers client kept reply is replied), tt)
 
@@ -103,7 +103,7 @@ sends_late : (sent : List Message) (s : MasterState) (replies : List Reply) → 
 sends_late sent s replies h late = late_answers sent (map ToClient (map outs.Reply replies)) s replies h late
 
 -- a call that has its turn is answered, and then those that waited for a lock
-module _ (sent : List Message) (s : MasterState) (front : List (Waiting Task)) (asked : Asked) (back : List (Waiting Task)) (turn : IsNextApplied s front (tasks.Asked asked) back) (h : FitsMessages sent s) (call : Call) (sequencer : Option (List ℕ)) (work : asked.work ≡ works.Calls call sequencer) where
+module _ (sent : List Message) (s : MasterState) (front : List (Waiting Task)) (asked : WaitingRequest) (back : List (Waiting Task)) (turn : IsNextApplied s front (tasks.Asked asked) back) (h : FitsMessages sent s) (call : Call) (sequencer : Option (List ℕ)) (work : asked.work ≡ works.Calls call sequencer) where
   application_answers : (answer : CallResult) (replies : List Reply) → OpensAs call answer → AreLate s replies → Sends sent s.secret (outs.Reply (reply_of s asked.client asked.number answer) ∷ map outs.Reply replies)
   application_answers answer replies opens late =
       let reply = reply_of s asked.client asked.number answer in

@@ -6,7 +6,7 @@ use Rattle.node_core.specs.declared.views.Mod.{Mod}
 use Rattle.node_core.specs.declared.views.Mod.TheVariants.{Put, Gone}
 use Rattle.node_core.specs.Nodes.{Nodes}
 use Rattle.rows_cell.specs.declared.tables.Rows.{Rows}
-use Rattle.rows_cell.specs.declared.tables.Session.{Session}
+use Rattle.rows_cell.specs.declared.tables.SessionRow.{SessionRow}
 use Rattle.rows_cell.specs.declared.tables.Edit.TheVariants.{NextInstance, PutSession}
 use Rattle.rows_cell.specs.LockRows.{LockChange, locks_edits}
 use Rattle.rows_cell.specs.Rows.{changed_rows, map_of}
@@ -103,7 +103,7 @@ relocked_tells rows changes printed of_locks =
     let silent = quiet_silent printed of_locks.quiet in
     record { is_map = r.beside.map ∙ sym (silent_map (map_of rows) printed silent); is_epoch = r.beside.epoch ∙ sym (silent_epoch rows.epoch printed silent) }
 
-parting_tells : (parting : Parting) (rows : Rows) (changes : List LockChange) (client : ℕ) (row : Session) (numbers : List ℕ) (others : List Line) → AreOfLocks others
+parting_tells : (parting : Parting) (rows : Rows) (changes : List LockChange) (client : ℕ) (row : SessionRow) (numbers : List ℕ) (others : List Line) → AreOfLocks others
     → Tells rows (changed_rows rows (locks_edits changes ++ PutSession client row ∷ [])) (map (right_line parting) numbers ++ others ++ lines.Ended client ∷ [])
 parting_tells parting rows changes client row numbers others of_locks =
     let r = let_go rows changes client row in

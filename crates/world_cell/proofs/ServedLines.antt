@@ -15,8 +15,8 @@ use Rattle.node_core.specs.Nodes.{Nodes, view_at}
 use Rattle.rows_cell.specs.Rows.{map_of}
 use Rattle.cache_core.specs.Caches.{entry_of, is_leased, answer}
 use Rattle.cache_core.specs.Standings.{turn_line}
-use Rattle.cache_core.specs.declared.standings.Standing.{Standing}
-use Rattle.cache_core.specs.declared.standings.Standing.TheVariants as standings
+use Rattle.cache_core.specs.declared.standings.SessionTrust.{SessionTrust}
+use Rattle.cache_core.specs.declared.standings.SessionTrust.TheVariants as standings
 use Rattle.tags_cell.specs.declared.messages.outs.Out.{Out}
 use Rattle.tags_cell.specs.declared.messages.outs.Reply.{Reply}
 use Rattle.tags_cell.specs.declared.messages.beats.Alive.{Alive}
@@ -37,8 +37,8 @@ use Rattle.master_state.specs.Lapses.{lapses_lines, lapses_of, parting_lines}
 use Rattle.over_core.specs.SweepCase.{SweepCase, swept_by}
 use Rattle.over_core.specs.SweepCase.SweepCase.{Recovers, Expires, Reopens, Tidied, Started as StartedFirst, Applied, Deleted, Locked, Left, Departed as Leaves}
 use Rattle.client_core.specs.declared.parts.asks.Ask.{Ask}
-use Rattle.client_core.specs.declared.parts.sessions.Session.{Session}
-use Rattle.client_core.specs.declared.parts.sessions.Session.TheVariants as sessions
+use Rattle.client_core.specs.declared.parts.sessions.ClientStanding.{ClientStanding}
+use Rattle.client_core.specs.declared.parts.sessions.ClientStanding.TheVariants as sessions
 use Rattle.client_core.specs.declared.parts.targets.Outstanding.{Outstanding}
 use Rattle.client_core.specs.declared.parts.targets.Target.{Target}
 use Rattle.client_core.specs.declared.parts.targets.Target.TheVariants as targets
@@ -136,7 +136,7 @@ record StepServes (old new : WorldState) (printed : List Line) : Type 0 where
 others_step : (old new : WorldState) (printed : List Line) → AreOthers printed → StepServes old new printed
 others_step old new printed h = record { before = others_serve (map_of old.rows) printed h; behind = others_at (map_of new.rows) printed h }
 
-application_other : (number : ℕ) (former now : Standing) → AreOthers (option_to_list (turn_line number former now))
+application_other : (number : ℕ) (former now : SessionTrust) → AreOthers (option_to_list (turn_line number former now))
 application_other number standings.Safe standings.Safe = tt
 application_other number standings.Safe (standings.Jeopardy since) = (tt, tt)
 application_other number standings.Safe standings.Lost = (tt, tt)
@@ -145,7 +145,7 @@ application_other number (standings.Jeopardy since) (standings.Jeopardy later) =
 application_other number (standings.Jeopardy since) standings.Lost = (tt, tt)
 application_other number standings.Lost now = tt
 
-noted_other : (s : ClientState) (session : Session) (moment : ℕ) → AreOthers (note_lines_in session s moment)
+noted_other : (s : ClientState) (session : ClientStanding) (moment : ℕ) → AreOthers (note_lines_in session s moment)
 noted_other s sessions.Unstarted moment = tt
 noted_other s sessions.Live moment = application_other s.number s.standing (standing_then s moment)
 noted_other s sessions.Lost moment = tt

@@ -12,7 +12,7 @@ use Rattle.node_core.specs.declared.lines.Line.TheVariants as lines
 use Rattle.node_core.specs.declared.views.Mod.{Mod}
 use Rattle.node_core.specs.declared.views.Mod.TheVariants.{Put, Gone}
 use Rattle.rows_cell.specs.declared.tables.Rows.{Rows}
-use Rattle.rows_cell.specs.declared.tables.Session.{Session}
+use Rattle.rows_cell.specs.declared.tables.SessionRow.{SessionRow}
 use Rattle.rows_cell.specs.declared.tables.Edit.TheVariants.{NextInstance, PutSession}
 use Rattle.rows_cell.specs.Rows.{changed_rows, edited}
 use Rattle.rows_cell.specs.LockRows.{LockChange, locks_edits}
@@ -86,13 +86,13 @@ is_other : (n m : ℕ) → (n == m) ≡ false → m ≡ n → ⊥
 is_other n m h e = grind (arith, nat_tests)
 
 -- one session is put
-put_lives : (client whose : ℕ) (session : Session) (rows : Rows) → is_live_in (edited rows (PutSession whose session)) client ≡ cond (whose == client) session.live (is_live_in rows client)
+put_lives : (client whose : ℕ) (session : SessionRow) (rows : Rows) → is_live_in (edited rows (PutSession whose session)) client ≡ cond (whose == client) session.live (is_live_in rows client)
 put_lives client whose session rows =
     (elim (whose == client) as (λ b. (whose == client) ≡ b → is_live_in (edited rows (PutSession whose session)) client ≡ cond b session.live (is_live_in rows client)) [
       | true ↦ (λ e.
           subst (λ n. is_live_in (edited rows (PutSession whose session)) n ≡ session.live) (sym (is_same whose client e))
-          (ap (λ o. option_map_or (λ (x : Session). x.live) o false) (lookup_put whose rows.sessions session)))
-      | false ↦ (λ e. ap (λ o. option_map_or (λ (x : Session). x.live) o false) (lookup_put_apart whose client (is_other whose client e) rows.sessions session))
+          (ap (λ o. option_map_or (λ (x : SessionRow). x.live) o false) (lookup_put whose rows.sessions session)))
+      | false ↦ (λ e. ap (λ o. option_map_or (λ (x : SessionRow). x.live) o false) (lookup_put_apart whose client (is_other whose client e) rows.sessions session))
     ]) refl
 
 mod_lives : (client : ℕ) (rows : Rows) (change : Mod) (next : ℕ) → is_live_in (changed_rows rows (edit_of change ∷ NextInstance next ∷ [])) client ≡ is_live_in rows client
@@ -100,7 +100,7 @@ mod_lives client rows (Put name view) next = refl
 mod_lives client rows (Gone name) next = refl
 
 by_row : (client : ℕ) (rows new : Rows) → new.sessions ≡ rows.sessions → is_live_in new client ≡ is_live_in rows client
-by_row client rows new same = ap (λ es. option_map_or (λ (x : Session). x.live) (lookup (is_at (nat_cmp client)) es) false) same
+by_row client rows new same = ap (λ es. option_map_or (λ (x : SessionRow). x.live) (lookup (is_at (nat_cmp client)) es) false) same
 
 -- of locks no line tells of a session
 relocked_tells : (client : ℕ) (rows : Rows) (changes : List LockChange) (printed : List Line) → AreOfLocks printed → Tells client rows (changed_rows rows (locks_edits changes)) printed
@@ -110,7 +110,7 @@ relocked_tells client rows changes printed of_locks =
 parting_tells : (parting : Parting) (client : ℕ) (rows : Rows) (changes : List LockChange) (whose : ℕ) (principal : List ℕ) (numbers : List ℕ) (others : List Line) → AreOfLocks others
     → Tells client rows (changed_rows rows (locks_edits changes ++ PutSession whose (record { principal = principal; live = false }) ∷ [])) (map (right_line parting) numbers ++ others ++ lines.Ended whose ∷ [])
 parting_tells parting client rows changes whose principal numbers others of_locks =
-    let stored : Session = record { principal = principal; live = false } in
+    let stored : SessionRow = record { principal = principal; live = false } in
     by_row client (edited rows (PutSession whose stored)) (changed_rows rows (locks_edits changes ++ PutSession whose stored ∷ [])) (let_go rows changes whose stored).sessions ∙ put_lives client whose stored rows
     ∙ sym (parting_lives parting client (is_live_in rows client) numbers others whose (quiet_silent others of_locks.quiet))
 

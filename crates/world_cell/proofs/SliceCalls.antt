@@ -18,7 +18,7 @@ use Rattle.tags_cell.specs.declared.messages.outs.Out.{Out}
 use Rattle.tags_cell.specs.declared.messages.outs.Out.TheVariants as outs
 use Rattle.tags_cell.specs.declared.messages.outs.CallResult.{CallResult}
 use Rattle.tags_cell.specs.declared.messages.outs.Reply.{Reply}
-use Rattle.session_core.specs.declared.records.Kept.{Kept}
+use Rattle.session_core.specs.declared.records.LastCall.{LastCall}
 use Rattle.session_core.specs.declared.records.Session.{Session}
 use Rattle.session_core.specs.Session.{keeping, issued_through}
 use Rattle.session_core.specs.Sessions.{SessionTable, has_spent_events, with_issued, issued_by, session_of as session_in}
@@ -35,14 +35,14 @@ use Rattle.gate_core.specs.Laws.{touching}
 use Rattle.gate_core.proofs.OneChange.{push_touches, uncachable_is_touched, cachable_is_granted}
 use Rattle.master_parts.specs.declared.handles.HandleKey.{HandleKey}
 use Rattle.master_parts.specs.declared.handles.HandleState.{HandleState}
-use Rattle.master_parts.specs.declared.pending.Idle.{Idle}
+use Rattle.master_parts.specs.declared.pending.Orphan.{Orphan}
 use Rattle.master_parts.specs.declared.pending.Task.{Task}
 use Rattle.master_parts.specs.declared.pending.Task.TheVariants as tasks
 use Rattle.master_state.specs.State.{MasterState}
 use Rattle.master_parts.specs.StoredSessions.{row_of}
 use Rattle.master_state.specs.Lookups.{session_of, is_live, reply_of, issued_to, stamped_reply, is_spent}
 use Rattle.master_parts.specs.Answered.{answered_by}
-use Rattle.cell_core.specs.declared.asking.Touched.{Touched}
+use Rattle.cell_core.specs.declared.asking.TouchedNames.{TouchedNames}
 use Rattle.cell_core.specs.Step.{queued, replied, is_cachable, granting, asking, asking_for, names_of, task_of, with_call, waits}
 use Rattle.cell_core.specs.Names.{name_asked, shown_by}
 use Rattle.cell_core.specs.Ephemerals.{tidied}
@@ -297,19 +297,19 @@ module _ (c : ℕ) (x : List ℕ) (w : WorldState) (s : MasterState) (knows : Is
       (asking_lease names t ∙ is_lease) (asking_seen names t c ∙ is_seen)
 
   -- the deletion of a node that nobody holds open
-  pub tidy_asks : (idle : Idle) → s.recovering ≡ false → Comes c x w s (tidied s idle) []
+  pub tidy_asks : (idle : Orphan) → s.recovering ≡ false → Comes c x w s (tidied s idle) []
   tidy_asks idle serving =
       queued_asks (with_parent idle.name) (record { number = s.gate.pushed + 1; change = record { touched = with_parent idle.name; body = tasks.Tidies idle } }) (queued s (with_parent idle.name) (tasks.Tidies idle)) serving refl refl refl refl refl refl refl refl
 
   module _ (handles : List (HandleKey × HandleState)) (message : CallMessage) where
-    abbrev call_waiting : Option Touched → Waiting Task
+    abbrev call_waiting : Option TouchedNames → Waiting Task
     call_waiting touched = record { number = s.gate.pushed + 1; change = record { touched = names_of touched; body = tasks.Asked (task_of message) } }
 
-    abbrev kept_call : Kept Reply
+    abbrev kept_call : LastCall Reply
     kept_call = record { number = message.number; reply = None }
 
     -- who holds a name that it touches is asked for it
-    pub call_waits : (touched : Option Touched) → s.recovering ≡ false → Comes c x w s (waits (record s { handles = handles }) message touched).0 []
+    pub call_waits : (touched : Option TouchedNames) → s.recovering ≡ false → Comes c x w s (waits (record s { handles = handles }) message touched).0 []
     call_waits touched serving =
         queued_asks (names_of touched) (call_waiting touched) (with_call (record s { handles = handles }) message touched) serving refl refl refl refl refl refl
         (lease_stays s.sessions message.client (keeping kept_call))

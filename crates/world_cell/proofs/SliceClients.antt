@@ -17,7 +17,7 @@ use Rattle.tags_cell.specs.Messages.{out_client}
 use Rattle.session_core.proofs.OneClient.{lookup_set, lookup_set_apart}
 use Rattle.cache_core.specs.Caches.{CacheState, entry_of, is_leased, noted as noted_cache}
 use Rattle.client_core.specs.declared.parts.asks.Ask.{Ask}
-use Rattle.client_core.specs.declared.parts.sessions.Session.TheVariants as sessions
+use Rattle.client_core.specs.declared.parts.sessions.ClientStanding.TheVariants as sessions
 use Rattle.client_core.specs.declared.parts.targets.Outstanding.{Outstanding}
 use Rattle.client_core.specs.Invalidations.{last_number, all_flushed}
 use Rattle.client_core.specs.State.{ClientState, lease_of, note, note_live}

@@ -7,7 +7,7 @@ use Rattle.std.specs.Ordering.{nat_cmp}
 use Rattle.lease_core.specs.Lease.{IsUnexpired}
 use Rattle.coherence.specs.Slice.{Live}
 use Rattle.coherence.proofs.Reached.{reached_is_joint}
-use Rattle.rows_cell.specs.declared.tables.Session as of_rows
+use Rattle.rows_cell.specs.declared.tables.SessionRow as of_rows
 use Rattle.tags_cell.specs.declared.messages.outs.Reply.{Reply}
 use Rattle.session_core.specs.declared.records.Session.{Session}
 use Rattle.master_state.specs.State.{MasterState}

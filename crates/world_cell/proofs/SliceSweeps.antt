@@ -14,7 +14,7 @@ use Rattle.node_core.specs.declared.refusals.Fault.TheVariants as faults
 use Rattle.node_core.specs.declared.views.Mod.{Mod}
 use Rattle.node_core.specs.declared.views.Mod.TheVariants.{Put, Gone}
 use Rattle.node_core.specs.Nodes.{view_at, changed, touched}
-use Rattle.rows_cell.specs.declared.tables.Session as of_rows
+use Rattle.rows_cell.specs.declared.tables.SessionRow as of_rows
 use Rattle.rows_cell.specs.declared.tables.Rows.{Rows}
 use Rattle.rows_cell.specs.declared.tables.Edit.TheVariants.{NextInstance, PutSession}
 use Rattle.rows_cell.specs.Rows.{changed_rows, map_of}
@@ -38,9 +38,9 @@ use Rattle.gate_core.specs.declared.pending.Waiting.{Waiting}
 use Rattle.gate_core.specs.Gate.{touches, push_answer}
 use Rattle.gate_core.specs.Laws.{touching}
 use Rattle.master_state.specs.declared.updates.Change.{Change}
-use Rattle.master_parts.specs.declared.handles.Note.{Note}
-use Rattle.master_parts.specs.declared.pending.Asked.{Asked}
-use Rattle.master_parts.specs.declared.pending.Idle.{Idle}
+use Rattle.master_parts.specs.declared.handles.HandleNote.{HandleNote}
+use Rattle.master_parts.specs.declared.pending.WaitingRequest.{WaitingRequest}
+use Rattle.master_parts.specs.declared.pending.Orphan.{Orphan}
 use Rattle.master_parts.specs.declared.pending.Task.{Task}
 use Rattle.master_parts.specs.declared.pending.Task.TheVariants as tasks
 use Rattle.master_parts.specs.declared.pending.Work.TheVariants as works
@@ -150,7 +150,7 @@ turned : (a b : ℕ) → (a == b) ≡ false → (b == a) ≡ false
 turned a b e = grind (arith, nat_tests, e)
 
 -- where a node is to go the master serves
-is_serving : (recovering long_ago room : Bool) (o : Option Idle) (idle : Idle) → cond (not recovering && long_ago && room) o None ≡ Some idle → recovering ≡ false
+is_serving : (recovering long_ago room : Bool) (o : Option Orphan) (idle : Orphan) → cond (not recovering && long_ago && room) o None ≡ Some idle → recovering ≡ false
 is_serving true long_ago room o idle h = cc
 is_serving false long_ago room o idle h = refl
 
@@ -192,7 +192,7 @@ leave_names secret (calls.CheckSequencer bytes) h = cc
 
 -- the client whose call to end its session has its turn serves nothing any more
 abbrev pub LeavesOff : List ℕ → WorldState → MasterState → Type 0
-LeavesOff x w s = (front back : List (Waiting Task)) (asked : Asked) (call : Call) (sequencer : Option (List ℕ)) → IsNextApplied s front (tasks.Asked asked) back → asked.work ≡ works.Calls call sequencer → is_leave call ≡ true → (client_of x (member_of w asked.client)).off ≡ true
+LeavesOff x w s = (front back : List (Waiting Task)) (asked : WaitingRequest) (call : Call) (sequencer : Option (List ℕ)) → IsNextApplied s front (tasks.Asked asked) back → asked.work ≡ works.Calls call sequencer → is_leave call ≡ true → (client_of x (member_of w asked.client)).off ≡ true
 
 module _ (x : List ℕ) (w : WorldState) (s : MasterState) (knows : IsKnown w s) where
   -- of the messages that are sent, none offers a lease, and none grants the name
@@ -526,7 +526,7 @@ module _ (x : List ℕ) (w : WorldState) (s : MasterState) (knows : IsKnown w s)
 
   -- ---- a client ends its session
 
-  module _ (front back : List (Waiting Task)) (asked : Asked) (turn : IsNextApplied s front (tasks.Asked asked) back) (call : Call) (sequencer : Option (List ℕ)) (session : Session Reply) (work : asked.work ≡ works.Calls call sequencer) (leave : is_leave call ≡ true) (found : session_of s asked.client ≡ Some session) (live : session.live ≡ true) where
+  module _ (front back : List (Waiting Task)) (asked : WaitingRequest) (turn : IsNextApplied s front (tasks.Asked asked) back) (call : Call) (sequencer : Option (List ℕ)) (session : Session Reply) (work : asked.work ≡ works.Calls call sequencer) (leave : is_leave call ≡ true) (found : session_of s asked.client ≡ Some session) (live : session.live ≡ true) where
     abbrev left_row : of_rows.Session
     left_row = record { principal = session.principal; live = false }
 
@@ -605,7 +605,7 @@ module _ (x : List ℕ) (w : WorldState) (s : MasterState) (knows : IsKnown w s)
 
   -- ---- a node goes by itself
 
-  module _ (front back : List (Waiting Task)) (idle : Idle) (turn : IsNextApplied s front (tasks.Tidies idle) back) where
+  module _ (front back : List (Waiting Task)) (idle : Orphan) (turn : IsNextApplied s front (tasks.Tidies idle) back) where
     spared : (c : ℕ) → Goes c x w s w.rows (rest s front back) []
     spared c = leaves front back (tasks.Tidies idle) turn c w.rows (rest s front back) [] (plain_rest front back (tasks.Tidies idle) turn c [] (nothing_sent c))
 
@@ -633,7 +633,7 @@ module _ (x : List ℕ) (w : WorldState) (s : MasterState) (knows : IsKnown w s)
 
   -- ---- what a client asked for has its turn
 
-  module _ (front back : List (Waiting Task)) (asked : Asked) (turn : IsNextApplied s front (tasks.Asked asked) back) where
+  module _ (front back : List (Waiting Task)) (asked : WaitingRequest) (turn : IsNextApplied s front (tasks.Asked asked) back) where
     -- ---- a call's turn, with its reply
 
     abbrev reply_at : ℕ → CallResult → Reply
@@ -652,7 +652,7 @@ module _ (x : List ℕ) (w : WorldState) (s : MasterState) (knows : IsKnown w s)
         told_seen (with_session t.sessions asked.client (keeping (answered_by (reply_of t asked.client asked.number answer)))) (kept_puts others) c
         ∙ seen_stays (keeping (answered_by (reply_of t asked.client asked.number answer))) (λ session. refl) t.sessions asked.client c ∙ ap (λ x. seen_of (session_in x c)) same
 
-    replies : (c : ℕ) (rows : Rows) (t : MasterState) (note : Option Note) (answer : CallResult) (others : List Reply) → HasRows front back (tasks.Asked asked) turn c rows → AreUnstamped others → t.sessions ≡ s.sessions → t.recovering ≡ s.recovering → t.rights ≡ s.rights → t.gate.waiting ≡ front ++ back → (epoch : ℕ)
+    replies : (c : ℕ) (rows : Rows) (t : MasterState) (note : Option HandleNote) (answer : CallResult) (others : List Reply) → HasRows front back (tasks.Asked asked) turn c rows → AreUnstamped others → t.sessions ≡ s.sessions → t.recovering ≡ s.recovering → t.rights ≡ s.rights → t.gate.waiting ≡ front ++ back → (epoch : ℕ)
         → Goes c x w s rows (told (ended t asked note answer) others) (sent (reply_at epoch answer ∷ others))
     replies c rows t None answer others r unstamped same is_recovering is_right is_rest epoch = leaves front back (tasks.Asked asked) turn c rows (told (ended t asked None answer) others) (sent (reply_at epoch answer ∷ others)) (record {
       present = r.present;

@@ -16,14 +16,14 @@ use Rattle.tags_cell.specs.declared.messages.requests.Request.TheVariants as req
 use Rattle.tags_cell.specs.declared.messages.outs.CallResult.{CallResult}
 use Rattle.tags_cell.specs.declared.messages.outs.CallResult.TheVariants as results
 use Rattle.tags_cell.specs.declared.messages.outs.Reply.{Reply}
-use Rattle.session_core.specs.declared.records.Kept.{Kept}
+use Rattle.session_core.specs.declared.records.LastCall.{LastCall}
 use Rattle.session_core.specs.declared.records.Session.{Session}
 use Rattle.session_core.specs.Session.{beat_fault, live_beat_fault, beaten}
 use Rattle.session_core.proofs.OneClient.{other_session}
 use Rattle.gate_core.specs.declared.pending.Waiting.{Waiting}
 use Rattle.gate_core.specs.Laws.{touching}
 use Rattle.gate_core.proofs.OneChange.{push_touches}
-use Rattle.master_parts.specs.declared.handles.Note.{Note}
+use Rattle.master_parts.specs.declared.handles.HandleNote.{HandleNote}
 use Rattle.master_parts.specs.declared.pending.Task.{Task}
 use Rattle.master_parts.specs.declared.pending.Task.TheVariants as tasks
 use Rattle.master_parts.specs.declared.pending.Work.TheVariants as works
@@ -31,7 +31,7 @@ use Rattle.master_parts.specs.Keys.{handle_order}
 use Rattle.master_state.specs.State.{MasterState}
 use Rattle.master_state.specs.Lookups.{session_of, kept_of, noted, acknowledgement, repeated_reply, is_spent}
 use Rattle.master_state.specs.Updates.{with_note}
-use Rattle.cell_core.specs.declared.asking.Touched.{Touched}
+use Rattle.cell_core.specs.declared.asking.TouchedNames.{TouchedNames}
 use Rattle.cell_core.specs.Step.{replied, granting, queued, waits, parked, is_cachable}
 use Rattle.cell_core.specs.Names.{name_asked, shown_by}
 use Rattle.cell_core.specs.Cases.{IsHeard, IsGranted, TakeCase, taken_by}
@@ -259,19 +259,19 @@ pub record IsHeardOf (w : WorldState) (s : MasterState) : Type 0 where
   pub room : is_spent s ≡ false
 
 module _ (c : ℕ) (x : List ℕ) (w : WorldState) (s : MasterState) (knows : IsKnown w s) (heard_of : IsHeardOf w s) where
-  replies : (note : Option Note) (client number : ℕ) (result : CallResult) → Comes c x w s (replied (with_note s note) client number result).0 (replied (with_note s note) client number result).1.outs
+  replies : (note : Option HandleNote) (client number : ℕ) (result : CallResult) → Comes c x w s (replied (with_note s note) client number result).0 (replied (with_note s note) client number result).1.outs
   replies None client number result = call_replied c x w s s.handles client number result
   replies (Some note) client number result = call_replied c x w s (insert_entry handle_order s.handles note.key note.state) client number result
 
-  queues : (note : Option Note) (message : CallMessage) (touched : Option Touched) → s.recovering ≡ false → Comes c x w s (waits (with_note s note) message touched).0 []
+  queues : (note : Option HandleNote) (message : CallMessage) (touched : Option TouchedNames) → s.recovering ≡ false → Comes c x w s (waits (with_note s note) message touched).0 []
   queues None message touched serving = call_waits c x w s knows s.handles message touched serving
   queues (Some note) message touched serving = call_waits c x w s knows (insert_entry handle_order s.handles note.key note.state) message touched serving
 
-  cachable_here : (note : Option Note) (client : ℕ) (name : List ℕ) → is_cachable (with_note s note) client name ≡ is_cachable s client name
+  cachable_here : (note : Option HandleNote) (client : ℕ) (name : List ℕ) → is_cachable (with_note s note) client name ≡ is_cachable s client name
   cachable_here None client name = refl
   cachable_here (Some note) client name = refl
 
-  grants : (at : ℕ) (request : Request) (note : Option Note) (message : CallMessage) (answer : CallResult) (name : List ℕ) → request_at w.messages at ≡ Some request → IsHeard s request message → s.recovering ≡ false → IsGranted s message note answer name
+  grants : (at : ℕ) (request : Request) (note : Option HandleNote) (message : CallMessage) (answer : CallResult) (name : List ℕ) → request_at w.messages at ≡ Some request → IsHeard s request message → s.recovering ≡ false → IsGranted s message note answer name
       → Comes c x w s (granting (with_note s note) message.client message.number answer name).0 (granting (with_note s note) message.client message.number answer name).1.outs
   grants at request note message answer name sent heard serving granted = by_note note is_granting
     where
@@ -289,11 +289,11 @@ module _ (c : ℕ) (x : List ℕ) (w : WorldState) (s : MasterState) (knows : Is
         shows = tells.1;
       }
 
-      by_note : (o : Option Note) → IsGranting w s message.client message.number message answer name → Comes c x w s (granting (with_note s o) message.client message.number answer name).0 (granting (with_note s o) message.client message.number answer name).1.outs
+      by_note : (o : Option HandleNote) → IsGranting w s message.client message.number message answer name → Comes c x w s (granting (with_note s o) message.client message.number answer name).0 (granting (with_note s o) message.client message.number answer name).1.outs
       by_note None g = call_granted w s knows s.handles message.client message.number message answer name g c x
       by_note (Some put) g = call_granted w s knows (insert_entry handle_order s.handles put.key put.state) message.client message.number message answer name g c x
 
-  repeats : (client : ℕ) (kept : Kept Reply) (o : Option Reply) → kept_of s client ≡ Some kept → kept.reply ≡ o → Comes c x w s s (repeated_reply o).outs
+  repeats : (client : ℕ) (kept : LastCall Reply) (o : Option Reply) → kept_of s client ≡ Some kept → kept.reply ≡ o → Comes c x w s s (repeated_reply o).outs
   repeats client kept None is replied_so = comes_unseen c x w s s [] refl refl refl refl refl refl refl refl
   repeats client kept (Some reply) is replied_so =
       reply_again c x w s client kept.number reply (heard_of.fits.replies client kept reply is replied_so) (subst (λ (z : List ℕ). HasGranted w.messages z client reply) knows.secret (subst (λ (q : ℕ). HasGranted w.messages s.secret q reply) (heard_of.fits.replies client kept reply is replied_so).to (heard_of.fits.answers client kept reply is replied_so).granted))

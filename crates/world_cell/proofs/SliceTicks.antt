@@ -10,7 +10,7 @@ use Rattle.lease_core.specs.Lease.{longest_lease, recovery_timeout}
 use Rattle.coherence.specs.Slice as one
 use Rattle.coherence.specs.Slice.{Slice, Event, TickBeforeJoin, TickAboveLeast, TickToLeast, TickWithoutMaster, ComeUp, GoDown, Reached, Leads, nobody}
 use Rattle.node_core.specs.Nodes.{view_at}
-use Rattle.rows_cell.specs.declared.tables.Session as of_rows
+use Rattle.rows_cell.specs.declared.tables.SessionRow as of_rows
 use Rattle.rows_cell.specs.Rows.{changed_rows, map_of}
 use Rattle.tags_cell.specs.declared.messages.outs.Reply.{Reply}
 use Rattle.session_core.specs.declared.records.Session.{Session}

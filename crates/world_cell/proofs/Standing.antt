@@ -36,10 +36,10 @@ use Rattle.master_state.specs.declared.updates.SessionUpdate.TheVariants.{Begins
 use Rattle.master_parts.specs.declared.handles.HandleKey.{HandleKey}
 use Rattle.master_parts.specs.declared.handles.HandleState.{HandleState}
 use Rattle.master_parts.specs.declared.handles.HandleState.TheVariants as states
-use Rattle.master_parts.specs.declared.handles.Note.{Note}
+use Rattle.master_parts.specs.declared.handles.HandleNote.{HandleNote}
 use Rattle.master_parts.specs.declared.notices.Notice.{Notice}
 use Rattle.master_parts.specs.declared.notices.Notice.TheVariants as notices
-use Rattle.master_parts.specs.declared.notices.Telling.{Telling}
+use Rattle.master_parts.specs.declared.notices.SessionEvent.{SessionEvent}
 use Rattle.master_parts.specs.Events.{instance_of}
 use Rattle.master_parts.specs.declared.pending.Task.TheVariants as tasks
 use Rattle.master_state.specs.NameSpace.{name_space}
@@ -299,7 +299,7 @@ module _ (rows : Rows) where
   IfTrue None = Unit {0}
   IfTrue (Some event) = IsTrue rows event
 
-  abbrev IfTold : Option Telling → Type 0
+  abbrev IfTold : Option SessionEvent → Type 0
   IfTold None = Unit {0}
   IfTold (Some telling) = IsTrue rows telling.event
 
@@ -336,14 +336,14 @@ module _ (rows : Rows) where
   as_true s all key (states.Open noted) h = told_true key.client (event_for s noted.handle all) (for_true s noted.handle all h)
   as_true s all key states.Closed h = tt
 
-  by_true : (s : MasterState) (note : Option Note) (all : List Notice) (entry : HandleKey × HandleState) → AllByRecursion (IsTrueNotice rows) all → IfTold (telling_by s note all entry)
+  by_true : (s : MasterState) (note : Option HandleNote) (all : List Notice) (entry : HandleKey × HandleState) → AllByRecursion (IsTrueNotice rows) all → IfTold (telling_by s note all entry)
   by_true s note all entry h = elim (is_noted note entry.0) as (λ b. IfTold (cond b None (telling_as s all entry.0 entry.1))) [ true ↦ tt | false ↦ as_true s all entry.0 entry.1 h ]
 
-  one_true : (o : Option Telling) (rest : List Telling) → IfTold o → AllByRecursion (λ (telling : Telling). IsTrue rows telling.event) rest → AllByRecursion (λ (telling : Telling). IsTrue rows telling.event) (cons_option o rest)
+  one_true : (o : Option SessionEvent) (rest : List SessionEvent) → IfTold o → AllByRecursion (λ (telling : SessionEvent). IsTrue rows telling.event) rest → AllByRecursion (λ (telling : SessionEvent). IsTrue rows telling.event) (cons_option o rest)
   one_true None rest h k = k
   one_true (Some telling) rest h k = (h, k)
 
-  each_true : (s : MasterState) (note : Option Note) (all : List Notice) (handles : List (HandleKey × HandleState)) → AllByRecursion (IsTrueNotice rows) all → AllByRecursion (λ (telling : Telling). IsTrue rows telling.event) (filter_map (telling_by s note all) handles)
+  each_true : (s : MasterState) (note : Option HandleNote) (all : List Notice) (handles : List (HandleKey × HandleState)) → AllByRecursion (IsTrueNotice rows) all → AllByRecursion (λ (telling : SessionEvent). IsTrue rows telling.event) (filter_map (telling_by s note all) handles)
   each_true s _ all [] h = tt
   each_true s note all (entry ∷ rest) h = one_true (telling_by s note all entry) (filter_map (telling_by s note all) rest) (by_true s note all entry h) (each_true s note all rest h)
 
@@ -393,5 +393,5 @@ module _ (rows : Rows) where
         both_true (change_notices s plan.update.change ++ locks_notices s.locks plan.update.locks) (contest_notices plan.contested)
         (both_true (change_notices s plan.update.change) (locks_notices s.locks plan.update.locks) (change_true plan.update.change refl) (locks_true s.locks plan.update.locks)) (contest_true plan.contested)
 
-    pub tellings_true : AllByRecursion (λ (telling : Telling). IsTrue rows telling.event) (tellings_of s plan)
+    pub tellings_true : AllByRecursion (λ (telling : SessionEvent). IsTrue rows telling.event) (tellings_of s plan)
     tellings_true = each_true s plan.update.note (notices_of s plan) s.handles all_true

@@ -14,10 +14,10 @@ use Rattle.tags_cell.specs.declared.messages.outs.Out.{Out}
 use Rattle.tags_cell.specs.declared.messages.outs.Out.TheVariants as outs
 use Rattle.tags_cell.specs.declared.messages.outs.Reply.{Reply}
 use Rattle.event_core.specs.Queue.{EventQueue}
-use Rattle.session_core.specs.declared.records.Kept.{Kept}
+use Rattle.session_core.specs.declared.records.LastCall.{LastCall}
 use Rattle.session_core.specs.declared.records.Session.{Session}
 use Rattle.session_core.specs.Sessions.{session_of}
-use Rattle.master_parts.specs.declared.notices.Telling.{Telling}
+use Rattle.master_parts.specs.declared.notices.SessionEvent.{SessionEvent}
 use Rattle.master_state.specs.Updates.{done}
 use Rattle.master_state.specs.State.{MasterState}
 use Rattle.master_state.specs.Lookups.{noted}
@@ -92,7 +92,7 @@ module _ (R : Reply → Type 0) (E : Event → Type 0) where
   -- what shows a node of the master's map, and what clients are told by a sweep
   pub record IsFed (old : WorldState) (step : Step) (new : WorldState) (printed : List Line) : Type 0 where
     pub shows : (s : MasterState) → old.master ≡ Some s → Shows R E s
-    pub tells : (t : IsSweep old step new printed) → AllByRecursion (λ (telling : Telling). E telling.event) (action_tellings (noted t.master old.clock) t.action)
+    pub tells : (t : IsSweep old step new printed) → AllByRecursion (λ (telling : SessionEvent). E telling.event) (action_tellings (noted t.master old.clock) t.action)
     pub lost : E events.Lost
     pub up : E events.FailOver
 
@@ -160,13 +160,13 @@ acted_nodes : (s : MasterState) (action : Action) → (acted s action).0.nodes �
 acted_nodes s (Tidy idle) = ap (λ (t : MasterState). t.nodes) (asks_only (with_parent idle.name) (queued s (with_parent idle.name) (tasks.Tidies idle)))
 acted_nodes s _ = refl
 
-swept_true : (old : WorldState) (step : Step) (new : WorldState) (printed : List Line) → Agrees old old.master → (t : IsSweep old step new printed) → AllByRecursion (λ (telling : Telling). IsTrue new.rows telling.event) (action_tellings (noted t.master old.clock) t.action)
+swept_true : (old : WorldState) (step : Step) (new : WorldState) (printed : List Line) → Agrees old old.master → (t : IsSweep old step new printed) → AllByRecursion (λ (telling : SessionEvent). IsTrue new.rows telling.event) (action_tellings (noted t.master old.clock) t.action)
 swept_true old step new printed agrees t =
     let s : MasterState = noted t.master old.clock in
     let k : IsKept old.cell old.rows s = noted_kept old.cell old.rows t.master old.clock (agrees_at old old.master t.master t.is_up agrees) in
     let l = case_kept old.cell old.rows s t.case k in
     let rows : Rows = changed_rows old.rows (swept_edits s t.case) in
-    let P : Rows → Type 0 = λ r. AllByRecursion (λ (telling : Telling). IsTrue r telling.event) (action_tellings s t.action) in
+    let P : Rows → Type 0 = λ r. AllByRecursion (λ (telling : SessionEvent). IsTrue r telling.event) (action_tellings s t.action) in
     subst P (sym (ap (λ (w : WorldState). w.rows) t.is)) (tellings_true rows s (plan_of s t.action) (λ name view found.
     present_stands old.cell rows name view l.sound_rows (ap (λ (ns : Nodes). get_node ns name) (sym l.nodes ∙ t.acts ∙ acted_nodes s t.action) ∙ found)))
 
@@ -181,7 +181,7 @@ module _ (E : Event → Type 0) where
   silent_reply None = tt
   silent_reply (Some reply) = tt
 
-  silent_kept : (o : Option (Kept Reply)) → IfKept NoReply E o
+  silent_kept : (o : Option (LastCall Reply)) → IfKept NoReply E o
   silent_kept None = tt
   silent_kept (Some kept) = silent_reply kept.reply
 

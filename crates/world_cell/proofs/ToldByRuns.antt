@@ -21,9 +21,9 @@ use Rattle.tags_cell.specs.declared.messages.outs.Out.{Out}
 use Rattle.tags_cell.specs.declared.messages.outs.Out.TheVariants as outs
 use Rattle.tags_cell.specs.declared.messages.outs.Reply.{Reply}
 use Rattle.event_core.specs.Queue.{EventQueue}
-use Rattle.session_core.specs.declared.records.Kept.{Kept}
+use Rattle.session_core.specs.declared.records.LastCall.{LastCall}
 use Rattle.session_core.specs.declared.records.Session.{Session}
-use Rattle.master_parts.specs.declared.notices.Telling.{Telling}
+use Rattle.master_parts.specs.declared.notices.SessionEvent.{SessionEvent}
 use Rattle.master_state.specs.State.{MasterState}
 use Rattle.master_state.specs.Lookups.{session_of, kept_of, noted}
 use Rattle.over_core.proofs.SweepCases.{action_tellings}
@@ -125,7 +125,7 @@ module _ (client calls instance generation : ℕ) where
   queue_silent [] = tt
   queue_silent (e ∷ es) = (tt, queue_silent es)
 
-  tellings_silent : (ts : List Telling) → AllByRecursion (λ (telling : Telling). NoEvent telling.event) ts
+  tellings_silent : (ts : List SessionEvent) → AllByRecursion (λ (telling : SessionEvent). NoEvent telling.event) ts
   tellings_silent [] = tt
   tellings_silent (t ∷ ts) = (tt, tellings_silent ts)
 
@@ -146,7 +146,7 @@ module _ (client calls instance generation : ℕ) where
     out_follows at _ is = tt
 
     module _ (s : MasterState) (fits : FitsMessages w.messages s) where
-      reply_follows : (whose : ℕ) (kept : Kept Reply) (o : Option Reply) → kept_of s whose ≡ Some kept → kept.reply ≡ o → IfReply Follows NoEvent o
+      reply_follows : (whose : ℕ) (kept : LastCall Reply) (o : Option Reply) → kept_of s whose ≡ Some kept → kept.reply ≡ o → IfReply Follows NoEvent o
       reply_follows whose kept None is replied = tt
       reply_follows whose kept (Some reply) is replied = λ own above.
           let was = fits.kept whose kept is in
@@ -154,7 +154,7 @@ module _ (client calls instance generation : ℕ) where
           let P : ℕ → Type 0 = λ n. calls < n in
           absurd (unsent whose kept.number was.call was.found (sym to.to ∙ own) (subst P to.answered above))
 
-      kept_follows : (whose : ℕ) (o : Option (Kept Reply)) → kept_of s whose ≡ o → IfKept Follows NoEvent o
+      kept_follows : (whose : ℕ) (o : Option (LastCall Reply)) → kept_of s whose ≡ o → IfKept Follows NoEvent o
       kept_follows whose None is = tt
       kept_follows whose (Some kept) is = reply_follows whose kept kept.reply is refl
 

@@ -8,7 +8,7 @@ use Rattle.tags_cell.specs.declared.messages.outs.Out.{Out}
 use Rattle.tags_cell.specs.declared.messages.outs.Reply.{Reply}
 use Rattle.session_core.specs.declared.records.Session.{Session}
 use Rattle.session_core.specs.Sessions.{session_of as session_in}
-use Rattle.master_parts.specs.declared.notices.Telling.{Telling}
+use Rattle.master_parts.specs.declared.notices.SessionEvent.{SessionEvent}
 use Rattle.master_state.specs.Notices.{with_telling, with_tellings}
 use Rattle.master_state.specs.State.{MasterState}
 use Rattle.master_state.specs.Lookups.{kept_of}
@@ -17,10 +17,10 @@ use Rattle.world_steps.specs.World.{WorldState}
 use Rattle.world_cell.specs.Slices.{seen_of, heard_from}
 use Rattle.world_cell.proofs.Slices.{AreSame, Goes, there, shown, here, same_parts}
 
-pub told_kept : (s : MasterState) (tellings : List Telling) (client : ℕ) → kept_of (with_tellings s tellings) client ≡ kept_of s client
+pub told_kept : (s : MasterState) (tellings : List SessionEvent) (client : ℕ) → kept_of (with_tellings s tellings) client ≡ kept_of s client
 told_kept s tellings client = reads_told (λ (found : Option (Session Reply)). option_and_then (λ session. session.kept) found) (λ event before. refl) tellings s.sessions client
 
-module _ (c : ℕ) (x : List ℕ) (w : WorldState) (s : MasterState) (rows : Rows) (t : MasterState) (sent : List Out) (tellings : List Telling) where
+module _ (c : ℕ) (x : List ℕ) (w : WorldState) (s : MasterState) (rows : Rows) (t : MasterState) (sent : List Out) (tellings : List SessionEvent) where
   -- a slice shows nothing of them
   told_same : AreSame (there c x w rows (with_tellings t tellings) sent) (there c x w rows t sent)
   told_same =

@@ -17,7 +17,7 @@ use Rattle.tags_cell.specs.declared.messages.requests.Request.TheVariants as req
 use Rattle.rights_core.specs.Rights.{clients_to_ask}
 use Rattle.gate_core.specs.declared.pending.Waiting.{Waiting}
 use Rattle.gate_core.specs.Gate.{GateState}
-use Rattle.session_core.specs.declared.records.Kept.{Kept}
+use Rattle.session_core.specs.declared.records.LastCall.{LastCall}
 use Rattle.session_core.specs.declared.records.Session.{Session}
 use Rattle.session_core.specs.Session.{beaten, keeping, prolonged, answered, session_until}
 use Rattle.session_core.specs.Session as of_session
@@ -26,9 +26,9 @@ use Rattle.lock_core.specs.declared.partings.Parting.TheVariants as partings
 use Rattle.lock_core.specs.Locks.{lock_at}
 use Rattle.lock_core.specs.Turns.{reopened}
 use Rattle.master_parts.specs.Answered.{answered_by}
-use Rattle.master_parts.specs.declared.handles.Note.{Note}
-use Rattle.master_parts.specs.declared.notices.Telling.{Telling}
-use Rattle.master_parts.specs.declared.pending.Asked.{Asked}
+use Rattle.master_parts.specs.declared.handles.HandleNote.{HandleNote}
+use Rattle.master_parts.specs.declared.notices.SessionEvent.{SessionEvent}
+use Rattle.master_parts.specs.declared.pending.WaitingRequest.{WaitingRequest}
 use Rattle.master_parts.specs.declared.pending.Task.{Task}
 use Rattle.master_parts.specs.declared.pending.Task.TheVariants as tasks
 use Rattle.master_parts.specs.declared.pending.Work.{Work}
@@ -72,7 +72,7 @@ use Rattle.world_cell.proofs.WorldCases.WorldCase.{ComesUp, Joins, Asks, Beats, 
 -- ---- what is kept of a client's calls
 
 -- the last call of the client is of this number or a greater one; where none is kept, each that the master may still take is of a greater one
-abbrev IsPast : List Message → ℕ → ℕ → Option (Kept Reply) → ℕ → Type 0
+abbrev IsPast : List Message → ℕ → ℕ → Option (LastCall Reply) → ℕ → Type 0
 IsPast sent epoch client None n = (number : ℕ) (call : CallMessage) → call_of sent client number ≡ Some call → call.epoch ≡ epoch → n < number
 IsPast sent epoch client (Some kept) n = n ≤ kept.number
 
@@ -86,7 +86,7 @@ PastIn sent client (Some s) n = PastMaster sent client s n
 weaker : (n m : ℕ) → n < m → n ≤ m
 weaker n m h = omega (arith, h)
 
-past_later : (xs ys : List Message) (epoch client : ℕ) (o : Option (Kept Reply)) (n : ℕ) → ((number : ℕ) (call : CallMessage) → call_of ys client number ≡ Some call → n < number) → IsPast xs epoch client o n → IsPast (xs ++ ys) epoch client o n
+past_later : (xs ys : List Message) (epoch client : ℕ) (o : Option (LastCall Reply)) (n : ℕ) → ((number : ℕ) (call : CallMessage) → call_of ys client number ≡ Some call → n < number) → IsPast xs epoch client o n → IsPast (xs ++ ys) epoch client o n
 past_later xs ys epoch client (Some kept) n fresh h = h
 past_later xs ys epoch client None n fresh h = λ number call is of.
     elim (call_more xs ys client number call is) [ inl a ↦ h number call a of | inr b ↦ fresh number call b ]
@@ -101,7 +101,7 @@ outs_later xs sent client s n h = past_later xs (map ToClient sent) s.epoch clie
 -- ---- a message is taken
 
 -- a new call is of a greater number
-new_past : (sent : List Message) (epoch client number : ℕ) (o : Option (Kept Reply)) (n : ℕ) (call : CallMessage) → IsBehind o number → call_of sent client number ≡ Some call → call.epoch ≡ epoch → IsPast sent epoch client o n → n < number
+new_past : (sent : List Message) (epoch client number : ℕ) (o : Option (LastCall Reply)) (n : ℕ) (call : CallMessage) → IsBehind o number → call_of sent client number ≡ Some call → call.epoch ≡ epoch → IsPast sent epoch client o n → n < number
 new_past sent epoch client number None n call behind found of h = h number call found of
 new_past sent epoch client number (Some kept) n call behind found of h = let less = behind.2 in omega (arith, h, less)
 
@@ -110,7 +110,7 @@ call_past sent t client n message behind found of h is =
     let k : PastMaster sent message.client t n = rw (← is) at h in
     new_past sent t.epoch message.client message.number (kept_of t message.client) n message behind found of k
 
-put_past : (sent : List Message) (s : MasterState) (whose client : ℕ) (kept : Kept Reply) (n : ℕ) → is_live s whose ≡ true → (whose ≡ client → n ≤ kept.number) → PastMaster sent client s n → IsPast sent s.epoch client (kept_of (recorded s whose kept) client) n
+put_past : (sent : List Message) (s : MasterState) (whose client : ℕ) (kept : LastCall Reply) (n : ℕ) → is_live s whose ≡ true → (whose ≡ client → n ≤ kept.number) → PastMaster sent client s n → IsPast sent s.epoch client (kept_of (recorded s whose kept) client) n
 put_past sent s whose client kept n live own h =
     (elim (eqb client whose) as (λ b. eqb client whose ≡ b → IsPast sent s.epoch client (kept_of (recorded s whose kept) client) n) [
       | true ↦ (λ e.
@@ -120,11 +120,11 @@ put_past sent s whose client kept n live own h =
       | false ↦ (λ e. subst (λ o. IsPast sent s.epoch client o n) (sym (kept_other s.sessions whose client kept (other client whose e))) h)
     ]) refl
 
-note_past : (sent : List Message) (s : MasterState) (note : Option Note) (client n : ℕ) → PastMaster sent client s n → PastMaster sent client (with_note s note) n
+note_past : (sent : List Message) (s : MasterState) (note : Option HandleNote) (client n : ℕ) → PastMaster sent client s n → PastMaster sent client (with_note s note) n
 note_past sent s None client n h = h
 note_past sent s (Some note) client n h = h
 
-same_past : (sent : List Message) (epoch client : ℕ) (a b : Option (Kept Reply)) (n : ℕ) → b ≡ a → IsPast sent epoch client a n → IsPast sent epoch client b n
+same_past : (sent : List Message) (epoch client : ℕ) (a b : Option (LastCall Reply)) (n : ℕ) → b ≡ a → IsPast sent epoch client a n → IsPast sent epoch client b n
 same_past sent epoch client a b n is h = subst (λ o. IsPast sent epoch client o n) (sym is) h
 
 asking_past : (sent : List Message) (s : MasterState) (names : List (List ℕ)) (client n : ℕ) → PastMaster sent client s n → PastMaster sent client (asking_for s names) n
@@ -172,15 +172,15 @@ told_past sent s client n [] from h = h
 told_past sent s client n (reply ∷ replies) from h =
     told_past sent (recorded s reply.client (answered_by reply)) client n replies from.1 (one_told sent s client n reply from.0 h)
 
-kept_from : (sent : List Message) (epoch client : ℕ) (o : Option (Kept Reply)) (n : ℕ) → IsPast sent epoch client o n → (kept : Kept Reply) → o ≡ Some kept → n ≤ kept.number
+kept_from : (sent : List Message) (epoch client : ℕ) (o : Option (LastCall Reply)) (n : ℕ) → IsPast sent epoch client o n → (kept : LastCall Reply) → o ≡ Some kept → n ≤ kept.number
 kept_from sent epoch client o n h kept is = let k : IsPast sent epoch client (Some kept) n = subst (λ x. IsPast sent epoch client x n) is h in k
 
 module _ (sent : List Message) (s : MasterState) (client n : ℕ) (fits : FitsMessages sent s) (h : PastMaster sent client s n) where
-  still_from : (kept : Kept Reply) → kept_of s client ≡ Some kept → IsFrom (Some n) kept.number
+  still_from : (kept : LastCall Reply) → kept_of s client ≡ Some kept → IsFrom (Some n) kept.number
   still_from kept is = kept_from sent s.epoch client (kept_of s client) n h kept is
 
   -- the call whose turn it is
-  turn_past : (front back : List (Waiting Task)) (asked : Asked) (call : Call) (sequencer : Option (List ℕ)) → IsNextApplied s front (tasks.Asked asked) back → asked.work ≡ works.Calls call sequencer → asked.client ≡ client → n ≤ asked.number
+  turn_past : (front back : List (Waiting Task)) (asked : WaitingRequest) (call : Call) (sequencer : Option (List ℕ)) → IsNextApplied s front (tasks.Asked asked) back → asked.work ≡ works.Calls call sequencer → asked.client ≡ client → n ≤ asked.number
   turn_past front back asked call sequencer turn work own =
       let t = call_application sent s front asked back turn fits call sequencer work in
       let k : n ≤ t.kept.number = still_from t.kept (ap (λ m. kept_of s m) (sym own) ∙ t.is_kept) in
@@ -188,9 +188,9 @@ module _ (sent : List Message) (s : MasterState) (client n : ℕ) (fits : FitsMe
       omega (arith, k, e)
 
   -- t: the master behind the change, without what is noted of a handle
-  end_past : (t : MasterState) (asked : Asked) (note : Option Note) (answer : CallResult) → t.sessions ≡ s.sessions → t.epoch ≡ s.epoch → is_live s asked.client ≡ true → (asked.client ≡ client → n ≤ asked.number) → PastMaster sent client (ended t asked note answer) n
+  end_past : (t : MasterState) (asked : WaitingRequest) (note : Option HandleNote) (answer : CallResult) → t.sessions ≡ s.sessions → t.epoch ≡ s.epoch → is_live s asked.client ≡ true → (asked.client ≡ client → n ≤ asked.number) → PastMaster sent client (ended t asked note answer) n
   end_past t asked note answer same_sessions same_epoch live own =
-      let kept : Kept Reply = answered_by (reply_of t asked.client asked.number answer) in
+      let kept : LastCall Reply = answered_by (reply_of t asked.client asked.number answer) in
       let lives : is_live t asked.client ≡ true = subst (λ x. of_sessions.is_live x asked.client ≡ true) (sym same_sessions) live in
       let before : PastMaster sent client t n = subst (λ x. IsPast sent t.epoch client (of_sessions.kept_of x client) n) (sym same_sessions) (subst (λ e. IsPast sent e client (kept_of s client) n) (sym same_epoch) h) in
       note_past sent (recorded t asked.client kept) note client n (put_past sent t asked.client client kept n lives own before)
@@ -239,7 +239,7 @@ module _ (sent : List Message) (s : MasterState) (client n : ℕ) (fits : FitsMe
       told_past sent (ended t asked note answer) client n (turn_replies s leave.turn) (turn_from s client (Some n) still_from leave.turn)
       (end_past t asked note answer refl refl live (turn_past front back asked call sequencer turn work))
 
-telling_past : (sent : List Message) (s : MasterState) (client n : ℕ) (tellings : List Telling) → PastMaster sent client s n → PastMaster sent client (with_tellings s tellings) n
+telling_past : (sent : List Message) (s : MasterState) (client n : ℕ) (tellings : List SessionEvent) → PastMaster sent client s n → PastMaster sent client (with_tellings s tellings) n
 telling_past sent s client n tellings h = same_past sent s.epoch client (kept_of s client) (kept_of (with_tellings s tellings) client) n (told_kept s tellings client) h
 
 -- ---- who waits
@@ -262,7 +262,7 @@ one_head : (a b : ℕ) → ◌≡◌ {A = List ℕ} (a ∷ []) (b ∷ []) → a 
 one_head a b h = cc
 
 -- of a client's calls at most one waits
-short_last : (o : Option (Kept Reply)) (numbers : List ℕ) → IsLastInTurn o numbers → length numbers ≤ 1
+short_last : (o : Option (LastCall Reply)) (numbers : List ℕ) → IsLastInTurn o numbers → length numbers ≤ 1
 short_last None numbers h = let none : length numbers ≡ 0 = ap (λ (xs : List ℕ). length xs) h in omega (arith, none)
 short_last (Some kept) numbers h = by_reply kept.number kept.reply h
   where
@@ -275,14 +275,14 @@ one_at_most : (o : Option (Session Reply)) (numbers : List ℕ) → IsInTurn o n
 one_at_most None numbers h = let none : length numbers ≡ 0 = ap (λ (xs : List ℕ). length xs) h in omega (arith, none)
 one_at_most (Some session) numbers h = short_last session.kept numbers h
 
-noted_gate : (s : MasterState) (note : Option Note) → (with_note s note).gate.waiting ≡ s.gate.waiting
+noted_gate : (s : MasterState) (note : Option HandleNote) → (with_note s note).gate.waiting ≡ s.gate.waiting
 noted_gate s note = ap (λ (g : GateState Task). g.waiting) (unnoted (λ x. x.gate) (λ x m. refl) s note)
 
 module _ (sent : List Message) (s : MasterState) (client n : ℕ) (fits : FitsMessages sent s) (h : PastMaster sent client s n) where
-  gate_note : (note : Option Note) → (with_note s note).gate ≡ s.gate
+  gate_note : (note : Option HandleNote) → (with_note s note).gate ≡ s.gate
   gate_note note = unnoted (λ x. x.gate) (λ x m. refl) s note
 
-  module _ (message : CallMessage) (note : Option Note) (live : is_live s message.client ≡ true) (behind : IsBehind (kept_of s message.client) message.number) (found : call_of sent message.client message.number ≡ Some message) (epoch : message.epoch ≡ s.epoch) where
+  module _ (message : CallMessage) (note : Option HandleNote) (live : is_live s message.client ≡ true) (behind : IsBehind (kept_of s message.client) message.number) (found : call_of sent message.client message.number ≡ Some message) (epoch : message.epoch ≡ s.epoch) where
     abbrev t : MasterState
     t = with_note s note
 
@@ -501,7 +501,7 @@ run_beyond client n old (step ∷ made) printed new h b run =
     run_beyond client n run.0 made run.2 new (does_holds old step run.0 run.1 h run.3) (does_beyond client n old step run.0 run.1 h b run.3) run.4
 
 -- the call that waits is the last that is kept
-last_kept : (o : Option (Kept Reply)) (n : ℕ) (numbers : List ℕ) → IsLastInTurn o numbers → numbers ≡ n ∷ [] → (kept : Kept Reply) × (o ≡ Some kept) × (kept.number ≡ n)
+last_kept : (o : Option (LastCall Reply)) (n : ℕ) (numbers : List ℕ) → IsLastInTurn o numbers → numbers ≡ n ∷ [] → (kept : LastCall Reply) × (o ≡ Some kept) × (kept.number ≡ n)
 last_kept None n numbers h is = absurd cc
 last_kept (Some kept) n numbers h is = (kept, refl, by_reply kept.number kept.reply h)
   where
@@ -510,7 +510,7 @@ last_kept (Some kept) n numbers h is = (kept, refl, by_reply kept.number kept.re
     by_reply number None (inl own) = one_head number n (sym own ∙ is)
     by_reply number None (inr none) = absurd cc
 
-kept_waits : (o : Option (Session Reply)) (n : ℕ) (numbers : List ℕ) → IsInTurn o numbers → numbers ≡ n ∷ [] → (kept : Kept Reply) × (kept_in o ≡ Some kept) × (kept.number ≡ n)
+kept_waits : (o : Option (Session Reply)) (n : ℕ) (numbers : List ℕ) → IsInTurn o numbers → numbers ≡ n ∷ [] → (kept : LastCall Reply) × (kept_in o ≡ Some kept) × (kept.number ≡ n)
 kept_waits None n numbers h is = absurd cc
 kept_waits (Some session) n numbers h is = last_kept session.kept n numbers h is
 

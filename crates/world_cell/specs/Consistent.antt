@@ -17,7 +17,7 @@ use Rattle.tags_cell.specs.declared.messages.outs.NewHandle.{NewHandle}
 use Rattle.tags_cell.specs.declared.messages.outs.Started.{Started}
 use Rattle.tags_cell.specs.declared.messages.outs.Refused.{Refused}
 use Rattle.node_core.specs.declared.refusals.Fault.TheVariants as faults
-use Rattle.session_core.specs.declared.records.Kept.{Kept}
+use Rattle.session_core.specs.declared.records.LastCall.{LastCall}
 use Rattle.session_core.specs.declared.records.Session.{Session}
 use Rattle.tags_cell.specs.declared.messages.outs.Reply.{Reply}
 use Rattle.lease_core.specs.Lease.{longest_lease}
@@ -25,10 +25,10 @@ use Rattle.rows_cell.specs.declared.settings.Limits.{Limits}
 use Rattle.coherence.specs.Slice as one
 use Rattle.coherence.specs.Slice.{Reached}
 use Rattle.cache_core.specs.Caches.{AreCacheEntries, entry_of}
-use Rattle.cache_core.specs.declared.kept.Kept as shared
+use Rattle.cache_core.specs.declared.kept.SharedHandle as shared
 use Rattle.client_core.specs.declared.parts.asks.NodeCall.{NodeCall}
 use Rattle.client_core.specs.declared.parts.handles.ClientHandle.{ClientHandle}
-use Rattle.client_core.specs.declared.parts.sessions.Session.TheVariants as sessions
+use Rattle.client_core.specs.declared.parts.sessions.ClientStanding.TheVariants as sessions
 use Rattle.client_core.specs.declared.parts.targets.Outstanding.{Outstanding}
 use Rattle.client_core.specs.declared.parts.targets.Target.TheVariants as targets
 use Rattle.client_core.specs.Calls.{call_on}
@@ -124,7 +124,7 @@ abbrev pub IsWaiting : ℕ → Option Reply → List ℕ → Type 0
 IsWaiting number (Some reply) numbers = numbers ≡ []
 IsWaiting number None numbers = (numbers ≡ number ∷ []) ⊎ (numbers ≡ [])
 
-abbrev pub IsLastInTurn : Option (Kept Reply) → List ℕ → Type 0
+abbrev pub IsLastInTurn : Option (LastCall Reply) → List ℕ → Type 0
 IsLastInTurn None numbers = numbers ≡ []
 IsLastInTurn (Some kept) numbers = IsWaiting kept.number kept.reply numbers
 
@@ -183,9 +183,9 @@ pub record IsAnswer (sent : List Message) (secret : List ℕ) (reply : Reply) : 
 -- what waits and what is kept fits the messages
 pub record FitsMessages (sent : List Message) (s : MasterState) : Type 0 where
   pub queue : AreOfMessages sent s.epoch s.gate.waiting
-  pub kept : (client : ℕ) (kept : Kept Reply) → kept_of s client ≡ Some kept → WasSent sent s.epoch client kept.number
-  pub replies : (client : ℕ) (kept : Kept Reply) (reply : Reply) → kept_of s client ≡ Some kept → kept.reply ≡ Some reply → IsReplyTo client kept.number reply
-  pub answers : (client : ℕ) (kept : Kept Reply) (reply : Reply) → kept_of s client ≡ Some kept → kept.reply ≡ Some reply → IsAnswer sent s.secret reply
+  pub kept : (client : ℕ) (kept : LastCall Reply) → kept_of s client ≡ Some kept → WasSent sent s.epoch client kept.number
+  pub replies : (client : ℕ) (kept : LastCall Reply) (reply : Reply) → kept_of s client ≡ Some kept → kept.reply ≡ Some reply → IsReplyTo client kept.number reply
+  pub answers : (client : ℕ) (kept : LastCall Reply) (reply : Reply) → kept_of s client ≡ Some kept → kept.reply ≡ Some reply → IsAnswer sent s.secret reply
   pub turns : (client : ℕ) → IsInTurn (session_of s client) (waiting client s.gate.waiting)
   -- a call that waits for a lock has had its turn
   pub awaited : (client : ℕ) → awaits_lock client s.locks ≡ true → waiting client s.gate.waiting ≡ []

@@ -7,7 +7,7 @@ use Rattle.std.specs.BTreeMap.{is_at}
 use Rattle.std.specs.Ordering.{nat_cmp}
 use Rattle.coherence.specs.Slice as one
 use Rattle.coherence.specs.Slice.{Slice, nobody}
-use Rattle.rows_cell.specs.declared.tables.Session as of_rows
+use Rattle.rows_cell.specs.declared.tables.SessionRow as of_rows
 use Rattle.node_core.specs.declared.views.View.{View}
 use Rattle.node_core.specs.Nodes.{view_at}
 use Rattle.rows_cell.specs.declared.tables.Rows.{Rows}

@@ -7,17 +7,17 @@ use Rattle.std.specs.Ordering.{nat_cmp}
 use Rattle.std.proofs.lemmas.List.{append-nil}
 use Rattle.std.proofs.lemmas.Map.Steps.{set_value_same}
 use Rattle.cache_core.specs.Standings.{turn_line}
-use Rattle.cache_core.specs.declared.standings.Standing.{Standing}
-use Rattle.cache_core.specs.declared.standings.Standing.TheVariants as standings
+use Rattle.cache_core.specs.declared.standings.SessionTrust.{SessionTrust}
+use Rattle.cache_core.specs.declared.standings.SessionTrust.TheVariants as standings
 use Rattle.node_core.specs.declared.refusals.Fault.{Fault}
 use Rattle.node_core.specs.declared.refusals.Fault.TheVariants.{NoMemory}
 use Rattle.tags_cell.specs.declared.messages.outs.Out.{Out}
 use Rattle.client_core.specs.declared.parts.asks.Ask.{Ask}
-use Rattle.client_core.specs.declared.parts.asks.Asked.{Asked as AskedFor}
+use Rattle.client_core.specs.declared.parts.asks.AskOutcome.{AskOutcome as AskedFor}
 use Rattle.client_core.specs.declared.parts.asks.Outcome.TheVariants as outcomes
 use Rattle.client_core.specs.declared.parts.steps.Given.{Given}
-use Rattle.client_core.specs.declared.parts.sessions.Session.{Session}
-use Rattle.client_core.specs.declared.parts.sessions.Session.TheVariants as sessions
+use Rattle.client_core.specs.declared.parts.sessions.ClientStanding.{ClientStanding}
+use Rattle.client_core.specs.declared.parts.sessions.ClientStanding.TheVariants as sessions
 use Rattle.client_core.specs.State.{ClientState, standing_then, note_lines_in, note_lines, Does}
 use Rattle.client_core.specs.Asks.{ask_step}
 use Rattle.client_core.specs.Beats.{beat_step}
@@ -79,7 +79,7 @@ give_leaves s now out fault new h = let c = give_case s now out in given_leaves 
 
 -- ---- one line at most beside a refusal
 
-turn_few : (number : ℕ) (before after : Standing) → length (option_to_list (turn_line number before after)) ≤ 1
+turn_few : (number : ℕ) (before after : SessionTrust) → length (option_to_list (turn_line number before after)) ≤ 1
 turn_few number standings.Safe standings.Safe = omega arith
 turn_few number standings.Safe (standings.Jeopardy since) = omega arith
 turn_few number standings.Safe standings.Lost = omega arith
@@ -88,7 +88,7 @@ turn_few number (standings.Jeopardy since) (standings.Jeopardy later) = omega ar
 turn_few number (standings.Jeopardy since) standings.Lost = omega arith
 turn_few number standings.Lost after = omega arith
 
-noted_in_few : (s : ClientState) (session : Session) (moment : ℕ) → length (note_lines_in session s moment) ≤ 1
+noted_in_few : (s : ClientState) (session : ClientStanding) (moment : ℕ) → length (note_lines_in session s moment) ≤ 1
 noted_in_few s sessions.Unstarted moment = omega arith
 noted_in_few s sessions.Live moment = turn_few s.number s.standing (standing_then s moment)
 noted_in_few s sessions.Lost moment = omega arith

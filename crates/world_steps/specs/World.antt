@@ -26,8 +26,8 @@ use Rattle.over_core.specs.Kept.{IsKept}
 use Rattle.over_core.specs.Sweep.{sweep_step, sweep_edits, sweep_frees, left_after, MayHoldUp, MayLeaveUp, beats_step}
 use Rattle.over_core.specs.Up.{up_step, up_edits, up_commit}
 use Rattle.client_core.specs.declared.parts.asks.Ask.{Ask}
-use Rattle.client_core.specs.declared.parts.asks.Asked.{Asked}
-use Rattle.client_core.specs.declared.parts.asks.Outcome.{Outcome as AskOutcome}
+use Rattle.client_core.specs.declared.parts.asks.AskOutcome.{AskOutcome}
+use Rattle.client_core.specs.declared.parts.asks.Outcome.{Outcome as ClientOutcome}
 use Rattle.client_core.specs.declared.parts.asks.Outcome.TheVariants.{Sent, Served, Answered, Refused}
 use Rattle.client_core.specs.declared.parts.steps.Beaten.{Beaten}
 use Rattle.client_core.specs.declared.parts.steps.Given.{Given}
@@ -145,18 +145,18 @@ sends w request = record w { messages = w.messages ++ ToMaster request ∷ [] }
 abbrev pub with_refusal : List Line → Fault → List Line
 with_refusal told fault = told ++ lines.Refused fault ∷ []
 
-abbrev pub ends_ask : WorldState → List Line → AskOutcome → WorldState × List Line
+abbrev pub ends_ask : WorldState → List Line → ClientOutcome → WorldState × List Line
 ends_ask w told (Sent request) = (sends w request, told)
 ends_ask w told (Served answer) = (w, told)
 ends_ask w told Answered = (w, told)
 ends_ask w told (Refused fault) = (w, with_refusal told fault)
 
 -- a moment or a number at its end refuses the step
-abbrev pub asked_by : WorldState → Result Asked Fault → Outcome
+abbrev pub asked_by : WorldState → Result AskOutcome Fault → Outcome
 asked_by w (Ok asked) = Ok (ends_ask w asked.lines asked.outcome)
 asked_by w (Err fault) = Err fault
 
-abbrev pub asked : WorldState → ℕ → WorldClient → ClientState × Result Asked Fault → Outcome
+abbrev pub asked : WorldState → ℕ → WorldClient → ClientState × Result AskOutcome Fault → Outcome
 asked w number member step = asked_by (with_client w number member step.0) step.1
 
 -- by the client's own clock

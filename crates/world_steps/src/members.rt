@@ -12,7 +12,7 @@ ghost use Rattle.lease_core.specs.Lease.{moment_limit};
 ghost use Rattle.world_steps.specs.Members.{new_member, each_member, at_up, is_least, is_fair, moved_beside, moved_alone, Answers, own_step, clock_then};
 
 use crate::steps::Ticks;
-use client_core::{Ask, Asked, Beaten, Client, Given};
+use client_core::{Ask, AskOutcome, Beaten, Client, Given};
 use lease_core::MOMENT_LIMIT;
 use names_cell::Principal;
 use node_core::Fault;
@@ -173,7 +173,7 @@ impl WorldClients {
     }
 
     /// It is asked for a call. None where nobody has joined under the number.
-    pub fn ask(&mut self, number: u64, ask: &Ask) -> Option<Result<Asked, Fault>>
+    pub fn ask(&mut self, number: u64, ask: &Ask) -> Option<Result<AskOutcome, Fault>>
         ensures none { IsNone result → lookup (is_at (nat_cmp number)) self.old ≡ None }
         ensures stay { IsNone result → self.new ≡ self.old }
         ensures some { IfSome result (λ r. (member : WorldClientState) × (lookup (is_at (nat_cmp number)) self.old ≡ Some member) × Answers self.old self.new number member r (ask_step member.client member.clock ask.now)) }

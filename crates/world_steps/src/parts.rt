@@ -10,7 +10,7 @@ use crate::mail;
 use crate::mail::Message;
 use crate::members::WorldClients;
 use crate::steps::{Commit, Step, Ticks};
-use client_core::{Ask, Asked, Beaten, Given, Outcome};
+use client_core::{Ask, AskOutcome, Beaten, Given, Outcome};
 use collections::Items;
 use lease_core::MOMENT_LIMIT;
 use names_cell::Principal;
@@ -332,7 +332,7 @@ impl<R: Records + Drop> WorldParts<R> {
         match self.clients.ask(number, ask) {
             None => Err(Fault::NoSession),
             Some(Err(fault)) => Err(fault),
-            Some(Ok(Asked { lines, outcome })) => match outcome {
+            Some(Ok(AskOutcome { lines, outcome })) => match outcome {
                 Outcome::Sent(request) => {
                     mail::send(&mut self.messages, request);
                     Ok(lines)

@@ -4,8 +4,8 @@ ghost use Rattle.client_core.specs.Deadlines.{has_number, now_or_never, in_sessi
 
 use crate::client::Client;
 use crate::deadline::moments::{loss, until};
-use crate::parts::Session;
-use cache_core::Standing;
+use crate::parts::ClientStanding;
+use cache_core::SessionTrust;
 use node_core::NUMBER_LIMIT;
 
 /// The earliest moment, from the last one that the client noted on, at which `beat` sends a message or prints a line: at
@@ -18,9 +18,9 @@ pub fn next_beat(client: &Client) -> Option<u64>
 {
     let seen = client.seen();
     match seen.session {
-        Session::Unstarted => now_or_never(seen.beats, seen.clock),
-        Session::Live => in_session(seen.standing, seen.beats, seen.clock),
-        Session::Lost | Session::TurnedAway => None,
+        ClientStanding::Unstarted => now_or_never(seen.beats, seen.clock),
+        ClientStanding::Live => in_session(seen.standing, seen.beats, seen.clock),
+        ClientStanding::Lost | ClientStanding::TurnedAway => None,
     }
 }
 
@@ -36,13 +36,13 @@ fn now_or_never(beats: u64, clock: u64) -> Option<u64>
 }
 
 // In a session, by how the client stands.
-fn in_session(standing: Standing, beats: u64, clock: u64) -> Option<u64>
+fn in_session(standing: SessionTrust, beats: u64, clock: u64) -> Option<u64>
     ensures { result ≡ in_session standing (has_number beats) clock }
 {
     match standing {
-        Standing::Safe => now_or_never(beats, clock),
-        Standing::Jeopardy(_) if beats < NUMBER_LIMIT => until(clock),
-        Standing::Jeopardy(since) => loss(clock, since),
-        Standing::Lost => None,
+        SessionTrust::Safe => now_or_never(beats, clock),
+        SessionTrust::Jeopardy(_) if beats < NUMBER_LIMIT => until(clock),
+        SessionTrust::Jeopardy(since) => loss(clock, since),
+        SessionTrust::Lost => None,
     }
 }

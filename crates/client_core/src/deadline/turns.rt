@@ -3,8 +3,8 @@ ghost use Rattle.client_core.specs.Deadlines.{IsNextTurn};
 
 use crate::client::Client;
 use crate::deadline::moments::{lease_end, loss};
-use crate::parts::Session;
-use cache_core::Standing;
+use crate::parts::ClientStanding;
+use cache_core::SessionTrust;
 
 /// The earliest moment, from the last one that the client noted on, at which `beat`, `ask` and `give` find how it stands
 /// turned by the time alone, and print a line of it: the lease on its session has ended, and it is in jeopardy; or its
@@ -16,9 +16,9 @@ pub fn next_turn(client: &Client) -> Option<u64>
 {
     let seen = client.seen();
     match (seen.session, seen.standing) {
-        (Session::Live, Standing::Safe) => lease_end(seen.cache, seen.clock),
-        (Session::Live, Standing::Jeopardy(since)) => loss(seen.clock, since),
-        (Session::Live, Standing::Lost) => None,
-        (Session::Unstarted | Session::Lost | Session::TurnedAway, _) => None,
+        (ClientStanding::Live, SessionTrust::Safe) => lease_end(seen.cache, seen.clock),
+        (ClientStanding::Live, SessionTrust::Jeopardy(since)) => loss(seen.clock, since),
+        (ClientStanding::Live, SessionTrust::Lost) => None,
+        (ClientStanding::Unstarted | ClientStanding::Lost | ClientStanding::TurnedAway, _) => None,
     }
 }

@@ -112,7 +112,7 @@ pub enum Outcome {
 
 /// What comes of it, and the lines that are printed. The line of a refusal isn't among them.
 #[derive(Drop)]
-pub struct Asked {
+pub struct AskOutcome {
     pub lines: Items<Line>,
     pub outcome: Outcome,
 }

@@ -3,7 +3,7 @@ ghost use Rattle.std.specs.Prelude.{◌≡◌, IfOk};
 ghost use Rattle.client_core.specs.Opens.{is_plain, is_read_only, only_reads, is_shareable, kept_handle, read_answer, names_in, list_answer, cached_answer};
 
 use crate::parts::asks::NodeCall;
-use cache_core::{Kept, Shared};
+use cache_core::{Shared, SharedHandle};
 use collections::Bytes;
 use names_cell::Name;
 use node_core::{Answer, Fault, Kind, Life, Right, View};
@@ -145,10 +145,10 @@ pub fn is_shareable(handle: &NewHandle, opening: &Open) -> bool
 }
 
 /// A handle that is kept to be shared.
-pub fn share_of(handle: &NewHandle, opening: &Open) -> Result<Kept<NewHandle>, AllocError>
+pub fn share_of(handle: &NewHandle, opening: &Open) -> Result<SharedHandle<NewHandle>, AllocError>
     ensures { IfOk result (λ kept. kept ≡ record { name = opening.now.name; instance = handle.now.instance; handle = handle.now }) }
 {
-    Ok(Kept {
+    Ok(SharedHandle {
         name: opening.name.clone()?,
         instance: handle.instance.get(),
         handle: handle.clone()?,

@@ -9,7 +9,7 @@ ghost use Rattle.client_core.specs.Handles.{handle_of, usable_handle, has_number
 
 use crate::parts::handles::{ClientHandle, is_shareable, share_of};
 use crate::parts::targets::Outstanding;
-use cache_core::{Kept, KeptHandles};
+use cache_core::{KeptHandles, SharedHandle};
 use collections::{Bytes, Table};
 use node_core::{Fault, NUMBER_LIMIT};
 use std::alloc::AllocError;
@@ -85,7 +85,7 @@ fn put_shared(
     shares: &mut KeptHandles<NewHandle>,
     number: u64,
     handle: ClientHandle,
-    share: Kept<NewHandle>,
+    share: SharedHandle<NewHandle>,
 ) -> Result<(), AllocError>
     ensures ok { OnOk result (handles.new ≡ insert_entry nat_cmp handles.old number handle) }
     ensures ok_shares { OnOk result (shares.new ≡ with_kept shares.old share) }

@@ -4,11 +4,11 @@ ghost use Rattle.cache_core.specs.Caches.{is_leased};
 ghost use Rattle.cache_core.specs.Standings.{standing_at};
 ghost use Rattle.client_core.specs.Leased.{under};
 
-use cache_core::{Cache, Standing};
+use cache_core::{Cache, SessionTrust};
 use lease_core::Lease;
 
 /// How a client that stood like this stands at a moment, in a session, by the lease that its cache is under.
-pub fn standing_by(former: Standing, cache: &Cache, moment: u64) -> Standing
+pub fn standing_by(former: SessionTrust, cache: &Cache, moment: u64) -> SessionTrust
     ensures { result ≡ standing_at former (is_leased cache.now.lease moment) moment }
 {
     former.at(cache.is_leased(moment), moment)

@@ -3,7 +3,7 @@ ghost use Rattle.std.specs.Prelude.{◌≡◌, ◌++◌, ◌∷◌, [], IfOk};
 ghost use Rattle.std.specs.Option.{option_to_list};
 ghost use Rattle.cache_core.specs.Standings.{turn_line};
 
-use cache_core::{Shared, Standing};
+use cache_core::{SessionTrust, Shared};
 use collections::Items;
 use names_cell::Name;
 use node_core::{Answer, Line, View};
@@ -29,8 +29,8 @@ pub fn pushed(lines: Items<Line>, line: Line) -> Result<Items<Line>, AllocError>
 pub fn turn_lines(
     alloc: Global,
     client: u64,
-    former: Standing,
-    standing: Standing,
+    former: SessionTrust,
+    standing: SessionTrust,
 ) -> Result<Items<Line>, AllocError>
     ensures { IfOk result (λ lines. lines ≡ option_to_list (turn_line client former standing)) }
 {

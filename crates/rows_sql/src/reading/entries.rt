@@ -12,7 +12,7 @@ use crate::reading::stored::{Meta, child_of, lock_of, meta_of, node_of, session_
 use crate::schema::Version;
 use collections::Table;
 use names_cell::Name;
-use rows_cell::{LockKey, LockRow, Rows, Session, StoredNode};
+use rows_cell::{LockKey, LockRow, Rows, SessionRow, StoredNode};
 use sqlite::Row;
 use std::alloc::{AllocError, Global};
 
@@ -31,7 +31,7 @@ fn nodes_of(alloc: Global, rows: &[Row]) -> Result<Option<Table<Name, StoredNode
     Ok(Some(nodes))
 }
 
-fn sessions_of(alloc: Global, rows: &[Row]) -> Result<Option<Table<u64, Session>>, AllocError>
+fn sessions_of(alloc: Global, rows: &[Row]) -> Result<Option<Table<u64, SessionRow>>, AllocError>
     ensures { IfOk result (λ sessions. IsRead nat_cmp session_in rows.now sessions) }
 {
     let mut sessions = Table::new(alloc);

@@ -8,7 +8,7 @@ use crate::schema::Version;
 use collections::{Bytes, Secret};
 use names_cell::{Component, Name, NameFault, Principal};
 use node_core::{Kind, Life, Node};
-use rows_cell::{LockKey, LockRow, LockState, Session, StoredNode};
+use rows_cell::{LockKey, LockRow, LockState, SessionRow, StoredNode};
 use sqlite::Row;
 use sqlite_value::value::ValueRef;
 use std::alloc::{AllocError, Global};
@@ -254,7 +254,7 @@ fn node_with(numbers: Numbers, acls: Acls, content: Bytes) -> StoredNode
 }
 
 /// The session that a row says, and its client.
-pub(crate) fn session_of(alloc: Global, row: &Row) -> Result<Option<(u64, Session)>, AllocError>
+pub(crate) fn session_of(alloc: Global, row: &Row) -> Result<Option<(u64, SessionRow)>, AllocError>
     ensures { IfOk result (λ session. session ≡ session_in row.now) }
 {
     let Some(client) = count_at(row, 0) else {
@@ -266,7 +266,7 @@ pub(crate) fn session_of(alloc: Global, row: &Row) -> Result<Option<(u64, Sessio
     let Some(principal) = principal_at(alloc, row, 1)? else {
         return Ok(None);
     };
-    Ok(Some((client, Session { principal, live })))
+    Ok(Some((client, SessionRow { principal, live })))
 }
 
 /// The lock that a row says.

@@ -10,7 +10,7 @@ ghost use Rattle.rows_sql.specs.Ongoing.{RanInside, Changed, PutsEntry, PutsChil
 use crate::writing::values::{kind_as, life_as, live_as, mode_as, number};
 use names_cell::Name;
 use node_core::Node;
-use rows_cell::{LockKey, LockRow, Session};
+use rows_cell::{LockKey, LockRow, SessionRow};
 use sqlite::{Alter, Error, Transaction};
 use sqlite_value::value::ValueRef;
 
@@ -213,7 +213,7 @@ fn remove_entry<S: Alter>(tx: &mut Transaction<'_, S>, name: &Name) -> Result<()
 pub(crate) fn put_session<S: Alter>(
     tx: &mut Transaction<'_, S>,
     client: u64,
-    session: &Session,
+    session: &SessionRow,
 ) -> Result<(), Error>
     ensures same { tx.new.conn.ghost_name ≡ tx.old.conn.ghost_name }
     ensures ok { HasCleanDisk (state S.Store tx.new.conn.now) → OnOk result (Changed (PutSession client session.now ∷ []) (state S.Store tx.old.conn.now) (state S.Store tx.new.conn.now)) }

@@ -1,4 +1,4 @@
-use Rattle.hosting.specs.declared.tellings.Told.TheVariants.{Touches}
+use Rattle.hosting.specs.declared.tellings.MasterFrame.TheVariants.{Touches}
 use Rattle.hosting.proofs.Hearings.{text_made, text_refused}
 use Rattle.hosting.proofs.heard.read_name.Goals as goal
 

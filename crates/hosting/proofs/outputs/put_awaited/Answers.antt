@@ -1,6 +1,6 @@
 use Rattle.std.proofs.Common.{◌<◌, length, get_or, arith}
 use Rattle.std.proofs.lemmas.List.{get_or_default}
-use Rattle.hosting.specs.declared.tellings.Told.TheVariants.{Awaited}
+use Rattle.hosting.specs.declared.tellings.MasterFrame.TheVariants.{Awaited}
 use Rattle.hosting.proofs.Streaming.{puts_none, puts_next, puts_all}
 use Rattle.hosting.proofs.outputs.put_awaited.Goals as goal
 

@@ -1,5 +1,5 @@
 use Rattle.std.proofs.Common.{take, map}
-use Rattle.hosting.specs.declared.tellings.Told.TheVariants.{Awaited}
+use Rattle.hosting.specs.declared.tellings.MasterFrame.TheVariants.{Awaited}
 use Rattle.hosting.specs.Replies.{Puts}
 use Rattle.hosting.proofs.outputs.put_awaited.Given as goal
 

@@ -1,5 +1,5 @@
 use Rattle.std.proofs.Common.{[], ◌∷◌, map}
-use Rattle.hosting.specs.declared.tellings.Told.TheVariants.{Waits, Touches, Awaited}
+use Rattle.hosting.specs.declared.tellings.MasterFrame.TheVariants.{Waits, Touches, Awaited}
 use Rattle.hosting.proofs.Streaming.{puts_behind, then_puts, puts_at, puts_if_at}
 use Rattle.hosting.proofs.outputs.put_delay.Goals as goal
 

@@ -1,5 +1,5 @@
 use Rattle.std.proofs.Common.{arith}
-use Rattle.hosting.specs.declared.tellings.Told.TheVariants.{Touches}
+use Rattle.hosting.specs.declared.tellings.MasterFrame.TheVariants.{Touches}
 use Rattle.hosting.proofs.Streaming.{puts_none, puts_next, puts_all}
 use Rattle.hosting.proofs.outputs.put_names.Goals as goal
 

@@ -1,5 +1,5 @@
 use Rattle.std.proofs.Common.{take, map}
-use Rattle.hosting.specs.declared.tellings.Told.TheVariants.{Touches}
+use Rattle.hosting.specs.declared.tellings.MasterFrame.TheVariants.{Touches}
 use Rattle.hosting.specs.Replies.{Puts}
 use Rattle.hosting.proofs.outputs.put_names.Given as goal
 

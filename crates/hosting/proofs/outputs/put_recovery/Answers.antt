@@ -1,7 +1,7 @@
 use Rattle.std.proofs.Common.{[], ◌∷◌, map, Option, sym, subst}
 use Rattle.std.specs.Prelude.{OnOk}
 use Rattle.hosting.specs.declared.standing.Recovery.{Recovery}
-use Rattle.hosting.specs.declared.tellings.Told.TheVariants.{Recovers, Awaited}
+use Rattle.hosting.specs.declared.tellings.MasterFrame.TheVariants.{Recovers, Awaited}
 use Rattle.hosting.specs.Replies.{Puts, recovery_told}
 use Rattle.hosting.proofs.Streaming.{then_puts, puts_if_at}
 use Rattle.hosting.proofs.outputs.put_recovery.Goals as goal

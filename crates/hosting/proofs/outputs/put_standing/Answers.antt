@@ -1,5 +1,5 @@
 use Rattle.std.proofs.Common.{[], ◌∷◌}
-use Rattle.hosting.specs.declared.tellings.Told.TheVariants.{Counts}
+use Rattle.hosting.specs.declared.tellings.MasterFrame.TheVariants.{Counts}
 use Rattle.hosting.specs.Replies.{recovery_told, delays_told}
 use Rattle.hosting.proofs.Streaming.{puts_behind, then_puts, delays_if_at}
 use Rattle.hosting.proofs.outputs.put_standing.Goals as goal

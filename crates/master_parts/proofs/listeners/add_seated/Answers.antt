@@ -4,7 +4,7 @@ use Rattle.std.specs.Map.{keys_of}
 use Rattle.std.specs.declared.ops.Bound.TheVariants.{Included, Excluded}
 use Rattle.std.specs.BTreeMap.Range.{entries_between}
 use Rattle.master_parts.specs.declared.handles.HandleKey.{HandleKey}
-use Rattle.master_parts.specs.declared.listeners.Seat.{Seat}
+use Rattle.master_parts.specs.declared.listeners.ListenerPlace.{ListenerPlace}
 use Rattle.master_parts.specs.Listeners.{seat_order}
 use Rattle.master_parts.proofs.PlacedHandles.{collect_first, collect_more, collect_last}
 use Rattle.master_parts.proofs.Seats.{exact_seat, seats_on, range_on_seats, seated_on}
@@ -22,7 +22,7 @@ loop-key-preserved c =
 
 pub returns-clause-found : goal.returns-clause-found
 returns-clause-found c =
-    let P : List (Seat × HandleKey) → Type 0 = λ l. IsStrictlySortedBy seat_order (keys_of l) in
+    let P : List (ListenerPlace × HandleKey) → Type 0 = λ l. IsStrictlySortedBy seat_order (keys_of l) in
     let sorted : P c.args.seats.now = search rules in
     seated_on c.args.instance c.args.subject c.args.seats.now c.loop-key.keys sorted
     (collect_last seat_order (λ e. e.1) (seats_on c.args.instance c.args.subject c.args.seats.now) c.loop-key.key-iterator c.args.keys.now c.loop-key.keys c.in-None.ensures.steps.0 c.loop-key.invariant)

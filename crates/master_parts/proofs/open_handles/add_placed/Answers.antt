@@ -4,7 +4,7 @@ use Rattle.std.specs.Map.{keys_of}
 use Rattle.std.specs.declared.ops.Bound.TheVariants.{Included, Excluded}
 use Rattle.std.specs.BTreeMap.Range.{entries_between}
 use Rattle.master_parts.specs.declared.handles.HandleKey.{HandleKey}
-use Rattle.master_parts.specs.declared.open_handles.Place.{Place}
+use Rattle.master_parts.specs.declared.open_handles.PlaceOnNode.{PlaceOnNode}
 use Rattle.master_parts.specs.OpenHandles.{place_order}
 use Rattle.master_parts.proofs.PlacedHandles.{exact_place, places_on, collect_first, collect_more, collect_last, range_on, placed_on}
 use Rattle.master_parts.proofs.open_handles.add_placed.Goals as goal
@@ -21,7 +21,7 @@ loop-key-preserved c =
 
 pub returns-clause-found : goal.returns-clause-found
 returns-clause-found c =
-    let P : List (Place × HandleKey) → Type 0 = λ l. IsStrictlySortedBy place_order (keys_of l) in
+    let P : List (PlaceOnNode × HandleKey) → Type 0 = λ l. IsStrictlySortedBy place_order (keys_of l) in
     let sorted : P c.args.places.now = search rules in
     placed_on c.args.instance c.args.places.now c.loop-key.keys sorted
     (collect_last place_order (λ e. e.1) (places_on c.args.instance c.args.places.now) c.loop-key.key-iterator c.args.keys.now c.loop-key.keys c.in-None.ensures.steps.0 c.loop-key.invariant)

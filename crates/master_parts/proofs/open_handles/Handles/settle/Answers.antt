@@ -3,7 +3,7 @@ use Rattle.std.specs.List.Sorted.{IsStrictlySortedBy}
 use Rattle.std.specs.Map.{keys_of, remove_entry}
 use Rattle.std.specs.BTreeMap.{is_at}
 use Rattle.master_parts.specs.declared.handles.HandleKey.{HandleKey}
-use Rattle.master_parts.specs.declared.open_handles.Place.{Place}
+use Rattle.master_parts.specs.declared.open_handles.PlaceOnNode.{PlaceOnNode}
 use Rattle.master_parts.specs.OpenHandles.{place_order}
 use Rattle.master_parts.proofs.PlacedHandles.{placed_settled}
 use Rattle.master_parts.proofs.Seats.{seated_settled}
@@ -11,7 +11,7 @@ use Rattle.master_parts.proofs.open_handles.Handles.settle.Goals as goal
 
 pub invariant_of-self : goal.invariant_of-self
 invariant_of-self c =
-    let P : List (Place × HandleKey) → Type 0 = λ l. IsStrictlySortedBy place_order (keys_of l) in
+    let P : List (PlaceOnNode × HandleKey) → Type 0 = λ l. IsStrictlySortedBy place_order (keys_of l) in
     let sorted : P c.self.inside.places = search rules in
     let removed : c.remove.new.self ≡ remove_entry (is_at (place_order c.of.result)) c.self.inside.places = search rules in
     let other = c.is_open_on.ensures c.if-is_open_on.false in (

@@ -28,7 +28,7 @@ use denote.Triple.Walked.{says, Stays, stay_dropped, walk_of, ends_at, walk_Meet
 use Rattle.rights_core.specs.Steps.{after_step}
 use Rattle.rights_core.proofs.Walks.{none, none_made}
 use Rattle.rights_core.specs.contracts.history.History as History
-use Rattle.rights_core.specs.contracts.history.Step as Step
+use Rattle.rights_core.specs.contracts.history.RightsStep as RightsStep
 use Rattle.rights_core.specs.contracts.history.History.then as F
 use Rattle.rights_core.specs.contracts.history.History.then.Key.{name as #self}
 use Rattle.rights_core.proofs.history.History.then.Statement as stated
@@ -43,7 +43,7 @@ ended = F.ended
 abbrev stayed : Stays ended.signature.params ended.kept
 stayed = (
   stay_dropped (RefOf (0 ∷ []) tt (plain (λ _. History.the_row)) (λ _. tt)) yes,
-  (stay_dropped (RefOf (1 ∷ []) tt (plain (λ κs. Step.the_row (named_lft 3 2 tt κs))) (λ _. tt)) yes, tt),
+  (stay_dropped (RefOf (1 ∷ []) tt (plain (λ κs. RightsStep.the_row (named_lft 3 2 tt κs))) (λ _. tt)) yes, tt),
 )
 
 module _ {M : Type 1} {𝓤 : Ura M} (𝓛 : Logic 𝓤) (at_mem : Memory → SProp 𝓤) (run : Routine → Fun 𝓤) where
@@ -82,7 +82,7 @@ module _ {M : Type 1} {𝓤 : Ura M} (𝓛 : Logic 𝓤) (at_mem : Memory → SP
   meets 𝓣 =
       walk_Meets 𝓛 ended stayed (
         Goes-dropped 𝓛 3 (RefOf (0 ∷ []) tt (plain (λ _. History.the_row)) (λ _. tt)) yes (λ κs x f. refl),
-        (Goes-dropped 𝓛 3 (RefOf (1 ∷ []) tt (plain (λ κs. Step.the_row (named_lft 3 2 tt κs))) (λ _. tt)) yes (λ κs x f. refl), tt),
+        (Goes-dropped 𝓛 3 (RefOf (1 ∷ []) tt (plain (λ κs. RightsStep.the_row (named_lft 3 2 tt κs))) (λ _. tt)) yes (λ κs x f. refl), tt),
       ) held
       (WpFn 𝓤 H 𝓣.C 𝓣.Λ function) (WpFn-mono 𝓤 H 𝓛.laws 𝓣 function) (walks 𝓣.C 𝓣.Λ)
 

@@ -5,7 +5,7 @@ use Rattle.client_core.specs.Asks.{ask_step}
 use Rattle.left_right.specs.Sides.{view}
 use Rattle.node_core.specs.Limits.{number_end}
 use Rattle.share_cell.specs.Owed.{ops_of}
-use Rattle.share_cell.specs.declared.keeper.Kept.TheVariants as kepts
+use Rattle.share_cell.specs.declared.keeper.LateAnswer.TheVariants as kepts
 use Rattle.share_cell.proofs.Owing.{led, owes_next}
 use Rattle.share_cell.proofs.Refusing.{ask_stays, same_client, has_room, refused}
 use Rattle.share_cell.proofs.keeper.Keeper.ask.Goals as goal

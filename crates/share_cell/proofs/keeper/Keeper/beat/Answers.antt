@@ -3,7 +3,7 @@ use Rattle.client_core.specs.State.{ClientState}
 use Rattle.client_core.specs.Beats.{beat_step}
 use Rattle.left_right.specs.Sides.{view}
 use Rattle.node_core.specs.Limits.{number_end}
-use Rattle.share_cell.specs.declared.keeper.Kept.TheVariants as kepts
+use Rattle.share_cell.specs.declared.keeper.LateAnswer.TheVariants as kepts
 use Rattle.share_cell.proofs.Refusing.{beat_stays, same_client, has_room, refused}
 use Rattle.share_cell.proofs.keeper.Keeper.beat.Goals as goal
 

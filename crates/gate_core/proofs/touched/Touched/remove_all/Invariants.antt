@@ -1,8 +1,0 @@
-use Rattle.std.proofs.Common.{◌≡◌, ◌-◌, ℕ, List, take}
-use Rattle.std.specs.Prelude.{count_by}
-use Rattle.std.specs.Str.{bytes_eq}
-use Rattle.gate_core.specs.Filing.{count_in}
-use Rattle.gate_core.proofs.touched.Touched.remove_all.Given as goal
-
-abbrev pub invariant-loop-name : goal.invariant-loop-name
-invariant-loop-name l = (x : List ℕ) → count_in x l.self ≡ count_in x l.fn.self - count_by (bytes_eq x) (take l.name-index l.names)

@@ -1,5 +1,0 @@
-use Rattle.share_cell.proofs.Turning.{sees}
-use Rattle.share_cell.proofs.viewer.Place.ask.Goals as goal
-
-pub enter_as-requires : goal.enter_as-requires
-enter_as-requires g c x = sees _ _ x
