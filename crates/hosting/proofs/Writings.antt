@@ -48,7 +48,7 @@ too_long front back kind count le long =
     le-ltb (length (version ∷ (kind ∷ (front ++ back)))) length_end (omega (arith, le, long, length-append front back)) in
     ap (λ (b : Bool). cond b (Ok (version ∷ (kind ∷ (front ++ back)))) (Err TooLong) >>= λ bytes. Ok (counted.write bytes)) over
 
--- the parts of a block, one behind the other
+-- the parts of a block, one after the other
 pub whole_block : (head front back all : List ℕ) (kind count : ℕ) → count ≡ length front + length back + 2 → count < 2 ^ 32 → head ≡ big_bytes 4 count
     → all ≡ ((head ++ (version ∷ (kind ∷ []))) ++ front) ++ back → framed_by (kind ∷ (front ++ back)) ≡ Ok all
 whole_block head front back all kind count many short counts e =
@@ -122,7 +122,7 @@ line_too_long printed fault e = longer (version ∷ line.write printed) (0 ∷ (
 
 -- ---- counts
 
--- five parts, each put behind those before it
+-- five parts, each put after those before it
 parts_of : (a b c d e : List ℕ) → ((((([] ++ a) ++ b) ++ c) ++ d) ++ e) ≡ a ++ (b ++ (c ++ (d ++ e)))
 parts_of a b c d e =
     append_assoc ((a ++ b) ++ c) d e ∙ append_assoc (a ++ b) c (d ++ e) ∙ append_assoc a b (c ++ (d ++ e))

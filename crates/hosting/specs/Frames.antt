@@ -11,7 +11,7 @@ use Rattle.hosting.specs.declared.kinds.FrameKind.{FrameKind}
 use Rattle.hosting.specs.declared.kinds.FrameKind.TheVariants as of
 use Rattle.hosting.specs.Blocks.{versioned}
 
--- what was read, where nothing stands behind it
+-- what was read, where nothing stands after it
 abbrev pub all_of : {X : Type 0} → Result (X × List ℕ) WireFault → Result X WireFault
 all_of r = r >>= λ x. end_at x.0 x.1
 

@@ -25,7 +25,7 @@ WrittenToldIsRead = (given : MasterFrame) (bytes : List ℕ) → told.is given �
 abbrev pub ReadToldWasWritten : Type 0
 ReadToldWasWritten = (bytes : List ℕ) (given : MasterFrame) → AreBytes bytes → read_whole told bytes ≡ Ok given → told.is given × (written told given ≡ Ok bytes)
 
--- a block at the front of a stream, none too long, is what stands there next, and behind it stands the rest
+-- a block at the front of a stream, none too long, is what stands there next, and after it stands the rest
 abbrev pub FramedIsNext : Type 0
 FramedIsNext = (bytes rest : List ℕ) → length bytes ≤ block_limit → next_block (counted.write bytes ++ rest) ≡ Some (Ok bytes, rest)
 
@@ -37,6 +37,6 @@ FramesAreOf f =
     × ((first : ℕ) (rest : List ℕ) → first ≢ f.first → length (first ∷ rest) < length_end
     → (read_whole frame (first ∷ rest) ≡ Err BadVersion) × (read_whole told (first ∷ rest) ≡ Err BadVersion))
 
--- whatever a master tells, however long, is what stands next in the stream to the one who reads blocks of the limit of answers, and behind it stands the rest
+-- whatever a master tells, however long, is what stands next in the stream to the one who reads blocks of the limit of answers, and after it stands the rest
 abbrev pub ToldIsNext : Type 0
 ToldIsNext = (given : MasterFrame) (bytes rest : List ℕ) → written told given ≡ Ok bytes → next_within ANSWER_LIMIT (counted.write bytes ++ rest) ≡ Some (Ok bytes, rest)

@@ -40,7 +40,7 @@ pub fn read_frame(alloc: Global, bytes: &[u8]) -> Result<Frame, WireFault>
     }
 }
 
-// What stands behind the version.
+// What stands after the version.
 pub(crate) fn fields_of(bytes: &[u8]) -> Result<&[u8], WireFault>
     ensures begun { IfOk result (λ rest. begin_at bytes.now ≡ Ok rest.now) }
     ensures short { IfOk result (λ rest. length rest.now < 2 ^ 32) }
@@ -84,7 +84,7 @@ fn read_fields_of(alloc: Global, kind: FrameKind, bytes: &[u8]) -> Result<Frame,
     }
 }
 
-// A moment, and nothing behind it.
+// A moment, and nothing after it.
 #[tactic(auto, unfolding(codec::specs::Fields::word))]
 pub(crate) fn read_moment(bytes: &[u8]) -> Result<u64, WireFault>
     ensures { result ≡ all_of (word.read bytes.now) }
@@ -99,7 +99,7 @@ pub(crate) fn read_moment(bytes: &[u8]) -> Result<u64, WireFault>
     Ok(BigEndian::read_u64(front))
 }
 
-// A moment, and behind it all bytes of a message.
+// A moment, and after it all bytes of a message.
 fn read_message(alloc: Global, bytes: &[u8]) -> Result<Frame, WireFault>
     requires { length bytes.now < 2 ^ 32 }
     ensures { Gives WireFault.NoMemory result (all_of (frame_behind FrameKind.Message bytes.now)) }
@@ -154,7 +154,7 @@ pub(crate) fn write_word(alloc: Global, kind: u8, number: u64) -> Result<Bytes, 
     write_framed(alloc, kind, &bytes_of(number), &[])
 }
 
-// A moment, and behind it all bytes of a message.
+// A moment, and after it all bytes of a message.
 fn write_message(alloc: Global, now: u64, request: &Request) -> Result<Bytes, WireFault>
     ensures { Gives WireFault.NoMemory result (framed frame (Frame.Message now request.now)) }
 {
