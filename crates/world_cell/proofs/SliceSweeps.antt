@@ -119,7 +119,7 @@ mapped_rows : (rows : Rows) (change : Mod) (next : ℕ) → IsMapped rows (chang
 mapped_rows rows (Put name view) next = record { sessions = refl; secret = refl; epoch = refl; map = nodes_put rows.nodes name view }
 mapped_rows rows (Gone name) next = record { sessions = refl; secret = refl; epoch = refl; map = nodes_gone rows.nodes name }
 
-standing_by : (c : ℕ) (rows : Rows) (sessions : List (ℕ × of_rows.Session)) → rows.sessions ≡ sessions → standing_in rows c ≡ standing_of (lookup (is_at (nat_cmp c)) sessions)
+standing_by : (c : ℕ) (rows : Rows) (sessions : List (ℕ × of_rows.SessionRow)) → rows.sessions ≡ sessions → standing_in rows c ≡ standing_of (lookup (is_at (nat_cmp c)) sessions)
 standing_by c rows sessions is = ap (λ es. standing_of (lookup (is_at (nat_cmp c)) es)) is
 
 -- ---- who was heard from
@@ -261,7 +261,7 @@ module _ (x : List ℕ) (w : WorldState) (s : MasterState) (knows : IsKnown w s)
   -- ---- a session expires
 
   module _ (client : ℕ) (session : Session Reply) (due : IsDueToEnd s client session) where
-    abbrev ended_row : of_rows.Session
+    abbrev ended_row : of_rows.SessionRow
     ended_row = record { principal = session.principal; live = false }
 
     abbrev changes : List LockChange
@@ -527,7 +527,7 @@ module _ (x : List ℕ) (w : WorldState) (s : MasterState) (knows : IsKnown w s)
   -- ---- a client ends its session
 
   module _ (front back : List (Waiting Task)) (asked : WaitingRequest) (turn : IsNextApplied s front (tasks.Asked asked) back) (call : Call) (sequencer : Option (List ℕ)) (session : Session Reply) (work : asked.work ≡ works.Calls call sequencer) (leave : is_leave call ≡ true) (found : session_of s asked.client ≡ Some session) (live : session.live ≡ true) where
-    abbrev left_row : of_rows.Session
+    abbrev left_row : of_rows.SessionRow
     left_row = record { principal = session.principal; live = false }
 
     abbrev left_lapses : List Lapse
@@ -782,7 +782,7 @@ module _ (x : List ℕ) (w : WorldState) (s : MasterState) (knows : IsKnown w s)
       })
 
       -- a new session
-      abbrev live_row : of_rows.Session
+      abbrev live_row : of_rows.SessionRow
       live_row = record { principal = principal; live = true }
 
       abbrev begun_rows : Rows
