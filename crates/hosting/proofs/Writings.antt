@@ -20,7 +20,7 @@ use Rattle.hosting.specs.declared.frames.Frame.TheVariants as frames
 use Rattle.hosting.specs.declared.standing.MasterCounts.{MasterCounts}
 use Rattle.hosting.specs.declared.tellings.MasterFrame.TheVariants as tells
 use Rattle.hosting.specs.Blocks.{framed, framed_by}
-use Rattle.hosting.specs.Frames.{frame}
+use Rattle.hosting.specs.Frames.{frame, carried}
 use Rattle.hosting.specs.Told.{told, out_framed}
 
 of_test : (b : Bool) (x y : List ℕ) → cond b (Ok x) (Err TooLong) ≡ Ok y → x ≡ y
@@ -91,6 +91,13 @@ unfolding word
 moment_framed kind now front r e given =
     let P : List ℕ → Type 0 = λ u. Gives NoMemory r (framed_by (kind ∷ u)) in
     subst P (append-nil front ∙ e) given
+
+pub gives_carried : (now : ℕ) (front bytes : List ℕ) (r : Result (List ℕ) WireFault) → front ≡ big_bytes 8 now → Gives NoMemory r (framed_by (1 ∷ (front ++ bytes)))
+    → Gives NoMemory r (carried now bytes)
+unfolding word
+gives_carried now front bytes r e given =
+    let P : List ℕ → Type 0 = λ u. Gives NoMemory r (framed_by (1 ∷ (u ++ bytes))) in
+    subst P e given
 
 pub gives_message : (now : ℕ) (message : Request) (front bytes : List ℕ) (r : Result (List ℕ) WireFault) → front ≡ big_bytes 8 now → written request message ≡ Ok bytes
     → Gives NoMemory r (framed_by (1 ∷ (front ++ bytes))) → Gives NoMemory r (framed frame (frames.Message now message))

@@ -1,13 +1,16 @@
 -- What holds of the bytes of frames.
 use Rattle.std.specs.Prelude.{◌≡◌, ◌≢◌, ◌≤◌, ◌<◌, ℕ, List, ◌∷◌, ◌++◌, length, Some, Ok, Err}
 use Rattle.codec.specs.declared.faults.WireFault.TheVariants.{BadVersion}
-use Rattle.codec.specs.Forms.{counted, length_end, written, read_whole}
+use Rattle.codec.specs.Forms.{◌>>=◌, Form, counted, version, length_end, written, read_whole}
+use Rattle.codec.specs.Fields.{word}
+use Rattle.codec.specs.Requests.{request}
 use Rattle.codec.specs.Laws.{AreBytes, Format}
 use Rattle.hosting.specs.declared.frames.Frame.{Frame}
+use Rattle.hosting.specs.declared.frames.Frame.TheVariants as frames
 use Rattle.hosting.specs.declared.tellings.MasterFrame.{MasterFrame}
 use Rattle.hosting.specs.declared.blocks.TheConstants.{ANSWER_LIMIT}
 use Rattle.hosting.specs.Blocks.{block_limit, next_block, next_within}
-use Rattle.hosting.specs.Frames.{frame}
+use Rattle.hosting.specs.Frames.{frame, carried_fields}
 use Rattle.hosting.specs.Told.{told}
 
 -- what was written to a master is read as it was
@@ -36,6 +39,12 @@ FramesAreOf f =
     × ((given : MasterFrame) (bytes : List ℕ) → written told given ≡ Ok bytes → bytes ≡ f.first ∷ told.write given)
     × ((first : ℕ) (rest : List ℕ) → first ≢ f.first → length (first ∷ rest) < length_end
     → (read_whole frame (first ∷ rest) ≡ Err BadVersion) × (read_whole told (first ∷ rest) ≡ Err BadVersion))
+
+-- of bytes that are carried in a frame a master reads what it would read of them alone: the message, or what is wrong with them
+abbrev pub CarriedIsRead : Type 0
+CarriedIsRead =
+    (moment : ℕ) (bytes : List ℕ) → word.is moment → length (version ∷ carried_fields moment bytes) < length_end
+    → read_whole frame (version ∷ carried_fields moment bytes) ≡ (read_whole request bytes >>= λ message. Ok (frames.Message moment message))
 
 -- whatever a master tells, however long, is what stands next in the stream to the one who reads blocks of the limit of answers, and after it stands the rest
 abbrev pub ToldIsNext : Type 0

@@ -4,7 +4,7 @@ ghost use Rattle.collections.specs.Results.{Gives};
 ghost use Rattle.codec.specs.Forms.{Form, begin_at, written, read_whole};
 ghost use Rattle.codec.specs.Fields.{word};
 ghost use Rattle.hosting.specs.Blocks.{framed, framed_by};
-ghost use Rattle.hosting.specs.Frames.{all_of, frame, frame_behind};
+ghost use Rattle.hosting.specs.Frames.{all_of, frame, frame_behind, carried};
 
 use crate::blocks::{LENGTH_END, bytes_of, write_framed};
 use crate::kinds::{FRAME_KINDS, FrameKind};
@@ -163,4 +163,12 @@ fn write_message(alloc: Global, now: u64, request: &Request) -> Result<Bytes, Wi
         Ok(message) => write_framed(alloc, 1, &moment, message.as_slice()),
         Err(fault) => Err(fault),
     }
+}
+
+/// The frame by which the bytes of a client's message come to a master at a moment, with the number of all bytes in front. They go on
+/// as they came: only the master reads them. Refused is a frame of 2^32 bytes or more.
+pub fn carry_message(alloc: Global, moment: u64, message: &[u8]) -> Result<Bytes, WireFault>
+    ensures { Gives WireFault.NoMemory result (carried moment message.now) }
+{
+    write_framed(alloc, 1, &bytes_of(moment), message)
 }

@@ -175,20 +175,7 @@ no_name_in secret (Some handle) = refl
 
 leave_names : (secret : List ℕ) (call : Call) → is_leave call ≡ true → names_of (call_touched secret call) ≡ []
 leave_names secret calls.Leave h = no_name_in secret (read_handle secret [])
-leave_names secret (calls.Open opening) h = cc
-leave_names secret (calls.Close handle) h = cc
-leave_names secret (calls.Read handle) h = cc
-leave_names secret (calls.Stat handle) h = cc
-leave_names secret (calls.List handle) h = cc
-leave_names secret (calls.Set handle content generation) h = cc
-leave_names secret (calls.SetAcl handle acl generation) h = cc
-leave_names secret (calls.Delete handle) h = cc
-leave_names secret (calls.Acquire handle mode) h = cc
-leave_names secret (calls.TryAcquire handle mode) h = cc
-leave_names secret (calls.Release handle) h = cc
-leave_names secret (calls.GetSequencer handle) h = cc
-leave_names secret (calls.SetSequencer handle) h = cc
-leave_names secret (calls.CheckSequencer bytes) h = cc
+leave_names secret call h = cc
 
 -- the client whose call to end its session has its turn serves nothing any more
 abbrev pub LeavesOff : List ℕ → WorldState → MasterState → Type 0
