@@ -141,7 +141,7 @@ impl Hall {
         picture.is_refused = is_refused;
         drop(picture);
         if is_refused {
-            error!(reason = %line, "the store refuses; it is tried again, every two seconds at least");
+            error!(reason = %line, "the store refuses; it is tried again, twice a second at least");
         } else {
             info!("the store takes writes again");
         }
