@@ -14,6 +14,9 @@ const PACE: u64 = 20;
 /// How long an answer to a Beat is waited for where the lease has ended, at first and at most.
 const AGAIN: (u64, u64) = (200, 10_000);
 
+/// So much of what it did and heard last is kept of each client.
+const PAST: usize = 12;
+
 /// How a session stands.
 #[derive(Clone, Copy, Debug, PartialEq, Eq)]
 pub enum Phase {
@@ -76,13 +79,24 @@ pub enum Ended<'a> {
     Unknown,
 }
 
+/// How a client ends whom the master says that it has no session.
+#[derive(Clone, Copy, Debug, PartialEq, Eq)]
+pub enum NoSession {
+    /// It had one, and knew of it.
+    Lost,
+    /// It asked for the end of it, and the reply got lost.
+    Left,
+    /// It never heard of one: a master that was killed began it, and the next one ended it.
+    Unbegun,
+}
+
 /// What a message brought.
 #[derive(Debug, Default)]
 pub struct Heard<'a> {
     pub has_begun: bool,
     pub is_safe: bool,
     pub has_failed_over: bool,
-    pub is_lost: bool,
+    pub no_session: Option<NoSession>,
     /// Names that left the cache.
     pub forgotten: Vec<u32>,
     pub ended: Option<(Asked, Ended<'a>)>,
@@ -105,6 +119,10 @@ pub struct Client {
     pub rests_until: u64,
     /// Whether it knows of a fail-over, and has no lease of the next master yet.
     pub is_told_of_fail_over: bool,
+    /// It has asked for the end of its session.
+    is_leaving: bool,
+    /// What it sent and heard last: when, what, and which number.
+    pub past: VecDeque<(u64, &'static str, u64)>,
     epoch: u64,
     number: u64,
     calls: u64,
@@ -130,6 +148,8 @@ impl Client {
             asked: None,
             rests_until: 0,
             is_told_of_fail_over: false,
+            is_leaving: false,
+            past: VecDeque::new(),
             epoch: 0,
             number: 0,
             calls: 0,
@@ -141,6 +161,14 @@ impl Client {
             is_answered: true,
             due: 0,
         }
+    }
+
+    /// Notes what it did or heard.
+    pub fn note(&mut self, now: u64, what: &'static str, number: u64) {
+        if self.past.len() == PAST {
+            self.past.pop_front();
+        }
+        self.past.push_back((now, what, number));
     }
 
     /// Whether it has a session, as far as it knows.
@@ -194,6 +222,7 @@ impl Client {
         self.due = self.leased_until().max(now + pause);
         self.pause = if self.is_answered { pause } else { (2 * pause).min(AGAIN.1) };
         (self.sent, self.is_answered) = (now, false);
+        self.note(now, if self.phase == Phase::Starting { "start" } else { "beat" }, self.number);
         Some(match self.phase {
             Phase::Starting => wire::start(client, self.number, &self.principal),
             _ => wire::beat(client, self.epoch, self.number, self.invalidations, self.events),
@@ -217,6 +246,7 @@ impl Client {
         let bytes = call.write(client, self.epoch, self.calls);
         if matches!(call, Call::Leave) {
             self.cache.clear();
+            self.is_leaving = true;
         }
         let asked = Asked { number: self.calls, bytes, step, at: Instant::now(), range, version };
         Some(&self.asked.insert(asked).bytes)
@@ -225,6 +255,7 @@ impl Client {
     /// A message for it came.
     pub fn give<'a>(&mut self, now: u64, said: Said<'a>, names: &Names) -> Heard<'a> {
         let mut heard = Heard::default();
+        self.note_said(now, &said);
         match said {
             Said::Started { epoch, number, span } if self.phase == Phase::Starting && number == self.number => {
                 (self.phase, self.epoch, self.lease) = (Phase::Live, epoch, (self.sent, span));
@@ -245,6 +276,17 @@ impl Client {
             _ => {}
         }
         heard
+    }
+
+    fn note_said(&mut self, now: u64, said: &Said<'_>) {
+        match said {
+            Said::Started { number, .. } => self.note(now, "started", *number),
+            Said::Alive { number, .. } => self.note(now, "alive", *number),
+            Said::Reply { number, .. } => self.note(now, "reply", *number),
+            Said::Refused { refusal, .. } => self.note(now, "refused as", u64::from(*refusal)),
+            Said::NewMaster => self.note(now, "another master", 0),
+            Said::Notice(_) => {}
+        }
     }
 
     fn alive(
@@ -287,8 +329,10 @@ impl Client {
 
     fn refused(&mut self, now: u64, (epoch, number, refusal, argument): (u64, u64, u8, u64), heard: &mut Heard<'_>) {
         match (refusal, self.phase) {
-            (NO_SESSION, Phase::Starting) => heard.is_lost = true,
-            (NO_SESSION, _) if epoch >= self.epoch => heard.is_lost = true,
+            (NO_SESSION, Phase::Starting) => heard.no_session = Some(NoSession::Unbegun),
+            (NO_SESSION, _) if epoch >= self.epoch => {
+                heard.no_session = Some(if self.is_leaving { NoSession::Left } else { NoSession::Lost });
+            }
             (OLD_EPOCH, Phase::Live | Phase::Jeopardy(_)) if epoch >= self.epoch && argument > self.epoch => {
                 (self.epoch, self.invalidations, self.events) = (argument, 0, 0);
                 heard.forgotten.extend(self.cache.drain().map(|(name, _)| name));
@@ -300,7 +344,7 @@ impl Client {
             (_, Phase::Starting) if number == self.number => self.due = now + self.pause,
             _ => {}
         }
-        if heard.is_lost {
+        if heard.no_session.is_some() {
             self.phase = Phase::Lost;
         }
     }
@@ -406,8 +450,25 @@ mod tests {
         assert!(heard.has_failed_over && matches!(heard.ended, Some((_, Ended::Unknown))));
         assert_eq!((client.phase, client.cache.len(), client.due), (Phase::Live, 0, 2000));
         assert_eq!(client.beat(2000).unwrap(), wire::beat(1, 2, 3, 0, 0));
-        let lost = client.give(2010, Said::Refused { epoch: 2, number: 3, refusal: NO_SESSION, argument: 0 }, &names());
-        assert!(lost.is_lost && client.phase == Phase::Lost);
+        let lost = client.give(2010, no_session(2, 3), &names());
+        assert_eq!((lost.no_session, client.phase), (Some(NoSession::Lost), Phase::Lost));
+    }
+
+    fn no_session(epoch: u64, number: u64) -> Said<'static> {
+        Said::Refused { epoch, number, refusal: NO_SESSION, argument: 0 }
+    }
+
+    #[test]
+    fn who_never_began_or_left_has_lost_nothing() {
+        let mut client = live();
+        client.ask(Step::Leave, Call::Leave, Range { from: 0, to: 0 }, 0).unwrap();
+        client.give(2000, Said::Refused { epoch: 1, number: 2, refusal: OLD_EPOCH, argument: 2 }, &names());
+        assert_eq!(client.give(2010, no_session(1, 3), &names()).no_session, None);
+        assert_eq!(client.give(2010, no_session(2, 3), &names()).no_session, Some(NoSession::Left));
+        let mut client = Client::new("ann".into());
+        client.known = Some((1, 2));
+        client.beat(1000).unwrap();
+        assert_eq!(client.give(1010, no_session(2, 1), &names()).no_session, Some(NoSession::Unbegun));
     }
 
     // (the first one at the lease's end, and then after 200, 400, 800 and so on)

@@ -1,7 +1,7 @@
 //! All clients of the table, by events: what is due and what comes, one after the other, in one thread.
 
 use crate::cell::{Cell, principal};
-use crate::client::{Asked, Client, Ended, Heard, Phase, Step};
+use crate::client::{Asked, Client, Ended, Heard, NoSession, Phase, Step};
 use crate::counts::{Counts, kind};
 use crate::fail_overs::FailOver;
 use crate::links::{Came, Link, State};
@@ -35,6 +35,8 @@ pub struct Totals {
     pub wrong: u64,
     pub jeopardies: u64,
     pub lost: u64,
+    /// Clients that a master which was killed began a session for, and that never heard of it: each waited for the end of that.
+    pub unbegun: u64,
     /// Sessions that began, calls that were refused for now, and calls that were refused otherwise.
     pub begun: u64,
     pub put_off: u64,
@@ -246,7 +248,7 @@ impl Load {
     fn lose(&mut self, slot: usize, why: &str) {
         self.totals.lost += 1;
         if self.totals.lost <= TOLD {
-            println!("LOST at {} ms: client {:?} of slot {slot}: {why}", self.now, self.clients[slot].known);
+            println!("LOST at {} ms: client {:?} of slot {slot}: {why}: {:?}", self.now, self.clients[slot].known, self.clients[slot].past);
         }
         if let Some(over) = &mut self.fail_over {
             over.lost += 1;
@@ -311,8 +313,15 @@ impl Load {
         if let Some((asked, ended)) = heard.ended {
             self.ended(slot, asked, ended);
         }
-        if heard.is_lost {
-            self.lose(slot, "the master says that it has no session");
+        match heard.no_session {
+            Some(NoSession::Lost) => self.lose(slot, "the master says that it has no session"),
+            Some(NoSession::Left) => self.begin_anew(slot),
+            Some(NoSession::Unbegun) => {
+                self.totals.unbegun += 1;
+                println!("# client {:?} of slot {slot} never began: {:?}", self.clients[slot].known, self.clients[slot].past);
+                self.begin_anew(slot);
+            }
+            None => {}
         }
     }
 
@@ -414,6 +423,7 @@ impl Load {
         };
         let call = self.names.call(step, handle, &content);
         self.counts.sent[kind(step)] += 1;
+        self.clients[slot].note(self.now, crate::counts::KINDS[kind(step)], 0);
         if let Some(over) = self.fail_over.as_mut().filter(|over| !over.unheard.is_empty()) {
             over.waiting.insert(slot as u32);
         }

@@ -172,7 +172,7 @@ impl Admin {
     /// a page shows.
     ///
     /// ```
-    /// # let server = trials::server_of_its_own();
+    /// # let server = programs::server_of_its_own();
     /// # let address = server.admin.as_deref().unwrap();
     /// # use tillermoss::*;
     /// let shown = Admin::new(address)?.find("acl")?;

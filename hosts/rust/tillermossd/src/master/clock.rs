@@ -11,8 +11,13 @@ use tokio::time::sleep_until;
 /// busy; and a client has twelve times as long to send its next Beat: a Beat is answered three seconds before its lease ends.
 const STEP: Duration = Duration::from_millis(250);
 
+/// After so long without a reading the server was stopped, and much may have come: until that is handed on the clock stands. A reading that
+/// is late by less only costs what it is late by: on a machine that other work keeps busy many are, and a clock that stood for each of them
+/// would answer Beats when leases have ended by the clients' clocks.
+const STOP: Duration = Duration::from_secs(1);
+
 /// How long after a reading the next one begins.
-const PACE: Duration = Duration::from_millis(100);
+const PACE: Duration = Duration::from_millis(50);
 
 /// A server that saw nothing for so long was stopped.
 const AWAY: Duration = Duration::from_secs(2);
@@ -26,8 +31,8 @@ pub struct Clock {
     base: Duration,
     /// Which moment was told last.
     told: Duration,
-    /// Whether the last reading came too late.
-    is_late: bool,
+    /// Whether the server was stopped before the last reading.
+    was_stopped: bool,
     /// Whether it stands until the next one.
     stands: bool,
     /// Until when the server was there, and since when without a stop.
@@ -39,7 +44,7 @@ impl Clock {
     /// Its first moment is now.
     #[must_use]
     pub fn new(now: Instant) -> Clock {
-        Clock { read: now, base: Duration::ZERO, told: Duration::ZERO, is_late: false, stands: false, seen: now, woken: now }
+        Clock { read: now, base: Duration::ZERO, told: Duration::ZERO, was_stopped: false, stands: false, seen: now, woken: now }
     }
 
     /// What had come was read; whether it was handed on, too.
@@ -52,16 +57,16 @@ impl Clock {
             return;
         }
         self.tell(now);
-        // (after a stop it stands until what came is handed on. Where each reading is late it goes on: else it stood for good)
-        let is_late = now.saturating_duration_since(self.read) > STEP;
-        self.stands = is_late && !self.is_late;
-        (self.is_late, self.base, self.read) = (is_late, self.told, now);
+        // (after a stop it stands until what came is handed on. Where each reading comes as late it goes on: else it stood for good)
+        let was_stopped = now.saturating_duration_since(self.read) > STOP;
+        self.stands = was_stopped && !self.was_stopped;
+        (self.was_stopped, self.base, self.read) = (was_stopped, self.told, now);
     }
 
     /// The moment that the master is told, in milliseconds.
     pub fn tell(&mut self, now: Instant) -> u64 {
         let passed = now.saturating_duration_since(self.read);
-        let gone = if self.stands || passed > STEP { Duration::ZERO } else { passed };
+        let gone = if self.stands || passed > STOP { Duration::ZERO } else { passed.min(STEP) };
         self.told = self.told.max(self.base + gone);
         self.told.as_millis() as u64
     }
@@ -136,7 +141,7 @@ mod tests {
     // (stopped at 12,050, woken so much later: what was told last is told until what came is handed on)
     #[test]
     fn it_stands_while_nothing_is_read() {
-        for stop in [300, 6000, 40_000] {
+        for stop in [1000, 6000, 40_000] {
             let begun = Instant::now();
             let mut clock = at(begun, 12_000);
             assert_eq!(clock.tell(begun + ms(12_050)), 12_050);
@@ -164,7 +169,7 @@ mod tests {
         let (mut clock, mut now, mut last) = (Clock::new(begun), begun, 0);
         // (told each millisecond, as where many messages come)
         for (pause, wanted) in
-            [(10, 10), (249, 249), (250, 250), (251, 250), (900, 0), (900, 250), (251, 250), (3, 3), (20_000, 250), (3, 0), (3, 3)]
+            [(10, 10), (249, 249), (250, 250), (251, 250), (900, 250), (900, 250), (251, 250), (3, 3), (20_000, 250), (3, 0), (3, 3)]
         {
             let before = last;
             for _ in 0..pause {
@@ -173,6 +178,17 @@ mod tests {
             }
             clock.read(now, true);
             assert_eq!(last - before, wanted, "{pause}");
+        }
+    }
+
+    // (as on a machine that other work keeps busy: what is told only at a late reading counts as far as one may move)
+    #[test]
+    fn a_late_reading_costs_what_it_is_late_by() {
+        for (pause, wanted) in [(100, 1000), (250, 1000), (300, 2500 / 3), (500, 500), (1000, 250), (1001, 0)] {
+            let begun = Instant::now();
+            let mut clock = Clock::new(begun);
+            (1..=12).for_each(|turn| clock.read(begun + ms(turn * pause), true));
+            assert_eq!(clock.tell(begun + ms(12 * pause)) * 1000 / (12 * pause), wanted, "{pause}");
         }
     }
 
@@ -232,6 +248,6 @@ mod tests {
             let _ = tokio::time::timeout(ms(1), probe.is_back()).await;
             tokio::time::timeout(ms(5000), probe.is_back()).await.unwrap().unwrap();
         }
-        assert!(begun.elapsed() >= ms(200));
+        assert!(begun.elapsed() >= 2 * PACE);
     }
 }

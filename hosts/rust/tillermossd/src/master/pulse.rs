@@ -7,8 +7,8 @@ const LEAST: u64 = 5;
 
 /// How many milliseconds after a frame in which the store refused the next tick is due: each time in a row twice as many, from the
 /// first on until the last. A disk that is full has room a little later; meanwhile it is ticks that answer Beats, which are due three
-/// seconds before a lease ends.
-const REFUSED: (u64, u64) = (100, 2000);
+/// seconds before a lease ends: what a tick waits for is taken off these.
+const REFUSED: (u64, u64) = (100, 500);
 
 /// What is known of the last frame and of its answer. Each frame makes its master do what there is to do, so a tick is due only
 /// where none waits for its answer.
@@ -75,7 +75,7 @@ mod tests {
     #[test]
     fn what_the_store_refused_is_tried_at_growing_times() {
         let mut pulse = Pulse::new(1000, Some(1000));
-        for wanted in [100, 200, 400, 800, 1600, 2000, 2000] {
+        for wanted in [100, 200, 400, 500, 500] {
             pulse.answer(Some(1000), true);
             assert_eq!(pulse.rest(1000), Some(Duration::from_millis(wanted)));
         }

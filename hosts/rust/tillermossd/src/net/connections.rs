@@ -141,7 +141,7 @@ impl Hall {
         picture.is_refused = is_refused;
         drop(picture);
         if is_refused {
-            error!(reason = %line, "the store refuses; it is tried again, every two seconds at least");
+            error!(reason = %line, "the store refuses; it is tried again, twice a second at least");
         } else {
             info!("the store takes writes again");
         }
@@ -328,8 +328,8 @@ impl Hall {
             if !self.routes.is_bound(bound.client, binding) {
                 return Some("its client has a later one");
             }
-            let (principal, is_call) = (principal.clone(), asked.is_call());
-            let message = Message { client: bound.client, principal, is_call, bytes: block, place };
+            let (principal, is_call, is_start) = (principal.clone(), asked.is_call(), asked.is_start());
+            let message = Message { client: bound.client, principal, is_call, is_start, bytes: block, place };
             self.go_on(self.let_in(&asked, message, binding, outgoing));
         }
     }
