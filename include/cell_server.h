@@ -186,7 +186,7 @@ uint32_t cell_server_text(const uint8_t *block, size_t block_length, uint8_t *ro
 /* ---- what a server writes */
 
 /* To a master, each with the number of its bytes in front: it comes up at a moment; a client's message comes; it does what there is to do; it goes. Moments are milliseconds by the
- * program's clock. cell_server_message refuses bytes that are no client's message. */
+ * program's clock. cell_server_message carries bytes as they came: what is wrong with them the master tells. */
 uint32_t cell_server_up(uint64_t moment, uint8_t *room, size_t room_length, size_t *length);
 uint32_t cell_server_message(uint64_t moment, const uint8_t *message, size_t message_length, uint8_t *room, size_t room_length, size_t *length);
 uint32_t cell_server_tick(uint64_t moment, uint8_t *room, size_t room_length, size_t *length);

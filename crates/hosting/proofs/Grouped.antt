@@ -1,4 +1,4 @@
--- Groups of frames, one behind the other.
+-- Groups of frames, one after the other.
 use Rattle.std.proofs.Common.{◌≡◌, inl, inr, ℕ, List, [], ◌∷◌, ◌++◌, Option, None, Some, Result, Ok, Err, refl, sym, ap, subst, ◌∙◌, append-nil, append_assoc}
 use Rattle.std.specs.Io.KnownBytes.{Appends}
 use Rattle.std.proofs.KnownBytes.{Appends-nil, Appends-trans}
@@ -28,7 +28,7 @@ use Rattle.rows_cell.specs.declared.tables.Edit.{Edit}
 use Rattle.hosting.specs.Parted.{StandsSo, ArePartedBySteps, store_with}
 use Rattle.hosting.specs.Seats.{Hosted, with_master, without_master}
 use Rattle.hosting.specs.Streams.{FoundFrame, Answer, Turns, AreAnswers, TakesTurn, DoesFound}
-use Rattle.hosting.specs.Groups.{KeptGroup, LostGroup, TakesGroup, Groups, all_answers, ServedGroups, EndsGroups, Goes, GoesBy, course_of, ServesBehind, together, IsLosing, Gathered, IsKeptAs, IsLostAs, Keeps}
+use Rattle.hosting.specs.Groups.{group_limit, KeptGroup, LostGroup, TakesGroup, Groups, all_answers, ServedGroups, EndsGroups, Goes, GoesBy, course_of, ServesBehind, together, IsLosing, Gathered, IsKeptAs, IsLostAs, Keeps}
 use Rattle.hosting.proofs.Served.{found_turn}
 
 abbrev Known : Type 0
@@ -170,7 +170,7 @@ from_first limits first group none same = ap (λ (g : Store × GroupLimits). g.0
 limits_kept : (limits : GroupLimits) (first group : GroupState) → first.held ≡ no_pieces limits → ground group ≡ ground first → group.held.limits ≡ limits
 limits_kept limits first group none same = ap (λ (g : Store × GroupLimits). g.1) same ∙ ap (λ (h : HeldPieces). h.limits) none
 
-kept_group : (terms : GroupTerms) (text there : Known) (first group : GroupState) (told : List ℕ) (new : Hosted) → first.held ≡ no_pieces terms.limits → (g : Gathered terms.master text first group there [] told) → IsKeptAs group new
+kept_group : (terms : GroupTerms) (text there : Known) (first group : GroupState) (told : List ℕ) (new : Hosted) → first.held ≡ no_pieces terms.limits → (g : Gathered group_limit terms.master text first group there [] told) → IsKeptAs group new
     → KeptGroup terms text (together first) g.answers new there
 kept_group terms text there first group told new none g k =
     let same = from_first terms.limits first group none g.store in
@@ -180,6 +180,8 @@ kept_group terms text there first group told new none g k =
     record {
       done = together group;
       turns = g.turns;
+      few = g.few;
+      kinds = g.kinds;
       pieces = pieces;
       taken = subst Q (limits_kept terms.limits first group none g.store) k.taken;
       held = ap (λ (s : Store). store_behind s (joined pieces)) same;
@@ -187,11 +189,11 @@ kept_group terms text there first group told new none g k =
       master = k.master;
     }
 
-kept_groups : (terms : GroupTerms) (text there : Known) (first group : GroupState) (told : List ℕ) (new : Hosted) → first.held ≡ no_pieces terms.limits → (g : Gathered terms.master text first group there [] told) → IsKeptAs group new
+kept_groups : (terms : GroupTerms) (text there : Known) (first group : GroupState) (told : List ℕ) (new : Hosted) → first.held ≡ no_pieces terms.limits → (g : Gathered group_limit terms.master text first group there [] told) → IsKeptAs group new
     → Groups terms text (together first) (g.answers ∷ []) new there
 kept_groups terms text there first group told new none g k = (new, there, inr (kept_group terms text there first group told new none g k), (refl, refl))
 
-parted_so : (terms : GroupTerms) (text there : Known) (first group : GroupState) (told : List ℕ) → first.held ≡ no_pieces terms.limits → Gathered terms.master text first group there [] told
+parted_so : (terms : GroupTerms) (text there : Known) (first group : GroupState) (told : List ℕ) → first.held ≡ no_pieces terms.limits → Gathered group_limit terms.master text first group there [] told
     → ArePartedBySteps terms.master text (together first) (all_pieces group.held)
 parted_so terms text there first group told none g front back is =
     let old = together first in
@@ -203,7 +205,7 @@ parted_so terms text there first group told none g front back is =
     (parted_fronts Holds first.held group.held (ap (λ (h : HeldPieces). h.full) none) g.parted start whole front back is)
 
 lost_group : (fault : Fault) (terms : GroupTerms) (text there : Known) (first group : GroupState) (told : List ℕ) (new : Hosted) → first.held ≡ no_pieces terms.limits → IsSettled first.store
-    → Gathered terms.master text first group there [] told → IsLostAs fault group new → LostGroup terms text (together first) fault new
+    → Gathered group_limit terms.master text first group there [] told → IsLostAs fault group new → LostGroup terms text (together first) fault new
 lost_group fault terms text there first group told new none sure g k =
     let same = from_first terms.limits first group none g.store in
     let pieces = all_pieces group.held in
@@ -214,6 +216,8 @@ lost_group fault terms text there first group told new none sure g k =
       answers = g.answers;
       rest = there;
       turns = g.turns;
+      few = g.few;
+      kinds = g.kinds;
       pieces = pieces;
       taken = subst Q (limits_kept terms.limits first group none g.store) k.taken;
       settled = subst IsSettled (sym (begun terms.limits first none)) sure;
@@ -224,7 +228,7 @@ lost_group fault terms text there first group told new none sure g k =
     }
 
 pub kept_goes : (course : Course) (terms : GroupTerms) (text there before after : Known) (first group : GroupState) (told : List ℕ) (new : Hosted) → first.held ≡ no_pieces terms.limits → IsSettled first.store
-    → Gathered terms.master text first group there [] told → Keeps group told course new before after → Goes terms text (together first) course new there before after
+    → Gathered group_limit terms.master text first group there [] told → Keeps group told course new before after → Goes terms text (together first) course new there before after
 kept_goes courses.On terms text there before after first group told new none sure g k =
     let P : List ℕ → Type 0 = λ u. Appends before after u in
     let Q : List Answer → Type 0 = λ u. AreAnswers u g.bytes in
@@ -246,7 +250,7 @@ kept_goes (courses.Ends (Refused fault)) terms text there before after first gro
     let old = together first in
     (old, text, served_as terms text text before before after old old old (served_none terms text old before) refl k.1, lost_group fault terms text there first group told new none sure g k.0)
 
--- what was found behind it is done by itself
+-- what was found after it is done by itself
 pub behind_goes : (kept course : Course) (terms : GroupTerms) (found : Option (Result Frame WireFault)) (text there here before between after : Known) (old mid new : Hosted)
     → Goes terms text old kept mid there before between → ServesBehind terms kept found here mid course new between after → FoundFrame found there here
     → Goes terms text old course new here before after

@@ -45,7 +45,7 @@ pub text_cut : (bytes front text : List ℕ) (count : ℕ) → 4 ≤ length byte
     → all_of (block.read bytes) ≡ Err Cut
 text_cut bytes front text count long f b n lt = text_at bytes front text count long f b n ∙ ap (λ (s : Bool). text_by s count text) (lt-ltb (length text) count lt)
 
--- what stands behind the text
+-- what stands after the text
 ended : (count : ℕ) (text : List ℕ) → count ≤ length text → all_of (next_at count text) ≡ cond (length (drop count text) == 0) (Ok (take count text)) (Err Extra)
 ended count text le = ap (λ (s : Bool). text_by s count text) (le-ltb (length text) count le)
 

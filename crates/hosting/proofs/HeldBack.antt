@@ -1,4 +1,4 @@
--- Edits behind others that are held back.
+-- Edits after others that are held back.
 use Rattle.std.proofs.Common.{◌≡◌, Bool, true, false, List, [], ◌∷◌, ◌++◌, refl, ap, ◌∙◌, append-nil, arith}
 use Rattle.rows_cell.specs.declared.tables.Rows.{Rows}
 use Rattle.rows_cell.specs.declared.tables.Edit.{Edit}
@@ -18,7 +18,7 @@ left_behind [] (edit ∷ back) leave mid rows same = refl
 left_behind (edit ∷ front) [] leave mid rows same = ap (λ (r : Rows). r ∷ []) (same refl)
 left_behind (edit ∷ front) (other ∷ back) leave mid rows same = refl
 
--- whoever sees what is held back as committed sees what comes behind it as committed next
+-- whoever sees what is held back as committed sees what comes after it as committed next
 pub held_back : (store : Store) (held change : List Edit) → IsCommitted change (store_behind store held) (store_behind store (held ++ change))
 held_back store held change = record {
   cell = refl;

@@ -5,6 +5,7 @@ pub mod FrameLaws
 pub mod ToldLaws
 pub mod Readings
 pub mod Writings
+pub mod Carried
 pub mod Hearings
 pub mod Streaming
 pub mod Passages

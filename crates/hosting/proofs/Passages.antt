@@ -41,7 +41,7 @@ head_whole (Some text) (Some mid) None head count block c four counts b = b
 head_whole (Some text) (Some mid) (Some rest) head count block c four counts b =
     next_counted head mid text four c ∙ ap (λ (n : ℕ). Some (block_at n mid)) (sym counts) ∙ ap (λ (p : Block × List ℕ). Some p) b
 
--- ---- behind it
+-- ---- after it
 
 pub behind_over : (text rest : Option (List ℕ)) (count : ℕ) → block_limit < count → Drops count text rest → BehindIs count text (Err TooLong) rest
 behind_over None rest count over d = tt

@@ -36,7 +36,7 @@ pub moment_refused : {X : Type 0} (make : ℕ → X) (bytes : List ℕ) (r : Res
     → all_of (word.read bytes >>= wrapped make) ≡ Err fault
 moment_refused make bytes r fault e was = wraps make (word.read bytes) ∙ ap (λ (s : Result ℕ WireFault). s >>= λ y. Ok (make y)) (sym e ∙ was)
 
--- ---- a number, and a message behind it
+-- ---- a number, and a message after it
 
 abbrev paired : {A B : Type 0} → A → B × List ℕ → Result ((A × B) × List ℕ) WireFault
 paired n b = Ok ((n, b.0), b.1)
@@ -56,7 +56,7 @@ outer_of make f n (Ok rest) = inner_of make n (f.read rest)
 abbrev pub both_of : {A B : Type 0} → Form B → A × List ℕ → Result ((A × B) × List ℕ) WireFault
 both_of f a = (version_at a.1 >>= λ rest. f.read rest) >>= paired a.0
 
--- what stands behind the number is read as a whole message
+-- what stands after the number is read as a whole message
 pub parts_of : {A B X : Type 0} (make : A → B → X) (f : Form B) (r : Result (A × List ℕ) WireFault) (n : A) (back : List ℕ) → r ≡ Ok (n, back)
     → nat_lt (length back) length_end ≡ true → all_of ((r >>= both_of f) >>= joined make) ≡ (read_whole f back >>= λ q. Ok (make n q))
 parts_of make f r n back e short =
@@ -81,7 +81,7 @@ pub moment_cut : (bytes : List ℕ) → length bytes < 8 → all_of (word.read b
 unfolding word
 moment_cut bytes short = rw (lt-ltb (length bytes) 8 short) refl
 
--- a moment, and whether bytes stand behind it
+-- a moment, and whether bytes stand after it
 pub moment_at : (bytes : List ℕ) → 8 ≤ length bytes → all_of (word.read bytes) ≡ end_at (big_number 8 (take 8 bytes)) (drop 8 bytes)
 moment_at bytes long = ap all_of (word_read bytes long)
 

@@ -93,7 +93,7 @@ beats_once now old new swept step same = record { step = step; store = ap (λ (s
 pub beat_stops : (now : ℕ) (old new : CellState) (fault : Fault) → (fault ≢ NoMemory → beats_step old.master now ≡ Err fault) → new ≡ old → BeatStops now old fault new
 beat_stops now old new fault why same = record { why = why; same = same }
 
--- behind sweeps that ended so
+-- after sweeps that ended so
 pub behind_shut : (now : ℕ) (shut : Bool) (old new : CellState) (beats : Round) → shut ≡ true → BeatsBehind now true old beats new → BeatsBehind now shut old beats new
 behind_shut now shut old new beats is answered =
     let P : Bool → Type 0 = λ b. BeatsBehind now b old beats new in

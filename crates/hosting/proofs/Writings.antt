@@ -20,7 +20,7 @@ use Rattle.hosting.specs.declared.frames.Frame.TheVariants as frames
 use Rattle.hosting.specs.declared.standing.MasterCounts.{MasterCounts}
 use Rattle.hosting.specs.declared.tellings.MasterFrame.TheVariants as tells
 use Rattle.hosting.specs.Blocks.{framed, framed_by}
-use Rattle.hosting.specs.Frames.{frame}
+use Rattle.hosting.specs.Frames.{frame, carried}
 use Rattle.hosting.specs.Told.{told, out_framed}
 
 of_test : (b : Bool) (x y : List ℕ) → cond b (Ok x) (Err TooLong) ≡ Ok y → x ≡ y
@@ -48,7 +48,7 @@ too_long front back kind count le long =
     le-ltb (length (version ∷ (kind ∷ (front ++ back)))) length_end (omega (arith, le, long, length-append front back)) in
     ap (λ (b : Bool). cond b (Ok (version ∷ (kind ∷ (front ++ back)))) (Err TooLong) >>= λ bytes. Ok (counted.write bytes)) over
 
--- the parts of a block, one behind the other
+-- the parts of a block, one after the other
 pub whole_block : (head front back all : List ℕ) (kind count : ℕ) → count ≡ length front + length back + 2 → count < 2 ^ 32 → head ≡ big_bytes 4 count
     → all ≡ ((head ++ (version ∷ (kind ∷ []))) ++ front) ++ back → framed_by (kind ∷ (front ++ back)) ≡ Ok all
 whole_block head front back all kind count many short counts e =
@@ -92,6 +92,13 @@ moment_framed kind now front r e given =
     let P : List ℕ → Type 0 = λ u. Gives NoMemory r (framed_by (kind ∷ u)) in
     subst P (append-nil front ∙ e) given
 
+pub gives_carried : (now : ℕ) (front bytes : List ℕ) (r : Result (List ℕ) WireFault) → front ≡ big_bytes 8 now → Gives NoMemory r (framed_by (1 ∷ (front ++ bytes)))
+    → Gives NoMemory r (carried now bytes)
+unfolding word
+gives_carried now front bytes r e given =
+    let P : List ℕ → Type 0 = λ u. Gives NoMemory r (framed_by (1 ∷ (u ++ bytes))) in
+    subst P e given
+
 pub gives_message : (now : ℕ) (message : Request) (front bytes : List ℕ) (r : Result (List ℕ) WireFault) → front ≡ big_bytes 8 now → written request message ≡ Ok bytes
     → Gives NoMemory r (framed_by (1 ∷ (front ++ bytes))) → Gives NoMemory r (framed frame (frames.Message now message))
 gives_message now message front bytes r e was given =
@@ -122,7 +129,7 @@ line_too_long printed fault e = longer (version ∷ line.write printed) (0 ∷ (
 
 -- ---- counts
 
--- five parts, each put behind those before it
+-- five parts, each put after those before it
 parts_of : (a b c d e : List ℕ) → ((((([] ++ a) ++ b) ++ c) ++ d) ++ e) ≡ a ++ (b ++ (c ++ (d ++ e)))
 parts_of a b c d e =
     append_assoc ((a ++ b) ++ c) d e ∙ append_assoc (a ++ b) c (d ++ e) ∙ append_assoc a b (c ++ (d ++ e))

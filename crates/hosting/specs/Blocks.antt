@@ -5,7 +5,7 @@ use Rattle.codec.specs.declared.faults.WireFault.{WireFault}
 use Rattle.codec.specs.declared.faults.WireFault.TheVariants.{TooLong, Cut}
 use Rattle.codec.specs.Forms.{◌>>=◌, Form, counted, version, version_at, short_of, written}
 
--- behind the version
+-- after the version
 abbrev pub versioned : {X : Type 0} → Form X → Form X
 versioned f = record {
   is = f.is;

@@ -1,5 +1,5 @@
 -- The forms of the frames that a master is sent.
-use Rattle.std.specs.Prelude.{ℕ, List, [], ◌∷◌, Result}
+use Rattle.std.specs.Prelude.{ℕ, List, [], ◌∷◌, ◌++◌, Result}
 use Rattle.tags_cell.specs.declared.messages.requests.Request.{Request}
 use Rattle.codec.specs.declared.faults.WireFault.{WireFault}
 use Rattle.codec.specs.Forms.{◌>>=◌, Form, nothing, ◌⊗◌, choice, of_kind, behind, end_at}
@@ -9,15 +9,23 @@ use Rattle.hosting.specs.declared.frames.Frame.{Frame}
 use Rattle.hosting.specs.declared.frames.Frame.TheVariants as frames
 use Rattle.hosting.specs.declared.kinds.FrameKind.{FrameKind}
 use Rattle.hosting.specs.declared.kinds.FrameKind.TheVariants as of
-use Rattle.hosting.specs.Blocks.{versioned}
+use Rattle.hosting.specs.Blocks.{versioned, framed_by}
 
--- what was read, where nothing stands behind it
+-- what was read, where nothing stands after it
 abbrev pub all_of : {X : Type 0} → Result (X × List ℕ) WireFault → Result X WireFault
 all_of r = r >>= λ x. end_at x.0 x.1
 
 -- a moment, and all bytes of a message
 abbrev pub message_fields : Form (ℕ × Request)
 message_fields = word ⊗ versioned request
+
+-- a moment, and bytes as they came, in the place of a message
+abbrev pub carried_fields : ℕ → List ℕ → List ℕ
+carried_fields moment bytes = 1 ∷ (word.write moment ++ bytes)
+
+-- the same as a block; or that there would be too many bytes
+abbrev pub carried : ℕ → List ℕ → Result (List ℕ) WireFault
+carried moment bytes = framed_by (carried_fields moment bytes)
 
 abbrev pub all_frames : List FrameKind
 all_frames = of.Up ∷ of.Message ∷ of.Tick ∷ of.Down ∷ of.State ∷ []

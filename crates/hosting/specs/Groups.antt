@@ -1,6 +1,6 @@
 -- Frames that are there together: each is done in its turn, over changes that are held back; then all that they changed is committed in
 -- pieces that the store takes, and only then it is told of them.
-use Rattle.std.specs.Prelude.{◌≡◌, ◌⊎◌, ⊤, ℕ, List, [], ◌∷◌, ◌++◌, Option, Some, None, Result, Ok, Err}
+use Rattle.std.specs.Prelude.{◌≡◌, ◌⊎◌, ◌≤◌, ⊤, ℕ, List, [], ◌∷◌, ◌++◌, length, Option, Some, None, Result, Ok, Err}
 use Rattle.std.specs.Io.KnownBytes.{Appends, IsAtEnd}
 use Rattle.node_core.specs.declared.refusals.Fault.{Fault}
 use Rattle.rows_cell.specs.declared.settings.MasterTerms.{MasterTerms}
@@ -15,6 +15,7 @@ use Rattle.hosting.specs.Parted.{PartsFrame, PartsFrames, ArePartedBySteps}
 use Rattle.hosting.specs.declared.pieces.GroupTerms.{GroupTerms}
 use Rattle.hosting.specs.declared.frames.Frame.{Frame}
 use Rattle.hosting.specs.declared.seats.FrameReply.{FrameReply}
+use Rattle.hosting.specs.declared.seats.FrameReply.TheVariants as replies
 use Rattle.hosting.specs.declared.stops.StreamStop.{StreamStop}
 use Rattle.hosting.specs.declared.stops.StreamStop.TheVariants.{Unread, Unwritten, NoMemory}
 use Rattle.hosting.specs.declared.stops.GroupStop.{GroupStop}
@@ -38,11 +39,27 @@ Known = Option (List ℕ)
 
 -- ---- groups
 
--- frames were done, each by the master that the one before it left, over rows that nobody else sees; then all that they changed was
+-- the most frames of a group
+abbrev pub group_limit : ℕ
+group_limit = 256
+
+-- a message, or the time
+abbrev pub IsOfGroup : FrameReply → Type 0
+IsOfGroup (replies.Answered answered) = ⊤
+IsOfGroup (replies.Swept settled) = ⊤
+IsOfGroup reply = ⊥
+
+abbrev pub AreOfGroup : List Answer → Type 0
+AreOfGroup [] = ⊤
+AreOfGroup (answer ∷ answers) = IsOfGroup answer.reply × AreOfGroup answers
+
+-- frames, messages and ticks alone and at most 256, were done, each by the master that the one before it left, over rows that nobody else sees; then all that they changed was
 -- committed, piece by piece
 pub record KeptGroup (terms : GroupTerms) (text : Known) (old : Hosted) (answers : List Answer) (new : Hosted) (rest : Known) : Type 0 where
   pub done : Hosted
   pub turns : Turns terms.master text old answers done rest
+  pub few : length answers ≤ group_limit
+  pub kinds : AreOfGroup answers
   pub pieces : List (List Edit)
   pub taken : AreTaken terms.limits pieces
   pub held : done.store ≡ store_behind old.store (joined pieces)
@@ -56,6 +73,8 @@ pub record LostGroup (terms : GroupTerms) (text : Known) (old : Hosted) (fault :
   pub answers : List Answer
   pub rest : Known
   pub turns : Turns terms.master text old answers done rest
+  pub few : length answers ≤ group_limit
+  pub kinds : AreOfGroup answers
   pub pieces : List (List Edit)
   pub taken : AreTaken terms.limits pieces
   pub settled : IsSettled old.store
@@ -64,11 +83,11 @@ pub record LostGroup (terms : GroupTerms) (text : Known) (old : Hosted) (fault :
   pub refused : IsCutShort fault pieces old.store new.store
   pub gone : new.master ≡ None
 
--- frames were done by themselves, one behind the other; or as a group
+-- frames were done by themselves, one after the other; or as a group
 abbrev pub TakesGroup : GroupTerms → Known → Hosted → List Answer → Hosted → Known → Type 0
 TakesGroup terms text old answers new rest = Turns terms.master text old answers new rest ⊎ KeptGroup terms text old answers new rest
 
--- groups, one behind the other
+-- groups, one after the other
 abbrev pub Groups : GroupTerms → Known → Hosted → List (List Answer) → Hosted → Known → Type 0
 Groups terms text old [] new rest = (new ≡ old) × (rest ≡ text)
 Groups terms text old (group ∷ groups) new rest =
@@ -127,7 +146,7 @@ course_of turned_as.On = courses.On
 course_of turned_as.Over = courses.Over
 course_of (turned_as.Stopped stop) = courses.Ends (Stopped stop)
 
--- what was found behind a group that was kept was done by itself
+-- what was found after a group that was kept was done by itself
 abbrev pub ServesBehind : GroupTerms → Course → Option (Result Frame WireFault) → Known → Hosted → Course → Hosted → Known → Known → Type 0
 ServesBehind terms courses.On found here old course new before after = GoesBy terms found here old course new here before after
 ServesBehind terms kept found here old course new before after = (course ≡ kept) × (new ≡ old) × (after ≡ before)
@@ -136,7 +155,7 @@ ServesBehind terms kept found here old course new before after = (course ≡ kep
 abbrev pub together : GroupState → Hosted
 together group = with_master (seen group)
 
--- a frame was done, what it changed is held back, and what is told of it stands behind what was told
+-- a frame was done, what it changed is held back, and what is told of it stands after what was told
 pub record HeldTurn (sent : Result Frame WireFault) (old new : GroupState) (before after : List ℕ) : Type 0 where
   pub answer : Answer
   pub bytes : List ℕ
@@ -146,10 +165,11 @@ pub record HeldTurn (sent : Result Frame WireFault) (old new : GroupState) (befo
   pub told : after ≡ before ++ bytes
   pub store : ground new ≡ ground old
   pub parted : PartsFrame sent old new
+  pub kind : IsOfGroup answer.reply
 
 -- a frame was done so, or it is none that is done in a group
 abbrev pub DoesHeld : Result Frame WireFault → GroupState → Option FrameReply → GroupState → Type 0
-DoesHeld sent old (Some reply) new = ((terms : MasterTerms) → Does terms sent (together old) reply (together new)) × (ground new ≡ ground old) × PartsFrame sent old new
+DoesHeld sent old (Some reply) new = ((terms : MasterTerms) → Does terms sent (together old) reply (together new)) × (ground new ≡ ground old) × PartsFrame sent old new × IsOfGroup reply
 DoesHeld sent old None new = new ≡ old
 
 -- why a group is lost before it is committed
@@ -157,7 +177,7 @@ abbrev pub IsLosing : StreamStop → Type 0
 IsLosing Unwritten = ⊥
 IsLosing stop = ⊤
 
--- all that is told of a frame, with a deadline, stands behind what was told; or there is no memory for it
+-- all that is told of a frame, with a deadline, stands after what was told; or there is no memory for it
 abbrev pub PutsTold : Tried → FrameReply → Option ℕ → List ℕ → List ℕ → Type 0
 PutsTold tries.Done reply deadline before after = (bytes : List ℕ) × AreBlocks (all_told reply deadline) bytes × (after ≡ before ++ bytes)
 PutsTold tries.Alone reply deadline before after = ⊥
@@ -173,7 +193,7 @@ Tries sent old tries.Done new before after = HeldTurn sent old new before after
 Tries sent old tries.Alone new before after = (new ≡ old) × (after ≡ before)
 Tries sent old (tries.Stopped stop) new before after = IsLosing stop × (ground new ≡ ground old)
 
--- what stands behind a frame: nobody looked; or it was found; or it can't be read
+-- what stands after a frame: nobody looked; or it was found; or it can't be read
 abbrev pub StandsBehind : Behind → Known → Known → Type 0
 StandsBehind behinds.Nothing before after = after ≡ before
 StandsBehind (behinds.Found found) before after = FoundFrame found before after
@@ -183,33 +203,35 @@ abbrev pub NextThere : Onward → Known → Known → Type 0
 NextThere (onwards.Next sent) before after = FrameIs before sent after
 NextThere (onwards.Ends behind) before after = StandsBehind behind before after
 
--- frames were done, one behind the other, what they changed is held back, and what is told of them stands in a list
-pub record Gathered (terms : MasterTerms) (text : Known) (old new : GroupState) (rest : Known) (before after : List ℕ) : Type 0 where
+-- so many frames at most were done, one after the other, what they changed is held back, and what is told of them stands in a list
+pub record Gathered (most : ℕ) (terms : MasterTerms) (text : Known) (old new : GroupState) (rest : Known) (before after : List ℕ) : Type 0 where
   pub answers : List Answer
   pub bytes : List ℕ
   pub turns : Turns terms text (together old) answers (together new) rest
+  pub few : length answers ≤ most
+  pub kinds : AreOfGroup answers
   pub told : AreAnswers answers bytes
   pub behind : after ≡ before ++ bytes
   pub store : ground new ≡ ground old
   pub parted : PartsFrames terms text old new
 
--- and what stands behind them was looked for
-abbrev pub Gathers : MasterTerms → Known → GroupState → Behind → GroupState → Known → List ℕ → List ℕ → Type 0
-Gathers terms text old (behinds.Lost stop) new rest before after = IsLosing stop × (ground new ≡ ground old)
-Gathers terms text old behind new rest before after = (there : Known) × Gathered terms text old new there before after × StandsBehind behind there rest
+-- and what stands after them was looked for
+abbrev pub Gathers : ℕ → MasterTerms → Known → GroupState → Behind → GroupState → Known → List ℕ → List ℕ → Type 0
+Gathers most terms text old (behinds.Lost stop) new rest before after = IsLosing stop × (ground new ≡ ground old)
+Gathers most terms text old behind new rest before after = (there : Known) × Gathered most terms text old new there before after × StandsBehind behind there rest
 
-abbrev pub GathersOn : MasterTerms → Known → GroupState → Onward → GroupState → Known → List ℕ → List ℕ → Type 0
-GathersOn terms text old (onwards.Next sent) new rest before after = (there : Known) × Gathered terms text old new there before after × FrameIs there sent rest
-GathersOn terms text old (onwards.Ends behind) new rest before after = Gathers terms text old behind new rest before after
+abbrev pub GathersOn : ℕ → MasterTerms → Known → GroupState → Onward → GroupState → Known → List ℕ → List ℕ → Type 0
+GathersOn most terms text old (onwards.Next sent) new rest before after = (there : Known) × Gathered most terms text old new there before after × FrameIs there sent rest
+GathersOn most terms text old (onwards.Ends behind) new rest before after = Gathers most terms text old behind new rest before after
 
 -- the same, from a frame on that was read
-abbrev pub GathersBy : Result Frame WireFault → Known → GroupState → Behind → GroupState → Known → List ℕ → List ℕ → Type 0
-GathersBy begun here old behind new rest before after =
-    (terms : MasterTerms) → (text : Known) → FrameIs text begun here → Gathers terms text old behind new rest before after
+abbrev pub GathersBy : ℕ → Result Frame WireFault → Known → GroupState → Behind → GroupState → Known → List ℕ → List ℕ → Type 0
+GathersBy most begun here old behind new rest before after =
+    (terms : MasterTerms) → (text : Known) → FrameIs text begun here → Gathers most terms text old behind new rest before after
 
-abbrev pub GathersOnBy : Result Frame WireFault → Known → GroupState → Onward → GroupState → Known → List ℕ → List ℕ → Type 0
-GathersOnBy begun here old onward new rest before after =
-    (terms : MasterTerms) → (text : Known) → FrameIs text begun here → GathersOn terms text old onward new rest before after
+abbrev pub GathersOnBy : ℕ → Result Frame WireFault → Known → GroupState → Onward → GroupState → Known → List ℕ → List ℕ → Type 0
+GathersOnBy most begun here old onward new rest before after =
+    (terms : MasterTerms) → (text : Known) → FrameIs text begun here → GathersOn most terms text old onward new rest before after
 
 -- ---- the commit
 

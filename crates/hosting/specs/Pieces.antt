@@ -30,7 +30,7 @@ total_weight (edit ∷ edits) = weight edit + total_weight edits
 abbrev pub is_within : GroupLimits → List Edit → Bool
 is_within limits edits = nat_le (length edits) limits.edits && nat_le (total_weight edits) limits.bytes
 
--- how many bytes are left behind edits, where they fit
+-- how many bytes are left after edits, where they fit
 abbrev pub bytes_left : ℕ → List Edit → Option ℕ
 bytes_left room edits = if nat_le (total_weight edits) room then Some (room - total_weight edits) else None
 
@@ -45,7 +45,7 @@ pub record HeldPieces : Type 0 where
 abbrev pub no_pieces : GroupLimits → HeldPieces
 no_pieces limits = record { limits = limits; full = []; last = [] }
 
--- how many bytes are left in the last piece behind these edits, where they fit into it
+-- how many bytes are left in the last piece after these edits, where they fit into it
 abbrev pub room_beside : HeldPieces → List Edit → Option ℕ
 room_beside held edits = if is_within held.limits (held.last ++ edits) then Some (held.limits.bytes - total_weight (held.last ++ edits)) else None
 

@@ -37,7 +37,7 @@ refusal_told fault = line_told (lines.Refused fault) ∷ []
 abbrev pub bad_told : WireFault → List MasterFrame
 bad_told fault = tells.Bad fault ∷ []
 
--- the mark behind all that is told of a frame, with the next deadline
+-- the mark after all that is told of a frame, with the next deadline
 abbrev pub mark_told : Option ℕ → List MasterFrame
 mark_told deadline = tells.End deadline ∷ []
 
@@ -90,17 +90,17 @@ reply_told (replies.Swept settled) = settled_told settled
 reply_told replies.Gone = line_told lines.Down ∷ []
 reply_told (replies.Stands standing) = standing_told standing
 
--- all that is told of a frame, and the mark behind it
+-- all that is told of a frame, and the mark after it
 abbrev pub all_told : FrameReply → Option ℕ → List MasterFrame
 all_told reply deadline = reply_told reply ++ mark_told deadline
 
 -- ---- its bytes
 
--- these are the blocks of what is told, one behind the other
+-- these are the blocks of what is told, one after the other
 abbrev pub AreBlocks : List MasterFrame → List ℕ → Type 0
 AreBlocks [] bytes = bytes ≡ []
 AreBlocks (given ∷ rest) bytes = (here : List ℕ) × (later : List ℕ) × (framed told given ≡ Ok here) × AreBlocks rest later × (bytes ≡ here ++ later)
 
--- what is told was put behind what was there
+-- what is told was put after what was there
 abbrev pub Puts : List MasterFrame → List ℕ → List ℕ → Type 0
 Puts given old new = (bytes : List ℕ) × AreBlocks given bytes × (new ≡ old ++ bytes)

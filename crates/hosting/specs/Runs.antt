@@ -1,4 +1,4 @@
--- Messages that are answered, one behind the other.
+-- Messages that are answered, one after the other.
 use Rattle.std.specs.Prelude.{◌≡◌, List, [], ◌∷◌}
 use Rattle.over_core.specs.Kept.{CellState}
 use Rattle.hosting.specs.declared.runs.TimedRequest.{TimedRequest}

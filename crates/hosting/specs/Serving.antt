@@ -25,7 +25,7 @@ pub record BeatsOnce (now : ℕ) (old : CellState) (swept : Swept) (new : CellSt
   pub step : beats_step old.master now ≡ Ok (new.master, swept)
   pub store : new.store ≡ old.store
 
--- steps of one kind were done, one behind the other
+-- steps of one kind were done, one after the other
 abbrev pub StepsTo : (CellState → Swept → CellState → Type 0) → CellState → List Swept → CellState → Type 0
 StepsTo Once old [] new = new ≡ old
 StepsTo Once old (swept ∷ rest) new = (mid : CellState) × Once old swept mid × StepsTo Once mid rest new
@@ -68,12 +68,12 @@ abbrev pub is_shut : End → Bool
 is_shut (Refused StoreRefused) = true
 is_shut end = false
 
--- behind that the Beats that are due are answered; behind any other end nothing is done
+-- after that the Beats that are due are answered; after any other end nothing is done
 abbrev pub BeatsBehind : ℕ → Bool → CellState → Round → CellState → Type 0
 BeatsBehind now true old beats new = EndsBeats now old beats.sweeps beats.end new
 BeatsBehind now false old beats new = (beats ≡ record { sweeps = []; end = Quiet }) × (new ≡ old)
 
--- sweeps, and Beats behind them
+-- sweeps, and Beats after them
 pub record Settles (now : ℕ) (old : CellState) (settled : Settled) (new : CellState) : Type 0 where
   pub mid : CellState
   pub swept : EndsIn now old settled.round.sweeps settled.round.end mid

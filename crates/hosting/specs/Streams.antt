@@ -1,4 +1,4 @@
--- Frames that come one behind the other in a stream, and the answers in another.
+-- Frames that come one after the other in a stream, and the answers in another.
 use Rattle.rows_cell.specs.declared.settings.MasterTerms.{MasterTerms}
 use Rattle.std.specs.Prelude.{◌≡◌, ◌⊎◌, ◌≤◌, ⊤, ℕ, List, [], ◌∷◌, ◌++◌, length, take, drop, Option, Some, None, Result, Ok, Err}
 use Rattle.std.specs.Io.KnownBytes.{Appends, IsAtEnd}
@@ -22,19 +22,19 @@ use Rattle.hosting.specs.Replies.{all_told, AreBlocks}
 
 -- ---- reading
 
--- what is left of a text behind so many bytes, where it is known
+-- what is left of a text after so many bytes, where it is known
 abbrev pub Drops : ℕ → Option (List ℕ) → Option (List ℕ) → Type 0
 Drops count None after = ⊤
 Drops count (Some text) None = ⊥
 Drops count (Some text) (Some rest) = rest ≡ drop count text
 
--- the next block of a text, and what is left behind it, where it is known
+-- the next block of a text, and what is left after it, where it is known
 abbrev pub BlockIs : Option (List ℕ) → Result (List ℕ) WireFault → Option (List ℕ) → Type 0
 BlockIs None block after = ⊤
 BlockIs (Some text) block None = ⊥
 BlockIs (Some text) block (Some rest) = next_block text ≡ Some (block, rest)
 
--- a block of so many bytes, or what is wrong with it, and what is left behind it
+-- a block of so many bytes, or what is wrong with it, and what is left after it
 abbrev pub BehindIs : ℕ → Option (List ℕ) → Result (List ℕ) WireFault → Option (List ℕ) → Type 0
 BehindIs count None block after = ⊤
 BehindIs count (Some text) block None = ⊥
@@ -87,12 +87,12 @@ pub record Done (terms : MasterTerms) (text : Option (List ℕ)) (old : Hosted) 
   pub next : FrameIs text sent rest
   pub does : Does terms sent old reply new
 
--- the same, with the deadline that there is behind it
+-- the same, with the deadline that there is after it
 pub record Turn (terms : MasterTerms) (text : Option (List ℕ)) (old : Hosted) (answer : Answer) (new : Hosted) (rest : Option (List ℕ)) : Type 0 where
   pub done : Done terms text old answer.reply new rest
   pub due : IsDue new.master answer.deadline
 
--- frames of a text were read and done, one behind the other, and answered so
+-- frames of a text were read and done, one after the other, and answered so
 abbrev pub Turns : MasterTerms → Option (List ℕ) → Hosted → List Answer → Hosted → Option (List ℕ) → Type 0
 Turns terms text old [] new rest = (new ≡ old) × (rest ≡ text)
 Turns terms text old (answer ∷ answers) new rest =

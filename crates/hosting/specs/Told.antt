@@ -24,7 +24,7 @@ out_fields = client ⊗ versioned out_message
 abbrev pub line_fields : Form Line
 line_fields = versioned line
 
--- one number behind the other
+-- one number after the other
 abbrev pub Words : Type 0
 Words = ℕ × (ℕ × (ℕ × (ℕ × ℕ)))
 

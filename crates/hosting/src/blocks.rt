@@ -16,7 +16,7 @@ pub const BLOCK_LIMIT: usize = 0x10_0000;
 /// master tells takes memory for what came, not for what the number says.
 pub const ANSWER_LIMIT: u64 = 0xffff_ffff;
 
-// All bytes behind the number in front are fewer.
+// All bytes after the number in front are fewer.
 pub(crate) const LENGTH_END: usize = 0x1_0000_0000;
 
 // A number in eight bytes.

@@ -4,7 +4,7 @@ ghost use Rattle.collections.specs.Results.{Gives};
 ghost use Rattle.codec.specs.Forms.{Form, begin_at, written, read_whole};
 ghost use Rattle.codec.specs.Fields.{word};
 ghost use Rattle.hosting.specs.Blocks.{framed, framed_by};
-ghost use Rattle.hosting.specs.Frames.{all_of, frame, frame_behind};
+ghost use Rattle.hosting.specs.Frames.{all_of, frame, frame_behind, carried};
 
 use crate::blocks::{LENGTH_END, bytes_of, write_framed};
 use crate::kinds::{FRAME_KINDS, FrameKind};
@@ -40,7 +40,7 @@ pub fn read_frame(alloc: Global, bytes: &[u8]) -> Result<Frame, WireFault>
     }
 }
 
-// What stands behind the version.
+// What stands after the version.
 pub(crate) fn fields_of(bytes: &[u8]) -> Result<&[u8], WireFault>
     ensures begun { IfOk result (λ rest. begin_at bytes.now ≡ Ok rest.now) }
     ensures short { IfOk result (λ rest. length rest.now < 2 ^ 32) }
@@ -84,7 +84,7 @@ fn read_fields_of(alloc: Global, kind: FrameKind, bytes: &[u8]) -> Result<Frame,
     }
 }
 
-// A moment, and nothing behind it.
+// A moment, and nothing after it.
 #[tactic(auto, unfolding(codec::specs::Fields::word))]
 pub(crate) fn read_moment(bytes: &[u8]) -> Result<u64, WireFault>
     ensures { result ≡ all_of (word.read bytes.now) }
@@ -99,7 +99,7 @@ pub(crate) fn read_moment(bytes: &[u8]) -> Result<u64, WireFault>
     Ok(BigEndian::read_u64(front))
 }
 
-// A moment, and behind it all bytes of a message.
+// A moment, and after it all bytes of a message.
 fn read_message(alloc: Global, bytes: &[u8]) -> Result<Frame, WireFault>
     requires { length bytes.now < 2 ^ 32 }
     ensures { Gives WireFault.NoMemory result (all_of (frame_behind FrameKind.Message bytes.now)) }
@@ -154,7 +154,7 @@ pub(crate) fn write_word(alloc: Global, kind: u8, number: u64) -> Result<Bytes, 
     write_framed(alloc, kind, &bytes_of(number), &[])
 }
 
-// A moment, and behind it all bytes of a message.
+// A moment, and after it all bytes of a message.
 fn write_message(alloc: Global, now: u64, request: &Request) -> Result<Bytes, WireFault>
     ensures { Gives WireFault.NoMemory result (framed frame (Frame.Message now request.now)) }
 {
@@ -163,4 +163,12 @@ fn write_message(alloc: Global, now: u64, request: &Request) -> Result<Bytes, Wi
         Ok(message) => write_framed(alloc, 1, &moment, message.as_slice()),
         Err(fault) => Err(fault),
     }
+}
+
+/// The frame by which the bytes of a client's message come to a master at a moment, with the number of all bytes in front. They go on
+/// as they came: only the master reads them. Refused is a frame of 2^32 bytes or more.
+pub fn carry_message(alloc: Global, moment: u64, message: &[u8]) -> Result<Bytes, WireFault>
+    ensures { Gives WireFault.NoMemory result (carried moment message.now) }
+{
+    write_framed(alloc, 1, &bytes_of(moment), message)
 }

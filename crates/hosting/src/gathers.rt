@@ -2,7 +2,7 @@
 ghost use Rattle.std.specs.Prelude.{◌≡◌, length, None, Ok, Some};
 ghost use Rattle.std.specs.Io.Buffered.{reader_remaining};
 ghost use Rattle.hosting.specs.Blocks.{stands_whole};
-ghost use Rattle.hosting.specs.Groups.{DoesHeld, Tries, NextThere, GathersBy, GathersOnBy, PutsReply, PutsTold};
+ghost use Rattle.hosting.specs.Groups.{group_limit, DoesHeld, Tries, NextThere, GathersBy, GathersOnBy, PutsReply, PutsTold};
 
 use crate::blocks::BLOCK_LIMIT;
 use crate::frames::Frame;
@@ -21,7 +21,7 @@ use std::io::{BufReader, Read};
 /// The most frames that are committed together.
 pub const GROUP_LIMIT: u64 = 256;
 
-/// What stands behind a group.
+/// What stands after a group.
 pub enum Behind {
     /// Nobody looked.
     Nothing,
@@ -46,7 +46,7 @@ pub enum Tried {
     Stopped(StreamStop),
 }
 
-/// Does a frame and those behind it that are there, and puts all that is told of them behind what is told.
+/// Does a frame and those after it that are there, and puts all that is told of them after what is told.
 pub(crate) fn gather<R: Records, I: Read>(
     alloc: Global,
     first: Group<R>,
@@ -56,7 +56,7 @@ pub(crate) fn gather<R: Records, I: Read>(
     told: &mut Vec<u8>,
 ) -> (Group<R>, Behind)
     requires { length buffer.old ≡ 1048576 }
-    ensures { GathersBy begun (reader_remaining I.remaining reader.old) first result.1 result.0 (reader_remaining I.remaining reader.new) told.old.items told.new.items }
+    ensures { GathersBy group_limit begun (reader_remaining I.remaining reader.old) first result.1 result.0 (reader_remaining I.remaining reader.new) told.old.items told.new.items }
 {
     let mut group = first;
     let mut sent = begun;
@@ -79,7 +79,7 @@ fn go_on<R: Records, I: Read>(
     told: &mut Vec<u8>,
 ) -> Onward
     requires { length buffer.old ≡ 1048576 }
-    ensures { GathersOnBy sent (reader_remaining I.remaining reader.old) group.old result group.new (reader_remaining I.remaining reader.new) told.old.items told.new.items }
+    ensures { GathersOnBy 1 sent (reader_remaining I.remaining reader.old) group.old result group.new (reader_remaining I.remaining reader.new) told.old.items told.new.items }
 {
     match do_held(alloc, group, &sent, told) {
         Tried::Done => {
@@ -132,7 +132,7 @@ pub(crate) fn is_there(bytes: &[u8]) -> bool
     block.len() >= count
 }
 
-// Does a frame, and puts what is told of it behind what is told.
+// Does a frame, and puts what is told of it after what is told.
 fn do_held<R: Records>(
     alloc: Global,
     group: &mut Group<R>,
@@ -177,7 +177,7 @@ fn take_frame<R: Records>(alloc: Global, group: &mut Group<R>, frame: &Frame) ->
     }
 }
 
-// All that is told of a frame, with the next deadline, behind what is told. The group stays as it is.
+// All that is told of a frame, with the next deadline, after what is told. The group stays as it is.
 fn put_reply<R: Records>(
     alloc: Global,
     group: &mut Group<R>,

@@ -97,7 +97,7 @@ fn serve_some<R: Records, I: Read, W: Write>(
     }
 }
 
-// A frame that was found, and those behind it that are there.
+// A frame that was found, and those after it that are there.
 fn serve_from<R: Records, I: Read, W: Write>(
     alloc: Global,
     terms: GroupTerms,
@@ -120,7 +120,7 @@ fn serve_from<R: Records, I: Read, W: Write>(
     }
 }
 
-// What was sent, and the frames behind it that are there, where a master is up.
+// What was sent, and the frames after it that are there, where a master is up.
 fn serve_sent<R: Records, I: Read, W: Write>(
     alloc: Global,
     terms: GroupTerms,
@@ -146,7 +146,7 @@ fn serve_sent<R: Records, I: Read, W: Write>(
     }
 }
 
-// The same of a master that is up. Behind a commit that was refused a frame is done by itself, until another one stands.
+// The same of a master that is up. After a commit that was refused a frame is done by itself, until another one stands.
 fn serve_up<R: Records, I: Read, W: Write>(
     alloc: Global,
     terms: GroupTerms,
@@ -193,7 +193,7 @@ fn course_of(turned: Turned) -> Course
     }
 }
 
-// A frame and those behind it that are there, as a group, and the one behind it that was found by itself.
+// A frame and those after it that are there, as a group, and the one after it that was found by itself.
 fn serve_together<R: Records, I: Read, W: Write>(
     alloc: Global,
     terms: GroupTerms,
@@ -224,7 +224,7 @@ fn serve_together<R: Records, I: Read, W: Write>(
     }
 }
 
-// Behind a group that was kept, what was found behind it.
+// After a group that was kept, what was found after it.
 fn serve_behind<R: Records, W: Write>(
     alloc: Global,
     terms: GroupTerms,

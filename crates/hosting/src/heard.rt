@@ -97,7 +97,7 @@ fn read_name(alloc: Global, bytes: &[u8]) -> Result<MasterFrame, WireFault>
     }
 }
 
-// A client, and behind it all bytes of a message.
+// A client, and after it all bytes of a message.
 fn read_message(alloc: Global, bytes: &[u8]) -> Result<MasterFrame, WireFault>
     requires { length bytes.now < 2 ^ 32 }
     ensures { Gives WireFault.NoMemory result (all_of (told_behind ToldKind.Message bytes.now)) }
@@ -147,7 +147,7 @@ fn read_end(bytes: &[u8]) -> Result<MasterFrame, WireFault>
     }
 }
 
-// A word, and what stands behind it.
+// A word, and what stands after it.
 #[tactic(auto, unfolding(codec::specs::Fields::word))]
 fn next_word(bytes: &[u8]) -> Result<(u64, &[u8]), WireFault>
     ensures word { IfOk result (λ r. word.read bytes.now ≡ Ok (r.0, r.1.now)) }
@@ -160,7 +160,7 @@ fn next_word(bytes: &[u8]) -> Result<(u64, &[u8]), WireFault>
     Ok((BigEndian::read_u64(front), back))
 }
 
-// Five words, and nothing behind them.
+// Five words, and nothing after them.
 fn read_counts(bytes: &[u8]) -> Result<MasterFrame, WireFault>
     ensures { result ≡ all_of (told_behind ToldKind.Counts bytes.now) }
 {

@@ -1,4 +1,4 @@
-//! Of which kind a frame is: the byte behind its version.
+//! Of which kind a frame is: the byte after its version.
 ghost use Rattle.std.specs.Prelude.{◌≡◌};
 ghost use Rattle.hosting.specs.Told.{fault_place};
 

@@ -1,6 +1,6 @@
 //! What holds of the bytes of frames.
 ghost use Rattle.codec.specs.Laws.{format};
-ghost use Rattle.hosting.specs.Laws.{WrittenFrameIsRead, ReadFrameWasWritten, WrittenToldIsRead, ReadToldWasWritten, FramedIsNext, ToldIsNext, FramesAreOf};
+ghost use Rattle.hosting.specs.Laws.{WrittenFrameIsRead, ReadFrameWasWritten, WrittenToldIsRead, ReadToldWasWritten, FramedIsNext, ToldIsNext, FramesAreOf, CarriedIsRead};
 
 /// What was written to a master is read as it was.
 pub fn written_frame_is_read()
@@ -36,4 +36,10 @@ pub fn told_is_next()
 /// version.
 pub fn frames_are_of_format()
     ensures { FramesAreOf format }
+{}
+
+/// Of a message whose bytes were carried as they came, a master reads what it would read of these bytes alone; what is wrong
+/// with them it tells by the same reason.
+pub fn carried_is_read()
+    ensures { CarriedIsRead }
 {}

@@ -26,15 +26,15 @@ mod tellings;
 
 pub use answers::{Answered, answer};
 pub use blocks::{ANSWER_LIMIT, BLOCK_LIMIT};
-pub use frames::{Frame, read_frame, write_frame};
+pub use frames::{Frame, carry_message, read_frame, write_frame};
 pub use gathers::GROUP_LIMIT;
 pub use groups::serve_groups;
 pub use heard::read_told;
 pub use holds::Group;
 pub use kinds::{FrameKind, ToldKind};
 pub use laws::{
-    framed_is_next, frames_are_of_format, read_frame_was_written, read_told_was_written,
-    told_is_next, written_frame_is_read, written_told_is_read,
+    carried_is_read, framed_is_next, frames_are_of_format, read_frame_was_written,
+    read_told_was_written, told_is_next, written_frame_is_read, written_told_is_read,
 };
 pub use outputs::write_reply;
 pub use pieces::{GroupLimits, GroupTerms};

@@ -18,7 +18,7 @@ use over_core::Swept;
 use std::alloc::Global;
 use tags_cell::Out;
 
-/// The bytes of all that is told of a frame, and of the mark behind it with the next deadline, in milliseconds.
+/// The bytes of all that is told of a frame, and of the mark after it with the next deadline, in milliseconds.
 pub fn write_reply(
     alloc: Global,
     reply: &FrameReply,

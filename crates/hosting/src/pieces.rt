@@ -94,7 +94,7 @@ impl Pieces {
         !self.full.is_empty()
     }
 
-    // How many bytes are left behind these edits, where they fit into the last piece.
+    // How many bytes are left after these edits, where they fit into the last piece.
     fn room_beside(&self, edits: &[Edit]) -> Option<u64>
         requires { edits.now ≢ [] }
         ensures { result ≡ room_beside self.now edits.now }
@@ -130,7 +130,7 @@ impl Pieces {
         Ok(())
     }
 
-    /// Commits the pieces, one behind the other. Where the store refuses one, those before it stand.
+    /// Commits the pieces, one after the other. Where the store refuses one, those before it stand.
     pub(crate) fn commit<R: Records>(self, records: &mut R) -> Result<(), Fault>
         requires { AreSound (R.store records.old).cell (R.store records.old).rows (all_pieces self) }
         ensures ok { OnOk result (CommitsEach (all_pieces self) (R.store records.old) (R.store records.new)) }
@@ -169,7 +169,7 @@ fn commit_one<R: Records>(records: &mut R, piece: &Items<Edit>) -> Result<(), Fa
     }
 }
 
-// How many bytes are left behind edits, where they fit.
+// How many bytes are left after edits, where they fit.
 fn bytes_left(room: u64, edits: &[Edit]) -> Option<u64>
     ensures { result ≡ bytes_left room edits.now }
 {

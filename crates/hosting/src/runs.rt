@@ -1,4 +1,4 @@
-//! What is answered to messages, one behind the other.
+//! What is answered to messages, one after the other.
 ghost use Rattle.std.specs.Prelude.{◌≡◌, IfOk, OnErr};
 ghost use Rattle.hosting.specs.Runs.{Serves};
 
@@ -16,7 +16,7 @@ pub struct TimedRequest {
     pub request: Request,
 }
 
-/// What is answered to messages that come one behind the other. Room for the answers is made first; where there is none,
+/// What is answered to messages that come one after the other. Room for the answers is made first; where there is none,
 /// nothing is changed.
 pub fn serve<R: Records>(
     alloc: Global,

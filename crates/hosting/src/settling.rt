@@ -23,14 +23,14 @@ pub enum End {
     Unfinished,
 }
 
-/// What sweeps, or answers to Beats, printed and sent, one behind the other, and how they came to an end.
+/// What sweeps, or answers to Beats, printed and sent, one after the other, and how they came to an end.
 #[derive(Drop)]
 pub struct Round {
     pub sweeps: Items<Swept>,
     pub end: End,
 }
 
-/// What sweeps did, all of which is committed; and the answers to Beats behind a sweep that the store refused.
+/// What sweeps did, all of which is committed; and the answers to Beats after a sweep that the store refused.
 #[derive(Drop)]
 pub struct Settled {
     pub round: Round,

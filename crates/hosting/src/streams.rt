@@ -1,4 +1,4 @@
-//! The frames of a stream are answered one behind the other.
+//! The frames of a stream are answered one after the other.
 ghost use Rattle.std.specs.Prelude.{◌≡◌, ◌≤◌, length, IfOk};
 ghost use Rattle.hosting.specs.Seats.{hosted};
 ghost use Rattle.hosting.specs.Streams.{Ends, TakesTurn, IsWritten, IsTold, DoesFound};
@@ -25,7 +25,7 @@ pub enum Turned {
     Stopped(StreamStop),
 }
 
-/// Answers the frames of a stream, one behind the other, to its end: each is done, all that it changes is committed, and
+/// Answers the frames of a stream, one after the other, to its end: each is done, all that it changes is committed, and
 /// then all that is told of it is written and flushed, before more is read. What is no frame is told of, and changes
 /// nothing. The master goes by these terms.
 pub fn serve_on<R: Records, I: Read, W: Write>(

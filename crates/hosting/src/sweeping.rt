@@ -20,7 +20,7 @@ use over_core::{
 use rows_cell::Edit;
 use std::alloc::AllocError;
 
-/// A sweep at a moment, in milliseconds, as `sweep` of `over_core` does it; but what it would commit is put behind what is
+/// A sweep at a moment, in milliseconds, as `sweep` of `over_core` does it; but what it would commit is put after what is
 /// held. Room for one item is made in a list of the caller's. A refusal leaves the master and what is held as they were.
 #[tactic(auto, unfolding(over_core::specs::Sweep::sweep_step))]
 pub(crate) fn sweep_held<T>(
@@ -77,7 +77,7 @@ fn tidy(cell: &mut MemoryMaster, idle: Orphan) -> Result<Swept, AllocError>
     Ok(Swept::of(cell.master().nothing(), false))
 }
 
-// Does what is planned for any other action, and behind all else the clients of open handles are told of it.
+// Does what is planned for any other action, and after all else the clients of open handles are told of it.
 fn act(cell: &mut MemoryMaster, held: &mut Pieces, action: &Action) -> Result<Swept, AllocError>
     ensures ok { IfOk result (λ came. done_and_told cell.old (plan_of cell.old action.now) (is_quiet action.now) ≡ (cell.new, came)) }
     ensures held { OnOk result (held.new ≡ held_with held.old (action_edits cell.old action.now)) }

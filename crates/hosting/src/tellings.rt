@@ -32,9 +32,9 @@ pub enum MasterFrame {
     /// How much a master has that is asked how it stands.
     Counts(MasterCounts),
     /// It recovers; by this moment, in milliseconds, the last session that it waits for has ended, unless one is heard from
-    /// meanwhile. Behind this stand the clients that it waits for.
+    /// meanwhile. After this stand the clients that it waits for.
     Recovers(u64),
-    /// One of the changes that have waited longest, by its number. Behind this stand the names that it may change, and the
+    /// One of the changes that have waited longest, by its number. After this stand the names that it may change, and the
     /// clients that it waits for.
     Waits(u64),
     /// A name that the change before it may change.
@@ -84,7 +84,7 @@ pub fn write_bad(alloc: Global, fault: WireFault) -> Result<Bytes, WireFault>
     write_framed(alloc, 2, &[place_of(fault)], &[])
 }
 
-/// The bytes of the mark behind all that is told of a frame, with their number in front. It says the earliest moment, in
+/// The bytes of the mark after all that is told of a frame, with their number in front. It says the earliest moment, in
 /// milliseconds, at which there is something to do, if there is one.
 #[tactic(auto, unfolding(codec::specs::Fields::word, codec::specs::Fields::optional_word, crate::specs::Told::told))]
 pub fn write_end(alloc: Global, deadline: Option<u64>) -> Result<Bytes, WireFault>

@@ -197,7 +197,7 @@ stuck_lasts lease up = record {
   };
 }
 
-by_liveness : (lease up q : ℕ) (e : ℕ × stored.Session) → Stuck lease up up q (taken_over up e).1
+by_liveness : (lease up q : ℕ) (e : ℕ × stored.SessionRow) → Stuck lease up up q (taken_over up e).1
 by_liveness lease up q e unheard = record { taken = refl; near = record { near = at_once up lease; received = λ beat is. absurd (cc) }; staged = soon up }
   where
     at_once : (a l : ℕ) → a + 60002 ≤ max (a + 60002) (a + l)

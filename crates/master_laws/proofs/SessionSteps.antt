@@ -77,7 +77,7 @@ pub record IsCarriedBySweeps (P : ℕ → Session Reply → Type 0) (s : MasterS
 
 -- ---- the sessions of a master that comes up
 
-pub each_taken : (P : ℕ → Session Reply → Type 0) (now : ℕ) → ((client : ℕ) (e : ℕ × stored.Session) → P client (taken_over now e).1) → (es : List (ℕ × stored.Session)) (client : ℕ) (session : Session Reply) → lookup (is_at (nat_cmp client)) (map (taken_over now) es) ≡ Some session → P client session
+pub each_taken : (P : ℕ → Session Reply → Type 0) (now : ℕ) → ((client : ℕ) (e : ℕ × stored.SessionRow) → P client (taken_over now e).1) → (es : List (ℕ × stored.SessionRow)) (client : ℕ) (session : Session Reply) → lookup (is_at (nat_cmp client)) (map (taken_over now) es) ≡ Some session → P client session
 each_taken P now all [] client session h = absurd (cc)
 each_taken P now all (e ∷ es) client session h =
     (elim (is_at (nat_cmp client) e.0) as (λ b. cond b (Some (taken_over now e).1) (lookup (is_at (nat_cmp client)) (map (taken_over now) es)) ≡ Some session → P client session) [

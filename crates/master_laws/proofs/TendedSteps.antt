@@ -199,15 +199,7 @@ module _ (s : MasterState) (legal : (instance : ℕ) → IsLegal (lock_at s.lock
   of_node handle (calls.Acquire bytes mode) node = of_acquired handle (claim_of handle mode) (lock_fault (name_space s) handle.client) (hold_of (under handle) (owner_of handle))
   of_node handle (calls.TryAcquire bytes mode) node = of_tried handle (claim_of handle mode) (lock_fault (name_space s) handle.client) (tried (under handle) (claim_of handle mode) s.clock) refl
   of_node handle (calls.Release bytes) node = of_released handle (is_some (hold_of (under handle) (owner_of handle)))
-  of_node handle (calls.Open opening) node = tt
-  of_node handle (calls.Close bytes) node = tt
-  of_node handle (calls.Read bytes) node = tt
-  of_node handle (calls.Stat bytes) node = tt
-  of_node handle (calls.List bytes) node = tt
-  of_node handle (calls.GetSequencer bytes) node = tt
-  of_node handle (calls.SetSequencer bytes) node = tt
-  of_node handle (calls.CheckSequencer bytes) node = tt
-  of_node handle calls.Leave node = tt
+  of_node handle call node = tt
 
   of_application : (handle : Handle) (call : Call) (o : Option CallResult) → Fits (option_map_or (λ answer. answered answer) o (change_on (name_space s) s.clock handle call))
   of_application handle call o =

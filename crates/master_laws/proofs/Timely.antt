@@ -220,5 +220,5 @@ timely_swept s fits = record {
   begins = λ front back asked principal received turn work. record { timeout = begins_in s.clock s.sessions.lease fits; marked = λ mark is. absurd (cc); received = λ beat is. absurd (cc) };
 }
 
-pub timely_up : (up client : ℕ) (e : ℕ × stored.Session) → IsTimely up client (taken_over up e).1
+pub timely_up : (up client : ℕ) (e : ℕ × stored.SessionRow) → IsTimely up client (taken_over up e).1
 timely_up up client e = record { timeout = omega arith; marked = λ mark is. absurd (cc); received = λ beat is. absurd (cc) }

@@ -79,7 +79,7 @@ pub sessions_ordered : (cell : List ℕ) (rows : Rows) (s : MasterState) → IsK
 sessions_ordered cell rows s k =
     let P : List ℕ → Type 0 = IsStrictlySortedBy nat_cmp in
     let same : keys_of rows.sessions ≡ keys_of s.sessions.sessions =
-    ap (λ (es : List (ℕ × stored.Session)). keys_of es) (sym k.sessions) ∙ keys_of-map_values row_of s.sessions.sessions in
+    ap (λ (es : List (ℕ × stored.SessionRow)). keys_of es) (sym k.sessions) ∙ keys_of-map_values row_of s.sessions.sessions in
     subst P same k.sessions_in_order
 
 -- ---- a Beat that is answered
@@ -141,7 +141,7 @@ module _ (cell : List ℕ) (rows : Rows) where
   begun_kept : (s : MasterState) (client : ℕ) (principal : List ℕ) (timeout : ℕ) → session_of s client ≡ None → is_number client ≡ true → IsKept cell rows s → IsKept cell (changed_rows rows (PutSession client (record { principal = principal; live = true }) ∷ [])) (record s { sessions = with_new s.sessions client (session_until principal true timeout) })
   begun_kept s client principal timeout none number k =
       let new : Session Reply = session_until principal true timeout in
-      let put : stored.Session = record { principal = principal; live = true } in
+      let put : stored.SessionRow = record { principal = principal; live = true } in
       let locks : AreLocksKept rows (record s { sessions = with_new s.sessions client new }) = locks_stay rows s (record s { sessions = with_new s.sessions client new }) refl refl (lives_new s.sessions client new refl) k.locks in
       record {
         name = k.name;
@@ -149,7 +149,7 @@ module _ (cell : List ℕ) (rows : Rows) where
         epoch = k.epoch;
         next_instance = k.next_instance;
         nodes = k.nodes;
-        sessions = rows_of-insert_entry row_of s.sessions.sessions client new ∙ ap (λ (es : List (ℕ × stored.Session)). insert_entry nat_cmp es client put) k.sessions;
+        sessions = rows_of-insert_entry row_of s.sessions.sessions client new ∙ ap (λ (es : List (ℕ × stored.SessionRow)). insert_entry nat_cmp es client put) k.sessions;
         sound_rows = session_sound cell rows client principal k.sound_rows number;
         waiting = k.waiting;
         locks = record { generations = locks.generations; rows_of_locks = locks.rows_of_locks; in_order = locks.in_order; each = locks.each };

@@ -34,12 +34,12 @@ use Rattle.over_core.specs.Up.{up_edits}
 use Rattle.over_core.proofs.LocksRebuilt.{nobody_outstanding, locks_rebuilt}
 
 -- the sessions that a master takes over are those of its rows
-same_rows : (now : ℕ) (es : List (ℕ × stored.Session)) → rows_of row_of (map (taken_over now) es) ≡ es
+same_rows : (now : ℕ) (es : List (ℕ × stored.SessionRow)) → rows_of row_of (map (taken_over now) es) ≡ es
 same_rows now [] = refl
-same_rows now (e ∷ es) = ap (λ (xs : List (ℕ × stored.Session)). e ∷ xs) (same_rows now es)
+same_rows now (e ∷ es) = ap (λ (xs : List (ℕ × stored.SessionRow)). e ∷ xs) (same_rows now es)
 
 -- none of them has acknowledged an event or was issued an invalidation
-none_counted : (f : Session Reply → ℕ) (now : ℕ) → ((e : ℕ × stored.Session) → f (taken_over now e).1 ≡ 0) → (es : List (ℕ × stored.Session)) (client : ℕ) (session : Session Reply) → lookup (is_at (nat_cmp client)) (map (taken_over now) es) ≡ Some session → f session ≡ 0
+none_counted : (f : Session Reply → ℕ) (now : ℕ) → ((e : ℕ × stored.SessionRow) → f (taken_over now e).1 ≡ 0) → (es : List (ℕ × stored.SessionRow)) (client : ℕ) (session : Session Reply) → lookup (is_at (nat_cmp client)) (map (taken_over now) es) ≡ Some session → f session ≡ 0
 none_counted f now none [] client session h = absurd (cc)
 none_counted f now none (e ∷ es) client session h =
     (elim (is_at (nat_cmp client) e.0) as (λ b. cond b (Some (taken_over now e).1) (lookup (is_at (nat_cmp client)) (map (taken_over now) es)) ≡ Some session → f session ≡ 0) [

@@ -103,7 +103,7 @@ locks_put_in_order (put ∷ puts) locks h = locks_put_in_order puts (with_lock l
 module _ (cell : List ℕ) (rows : Rows) (sessions : SessionTable Reply) (h : sound cell rows ≡ true) (same : session_rows sessions ≡ rows.sessions) where
   row_found : (client : ℕ) (session : Session Reply) → session_of sessions client ≡ Some session → lookup (is_at (nat_cmp client)) rows.sessions ≡ Some (row_of session)
   row_found client session found =
-      let P : List (ℕ × stored.Session) → Type 0 = λ es. lookup (is_at (nat_cmp client)) es ≡ Some (row_of session) in
+      let P : List (ℕ × stored.SessionRow) → Type 0 = λ es. lookup (is_at (nat_cmp client)) es ≡ Some (row_of session) in
       subst P same (lookup-rows_of row_of (is_at (nat_cmp client)) sessions.sessions session found)
 
   -- a live session is one of the rows, and its client's number is one of the store
@@ -113,7 +113,7 @@ module _ (cell : List ℕ) (rows : Rows) (sessions : SessionTable Reply) (h : so
         | None ↦ (λ e l. absurd cc)
         | Some session ↦ (λ e l.
             let found = row_found client session e in
-            (ap (λ o. option_map_or (λ (row : stored.Session). row.live) o false) found ∙ l, all_found nat_cmp exact_unsigned (λ entry. is_number entry.0) rows.sessions client (row_of session) (parts_of cell rows h).sessions found))
+            (ap (λ o. option_map_or (λ (row : stored.SessionRow). row.live) o false) found ∙ l, all_found nat_cmp exact_unsigned (λ entry. is_number entry.0) rows.sessions client (row_of session) (parts_of cell rows h).sessions found))
       ]) refl live
 
   pub holder_of_rows : (owner : Owner) (hold : Hold) → claim_fits sessions owner hold ≡ true → HolderFits rows owner hold

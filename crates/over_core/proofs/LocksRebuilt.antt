@@ -247,10 +247,10 @@ shared_rows n (e ∷ es) own shared =
 
 -- ---- claims of live sessions
 
-live_taken : (now client : ℕ) (es : List (ℕ × of_rows.Session)) → option_map_or (λ (session : Session Reply). session.live) (lookup (is_at (nat_cmp client)) (map (taken_over now) es)) false ≡ option_map_or (λ (session : of_rows.Session). session.live) (lookup (is_at (nat_cmp client)) es) false
+live_taken : (now client : ℕ) (es : List (ℕ × of_rows.SessionRow)) → option_map_or (λ (session : Session Reply). session.live) (lookup (is_at (nat_cmp client)) (map (taken_over now) es)) false ≡ option_map_or (λ (session : of_rows.SessionRow). session.live) (lookup (is_at (nat_cmp client)) es) false
 live_taken now client [] = refl
 live_taken now client (e ∷ es) =
-    (elim (is_at (nat_cmp client) e.0) as (λ b. option_map_or (λ (session : Session Reply). session.live) (cond b (Some (taken_over now e).1) (lookup (is_at (nat_cmp client)) (map (taken_over now) es))) false ≡ option_map_or (λ (session : of_rows.Session). session.live) (cond b (Some e.1) (lookup (is_at (nat_cmp client)) es)) false) [
+    (elim (is_at (nat_cmp client) e.0) as (λ b. option_map_or (λ (session : Session Reply). session.live) (cond b (Some (taken_over now e).1) (lookup (is_at (nat_cmp client)) (map (taken_over now) es))) false ≡ option_map_or (λ (session : of_rows.SessionRow). session.live) (cond b (Some e.1) (lookup (is_at (nat_cmp client)) es)) false) [
       | true ↦ refl
       | false ↦ live_taken now client es
     ])

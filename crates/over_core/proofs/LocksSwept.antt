@@ -207,7 +207,7 @@ dead_then None = refl
 dead_then (Some session) = refl
 
 module _ (parting : Parting) (cell : List ℕ) (rows : Rows) (s : MasterState) (k : IsKept cell rows s) (client : ℕ) (session : Session Reply) (found : session_of s client ≡ Some session) where
-  abbrev put : stored.Session
+  abbrev put : stored.SessionRow
   put = record { principal = session.principal; live = false }
 
   abbrev new_sessions : SessionTable Reply
@@ -263,7 +263,7 @@ module _ (parting : Parting) (cell : List ℕ) (rows : Rows) (s : MasterState) (
   -- the row of the session
   row_found : lookup (is_at (nat_cmp client)) rows.sessions ≡ Some (row_of session)
   row_found =
-      let P : List (ℕ × stored.Session) → Type 0 = λ es. lookup (is_at (nat_cmp client)) es ≡ Some (row_of session) in
+      let P : List (ℕ × stored.SessionRow) → Type 0 = λ es. lookup (is_at (nat_cmp client)) es ≡ Some (row_of session) in
       subst P k.sessions (lookup-rows_of row_of (is_at (nat_cmp client)) s.sessions.sessions session found)
 
   ended_sessions : session_rows new_sessions ≡ insert_entry nat_cmp rows.sessions client put
@@ -272,7 +272,7 @@ module _ (parting : Parting) (cell : List ℕ) (rows : Rows) (s : MasterState) (
       rows_of row_of (option_map_or (λ (before : Session Reply). record (s.sessions) { sessions = set_value (is_at (nat_cmp client)) s.sessions.sessions (of_session.ended before) }) o s.sessions).sessions ≡ insert_entry nat_cmp rows.sessions client put in
       subst P (sym found)
       (rows_of-set_value row_of (is_at (nat_cmp client)) s.sessions.sessions (of_session.ended session)
-      ∙ ap (λ (es : List (ℕ × stored.Session)). set_value (is_at (nat_cmp client)) es put) k.sessions
+      ∙ ap (λ (es : List (ℕ × stored.SessionRow)). set_value (is_at (nat_cmp client)) es put) k.sessions
       ∙ sym (put_is_set nat_cmp nat_cmp_total rows.sessions client put (row_of session) k.sessions_in_order row_found))
 
   fits_rows : ChangesFit rows (lock_changes s puts)

@@ -3,6 +3,7 @@ use Rattle.std.proofs.Common.{◌≡◌, ℕ, Bool, true, false, List, [], ◌�
 use Rattle.std.specs.List.{AllByRecursion}
 use Rattle.std.specs.List.Sorted.{IsStrictlySortedBy}
 use Rattle.std.specs.Map.{keys_of, lookup, remove_entry, set_value}
+use Rattle.std.specs.Option.{option_map_or}
 use Rattle.std.specs.Ordering.{nat_cmp, match_ordering}
 use Rattle.std.specs.BTreeMap.{is_at, insert_entry}
 use Rattle.std.specs.Cmp.Lexicographic.{slice_cmp}
@@ -16,8 +17,8 @@ use Rattle.rows_cell.specs.declared.tables.StoredNode.{StoredNode}
 use Rattle.rows_cell.specs.Rows.{StoredNodes, stored_node, put_stored, at_generation}
 use Rattle.rows_sql.specs.Children.{Parents, children_of, with_child, put_under}
 use Rattle.rows_sql.proofs.Parents.{children_all}
-use Rattle.rows_sql.specs.Ongoing.{MayLack}
-use Rattle.rows_sql.proofs.Entries.{none_at_low, put_low, lower, level, removed_twice}
+use Rattle.rows_cell.proofs.EntriesInOrder.{put_is_set}
+use Rattle.rows_sql.proofs.Entries.{none_at_low, put_low, lower, level}
 use Rattle.rows_sql.proofs.Truths.{equal_is}
 
 abbrev names : List ℕ → List ℕ → Ordering
@@ -63,6 +64,13 @@ with_value test (e ∷ es) v = elim (cases_Bool (test e.0)) [
 pub children_at : (nodes : StoredNodes) (name : List ℕ) (node : Option StoredNode) (n : ℕ) → children_of (at_generation nodes name node n) ≡ children_of nodes
 children_at nodes name None n = refl
 children_at nodes name (Some node) n = with_value (is_at (names name)) nodes (record node { lock_generation = n })
+
+-- ---- another node in its place
+
+pub children_renewed : (nodes : StoredNodes) (name : List ℕ) (node : Node) (was : StoredNode) → IsStrictlySortedBy names (keys_of nodes) → stored_node nodes name ≡ Some was → children_of (put_stored nodes name node) ≡ children_of nodes
+children_renewed nodes name node was s found =
+    let put : StoredNode = record { node = node; lock_generation = option_map_or (λ (stored : StoredNode). stored.lock_generation) (stored_node nodes name) 0 } in
+    ap children_of (put_is_set names nat_list_cmp_total nodes name put was s found) ∙ with_value (is_at (names name)) nodes put
 
 -- ---- a removal
 
@@ -113,35 +121,3 @@ not_child (n ∷ nodes) k absent e h =
       | true ↦ (λ t is. absurd cc)
       | false ↦ (λ f is. not_under k n.0 (parent_of n.0) (children_of nodes) e f (not_child nodes k is e) h)
     ]) refl absent
-
--- ---- in the order of their names
-
-sorted_with : (k : List ℕ) (parent : Option (List ℕ)) (es : Parents) → AllByRecursion (λ y. names k y ≡ Less) (keys_of es) → IsStrictlySortedBy names (keys_of es) → IsStrictlySortedBy names (keys_of (with_child k parent es))
-unfolding IsStrictlySortedBy
-sorted_with k None es low s = s
-sorted_with k (Some parent) es low s = (low, s)
-
-pub children_sorted : (nodes : StoredNodes) → IsStrictlySortedBy names (keys_of nodes) → IsStrictlySortedBy names (keys_of (children_of nodes))
-unfolding IsStrictlySortedBy
-children_sorted [] s = tt
-children_sorted (e ∷ es) s = sorted_with e.0 (parent_of e.0) (children_of es) (children_all (λ y. names e.0 y ≡ Less) es s.0) (children_sorted es s.1)
-
--- ---- all children, or all but one
-
-left_was : (test : List ℕ → Bool) (es : Parents) (e : List ℕ × List ℕ) → Has (remove_entry test es) e → Has es e
-left_was test [] e h = absurd h
-left_was test (x ∷ es) e h =
-    (elim (test x.0) as (λ b. Has (cond b es (x ∷ remove_entry test es)) e → Has (x ∷ es) e) [
-      | true ↦ (λ there. inr there)
-      | false ↦ (λ there. elim there [ inl same ↦ inl same | inr more ↦ inr (left_was test es e more) ])
-    ]) h
-
--- each is a child
-pub lacking_has : (name : List ℕ) (children all : Parents) → MayLack name children all → (e : List ℕ × List ℕ) → Has children e → Has all e
-lacking_has name children all (inl same) e h = subst (λ (c : Parents). Has c e) same h
-lacking_has name children all (inr gone) e h = left_was (is_at (names name)) all e (subst (λ (c : Parents). Has c e) gone h)
-
--- without that one they are the same
-pub lacking_gone : (name : List ℕ) (children : Parents) (nodes : StoredNodes) → IsStrictlySortedBy names (keys_of nodes) → MayLack name children (children_of nodes) → remove_entry (is_at (names name)) children ≡ children_of (remove_entry (is_at (names name)) nodes)
-lacking_gone name children nodes s (inl same) = ap (remove_entry (is_at (names name))) same ∙ sym (children_removed nodes name s)
-lacking_gone name children nodes s (inr gone) = ap (remove_entry (is_at (names name))) gone ∙ removed_twice names nat_list_cmp_total name (children_of nodes) (children_sorted nodes s) ∙ sym (children_removed nodes name s)

@@ -1,5 +1,6 @@
 -- What a DELETE makes of the rows.
 use Rattle.std.proofs.Common.{◌≡◌, ◌⊎◌, inl, inr, ℕ, Bool, not, List, [], ◌∷◌, filter, map, slice_get, Option, Some, None, Ok, Err, Result, sym, ap, ◌∙◌, subst}
+use Rattle.std.specs.Prelude.{length, unwrap_or}
 use Rattle.std.specs.List.Sorted.{IsPermutation}
 use Rattle.sqlite_value.specs.Order.{Row}
 use Rattle.sqlite.specs.Term.{Term, col}
@@ -41,15 +42,16 @@ module _ (at : ℕ) (table : Table) (placed : slice_get the_schema.tables at ≡
   abbrev pub task : Task
   task = record { limit = old.step_limit; keys = Enforced; schema = the_schema; table = table; params = params }
 
-  pub record Wrote (command : Command) : Type 0 where
+  pub record Wrote (command : Command) (count : ℕ) : Type 0 where
     pub schema : new.now.schema ≡ the_schema
     pub written : Written
     pub did : WritesRows task old.now.trees command (Ok written)
     pub trees : new.now.trees ≡ written.trees
+    pub counted : count ≡ length written.rows
 
   pub wrote : (command : Command) (count : ℕ) (w : Writes old new None command text params count)
       → ((limit : Option ℕ) (db : Database) (out : Result (Tally × Database) (Option _)) → Does limit (mode_of old) params db text None command out ≡ AtPlace (λ t. OnRows (record { limit = limit; keys = Enforced; schema = db.schema; table = t; params = params }) (mode_of old) None command db.trees) (slice_get db.schema.tables at) out)
-      → Wrote command
+      → Wrote command count
   wrote command count w on =
       let at_place = subst (λ (P : Type 0). P) (on old.step_limit old.now (Ok (w.tally, new.now))) w.changed in
       let at_schema = subst (λ s. AtPlace (λ t. OnRows (record { limit = old.step_limit; keys = Enforced; schema = s; table = t; params = params }) (mode_of old) None command old.now.trees) (slice_get s.tables at) (Ok (w.tally, new.now))) has at_place in
@@ -58,7 +60,7 @@ module _ (at : ℕ) (table : Table) (placed : slice_get the_schema.tables at ≡
       let tested = went ran.2 in
       let ended = went tested.2 in
       let now = ap (λ (p : Tally × Database). p.1) (same_value ended.2) in
-      record { schema = ap (λ (d : Database). d.schema) now; written = ran.0; did = ran.1; trees = ap (λ (d : Database). d.trees) now }
+      record { schema = ap (λ (d : Database). d.schema) now; written = ran.0; did = ran.1; trees = ap (λ (d : Database). d.trees) now; counted = w.counted ∙ ap (λ (p : Tally × Database). unwrap_or p.0.rows 0) (same_value ended.2) }
 
   module _ (terms : List Term) (plainly : overlay old.now.trees [] table.tree ≡ old.now.trees table.tree) where
     abbrev pub q : Program
@@ -73,8 +75,8 @@ module _ (at : ℕ) (table : Table) (placed : slice_get the_schema.tables at ≡
       pub wrote : action.Writes the_schema Enforced old.now.trees (edit_of old.now.trees table (ids_of rows) Given 0 []) (Ok new.now.trees)
       pub left : left_by old.now.trees (edit_of old.now.trees table (ids_of rows) Given 0 []) ≡ filter (λ r. not (goes r)) (old.now.trees table.tree)
 
-    pub deleted : IsShaped shape.Table (old.now.trees table.tree) → Wrote (Delete at q) → Deleted
-    deleted shaped w =
+    pub deleted : {count : ℕ} → IsShaped shape.Table (old.now.trees table.tree) → Wrote (Delete at q) count → Deleted
+    deleted {count} shaped w =
         let queried = went w.did in
         let edited = went queried.2 in
         let trees = w.trees ∙ ap (λ (it : Written). it.trees) (same_value edited.2) in

@@ -48,15 +48,6 @@ module _ {K V : Type 0} (cmp : K → K → Ordering) (total : IsTotalOrder cmp) 
     | inr f ↦ rw (f, f) (lookup_removed k es s.1)
   ]
 
-  -- and taken out again it is the same
-  pub removed_twice : (k : K) (es : List (K × V)) → IsStrictlySortedBy cmp (keys_of es) → remove_entry (is_at (cmp k)) (remove_entry (is_at (cmp k)) es) ≡ remove_entry (is_at (cmp k)) es
-  unfolding IsStrictlySortedBy
-  removed_twice k [] s = refl
-  removed_twice k (e ∷ es) s = elim (cases_Bool (is_at (cmp k) e.0)) [
-    | inl t ↦ rw t (none_at_low k es (level k e.0 es (equal_is (cmp k e.0) t) s.0)).0
-    | inr f ↦ rw (f, f) (ap (λ xs. e ∷ xs) (removed_twice k es s.1))
-  ]
-
   -- a put is a removal and a put of a new key
   pub put_removed : CmpEqualImpliesEq cmp → (k : K) (v : V) (es : List (K × V)) → IsStrictlySortedBy cmp (keys_of es) → insert_entry cmp (remove_entry (is_at (cmp k)) es) k v ≡ insert_entry cmp es k v
   unfolding IsStrictlySortedBy
@@ -91,20 +82,6 @@ module _ {K V : Type 0} (cmp : K → K → Ordering) (total : IsTotalOrder cmp) 
       (elim (is_at (cmp k) e.0) as (λ b. is_at (cmp k) e.0 ≡ b → cond b (Some e.1) (lookup (is_at (cmp k)) es) ≡ Some v → Has (e ∷ es) (k, v)) [
         | true ↦ (λ t is. let key = exact k e.0 (equal_is (cmp k e.0) t) in let value : e.1 ≡ v = same_some is in inl (λ j. (key j, sym value j)))
         | false ↦ (λ f is. inr (lookup_has exact k v es is))
-      ]) refl found
-
-  none_not : (o : Option V) (v : V) → o ≡ None → o ≡ Some v → ⊥
-  none_not o v e h = let x : None ≡ Some v = sym e ∙ h in cc
-
-  -- a put of what is there changes nothing
-  pub put_there : (k : K) (v : V) (es : List (K × V)) → IsStrictlySortedBy cmp (keys_of es) → lookup (is_at (cmp k)) es ≡ Some v → insert_entry cmp es k v ≡ es
-  unfolding IsStrictlySortedBy
-  put_there k v [] s found = cc
-  put_there k v (e ∷ es) s found =
-      (elim (cmp k e.0) as (λ o. cmp k e.0 ≡ o → cond (is_eq o) (Some e.1) (lookup (is_at (cmp k)) es) ≡ Some v → match_ordering o ((k, v) ∷ e ∷ es) ((e.0, v) ∷ es) (e ∷ insert_entry cmp es k v) ≡ e ∷ es) [
-        | Less ↦ (λ c is. absurd (none_not (lookup (is_at (cmp k)) es) v (none_at_low k es (lower k e.0 es c s.0)).1 is))
-        | Equal ↦ (λ c is. let value : e.1 ≡ v = same_some is in ap (λ (x : V). (e.0, x) ∷ es) (sym value))
-        | Greater ↦ (λ c is. ap (λ xs. e ∷ xs) (put_there k v es s.1 is))
       ]) refl found
 
 -- ---- rows

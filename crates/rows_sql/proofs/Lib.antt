@@ -30,10 +30,10 @@ pub mod PutLock
 pub mod PutSession
 pub mod NodeKeys
 pub mod SetGeneration
-pub mod PutNode
+pub mod AddNode
+pub mod RenewNode
 pub mod Cascades
 pub mod RemoveNode
-pub mod RemoveChild
 pub mod WriteSteps
 pub mod MeaningOfCreation
 pub mod Creates
@@ -42,7 +42,7 @@ pub mod OpeningEdits
 pub mod Made
 pub mod ChildLists
 pub mod ChildKeys
-pub mod Adds
+pub mod Inserts
 pub mod PutChild
 pub mod NodeSteps
 pub mod Carried

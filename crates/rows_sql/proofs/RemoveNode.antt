@@ -32,25 +32,26 @@ use Rattle.sqlite.proofs.Callers.{runs_as, statement_of}
 use Rattle.rows_cell.specs.declared.keys.LockKey.{LockKey}
 use Rattle.rows_cell.specs.declared.tables.LockRow.{LockRow}
 use Rattle.rows_cell.specs.declared.tables.StoredNode.{StoredNode}
+use Rattle.rows_cell.specs.declared.tables.Edit.TheVariants.{RemoveNode}
 use Rattle.rows_cell.specs.Keys.{lock_order}
 use Rattle.rows_cell.specs.Rows.{StoredNodes, StoredLocks, stored_node, without_locks_of}
 use Rattle.rows_sql.specs.OurSchema.{the_schema, nodes}
 use Rattle.rows_sql.specs.Commands.{over}
-use Rattle.rows_sql.specs.Children.{Parents, children_of}
+use Rattle.rows_sql.specs.Children.{children_of}
 use Rattle.rows_sql.specs.Decode.{count_in, meta_in, node_in, lock_in, child_in}
 use Rattle.rows_sql.specs.Held.{Holds, HoldsSessions}
 use Rattle.rows_sql.specs.Ready.{meta_shown, node_shown, session_shown, lock_shown, child_shown}
 use Rattle.rows_sql.proofs.ReadLoops.{locks_total}
 use Rattle.rows_sql.specs.WriteTexts.{remove_node_text}
 use Rattle.rows_sql.specs.WriteCommands.{is, remove_node_command}
-use Rattle.rows_sql.specs.Ongoing.{IsStore, RanInside, RemovesEntry}
+use Rattle.rows_sql.specs.Ongoing.{IsStore, RanInside, Changed}
 use Rattle.rows_sql.proofs.WriteMeaning.{remove_node_is, remove_node_plain}
 use Rattle.rows_sql.proofs.Cascades.{is_of_row, is_name_of, lock_of, name_of, olds, went_with, no_lock_goes, no_name_goes, one_lock_goes, one_name_goes}
 use Rattle.rows_sql.proofs.Deletes as deletes
 use Rattle.rows_sql.proofs.Entries.{holds_removed, holds_kept, found_at, none_at, entry_of}
 use Rattle.rows_sql.proofs.Truths.{alone_and, same_some}
 use Rattle.rows_sql.proofs.Columns.{text_value}
-use Rattle.rows_sql.proofs.ChildLists.{not_child, lacking_has, lacking_gone}
+use Rattle.rows_sql.proofs.ChildLists.{not_child, children_removed}
 use Rattle.rows_sql.proofs.ChildKeys.{child_test}
 use Rattle.rows_sql.proofs.Counts.{equal_counts}
 use Rattle.rows_sql.proofs.LockKeys.{lock_said}
@@ -149,9 +150,9 @@ module _ (t : List ℕ) where
     ]
 
     -- the name goes from under its parent
-    names_left : (children : Parents) → Holds (slice_cmp nat_cmp) (λ r. child_in (child_shown r)) (old.trees 7) children → ((c : List ℕ × List ℕ) → Has children c → Has (children_of nodes) c) → Holds (slice_cmp nat_cmp) (λ r. child_in (child_shown r)) (filter (λ r. not (gone.name r)) (old.trees 7)) (remove_entry (is_at (slice_cmp nat_cmp t)) children)
-    names_left children held_children of_nodes =
-        holds_removed (slice_cmp nat_cmp) nat_list_cmp_total (λ r. child_in (child_shown r)) (old.trees 7) children held_children t gone.name (λ r there e says. elim (cases_Bool (list_any (has_name t) (old.trees 1))) [
+    names_left : Holds (slice_cmp nat_cmp) (λ r. child_in (child_shown r)) (old.trees 7) (children_of nodes) → Holds (slice_cmp nat_cmp) (λ r. child_in (child_shown r)) (filter (λ r. not (gone.name r)) (old.trees 7)) (remove_entry (is_at (slice_cmp nat_cmp t)) (children_of nodes))
+    names_left held_children =
+        holds_removed (slice_cmp nat_cmp) nat_list_cmp_total (λ r. child_in (child_shown r)) (old.trees 7) (children_of nodes) held_children t gone.name (λ r there e says. elim (cases_Bool (list_any (has_name t) (old.trees 1))) [
           | inl some ↦
               let o = some_has (has_name t) (old.trees 1) some in
               let text : column o.0 1 ≡ Text t = text_value (column o.0 1) t (node_rows old store o.0 o.1).name (and_parts _ _ o.2).0 in
@@ -159,18 +160,19 @@ module _ (t : List ℕ) where
           | inr none ↦
               let nobody : (o : Row) → Has (old.trees 1) o → has_name t o ≡ false = λ o h. false_from_ne_true _ (λ k. both_ways _ none (some_from (has_name t) (old.trees 1) o h k)) in
               let absent : stored_node nodes t ≡ None = none_at (slice_cmp nat_cmp) nat_list_cmp_total (λ x. node_in (node_shown x)) (old.trees 1) nodes held t (has_name t) test nobody in
-              let member = entry_of (slice_cmp nat_cmp) nat_list_cmp_total (λ x. child_in (child_shown x)) (old.trees 7) children held_children r there in
+              let member = entry_of (slice_cmp nat_cmp) nat_list_cmp_total (λ x. child_in (child_shown x)) (old.trees 7) (children_of nodes) held_children r there in
               let same : member.0 ≡ e = same_some (sym member.2 ∙ says) in
-              gone.no_name nobody r ∙ sym (not_child nodes t absent e (of_nodes e (subst (Has children) same member.1)))
+              gone.no_name nobody r ∙ sym (not_child nodes t absent e (subst (Has (children_of nodes)) same member.1))
         ])
 
     nodes_left : Holds (slice_cmp nat_cmp) (λ r. node_in (node_shown r)) (filter (λ r. not (has_name t r)) (old.trees 1)) (remove_entry (is_at (slice_cmp nat_cmp t)) nodes)
     nodes_left = holds_removed (slice_cmp nat_cmp) nat_list_cmp_total (λ r. node_in (node_shown r)) (old.trees 1) nodes held t (has_name t) test
 
-pub node_gone : (t : List ℕ) (v : ValueRef) → bound_value (owned v) ≡ Text t → (old new : State) → RanInside remove_node_text (bound (v ∷ [])) old new → RemovesEntry t old new
+pub node_gone : (t : List ℕ) (v : ValueRef) → bound_value (owned v) ≡ Text t → (old new : State) → RanInside remove_node_text (bound (v ∷ [])) old new → Changed (RemoveNode t ∷ []) old new
 node_gone t v is_text old new run = record {
   store = λ store. (node_removed t old new run.count store (ran run)).store;
-  says = λ store rows children lacks said.
+  says = λ store rows said.
+      let children = children_of rows.nodes in
       let gone = node_removed t old new run.count store (ran run) in
       let held = held_as_shown (slice_cmp nat_cmp) node_in node_shown (old.now.trees 1) rows.nodes said.nodes in
       let held_locks = held_as_shown lock_order lock_in lock_shown (old.now.trees 5) rows.locks said.locks in
@@ -183,9 +185,9 @@ node_gone t v is_text old new run = record {
         locks = shown_as_held lock_order lock_in lock_shown (new.now.trees 5) _
             (subst (λ rs. Holds lock_order (λ r. lock_in (lock_shown r)) rs (without_locks_of (stored_node rows.nodes t) rows.locks)) (sym gone.locks) (locks_left t old.now new.now store gone rows.nodes rows.locks held held_locks));
         children = shown_as_held (slice_cmp nat_cmp) child_in child_shown (new.now.trees 7) _
-            (subst (Holds (slice_cmp nat_cmp) (λ r. child_in (child_shown r)) (new.now.trees 7)) (lacking_gone t children rows.nodes held.sorted lacks)
+            (subst (Holds (slice_cmp nat_cmp) (λ r. child_in (child_shown r)) (new.now.trees 7)) (sym (children_removed rows.nodes t held.sorted))
             (subst (λ rs. Holds (slice_cmp nat_cmp) (λ r. child_in (child_shown r)) rs (remove_entry (is_at (slice_cmp nat_cmp t)) children)) (sym gone.children)
-            (names_left t old.now new.now store gone rows.nodes rows.locks held held_locks children held_children (lacking_has t children (children_of rows.nodes) lacks))));
+            (names_left t old.now new.now store gone rows.nodes rows.locks held held_locks held_children)));
       };
 }
   where

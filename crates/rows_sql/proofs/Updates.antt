@@ -1,10 +1,12 @@
 -- What an UPDATE of at most one row makes of the rows.
-use Rattle.std.proofs.Common.{◌≡◌, ◌≢◌, ◌⊎◌, inl, inr, ℕ, Bool, true, false, List, [], ◌∷◌, filter, map, Option, Ok, sym, ap, ◌∙◌, subst, cond}
+use Rattle.std.proofs.Common.{◌≡◌, ◌≢◌, ◌⊎◌, inl, inr, ℕ, suc, Bool, true, false, List, [], ◌∷◌, filter, map, Option, Ok, refl, sym, ap, ◌∙◌, subst, cond}
+use Rattle.std.specs.Prelude.{length, drop}
 use Rattle.std.specs.List.{AllByRecursion, list_any}
 use Rattle.std.specs.List.Sorted.{IsPermutation}
 use Rattle.std.specs.Ordering.{is_eq}
 use Rattle.std.proofs.lemmas.Bool.{cases_Bool, both_ways, false_from_ne_true}
 use Rattle.std.proofs.lemmas.Cmp.{tied_itself}
+use Rattle.std.proofs.lemmas.List.{length-map}
 use Rattle.std.proofs.lemmas.List.Sorted.{length_permutation}
 use Rattle.sqlite_value.specs.declared.value.Value.TheVariants.{Int}
 use Rattle.sqlite_value.specs.Order.{Row, value_cmp}
@@ -18,8 +20,10 @@ use Rattle.sqlite_trees.specs.Tree.{has_rowid}
 use Rattle.sqlite_trees.proofs.ListLemmas.{filter_none}
 use Rattle.sqlite_trees.proofs.TreeLemmas.{IsShaped-filter, IsShaped-put_row}
 use Rattle.sqlite_trees.specs.declared.store.Shape.TheVariants as shape
-use Rattle.sqlite.specs.Edit.{Edit, edit_of, taken_by, id_in}
+use Rattle.sqlite.specs.Edit.{Edit, edit_of, left_by, taken_by, id_in}
+use Rattle.sqlite_rules.specs.Edit.{numbered, with_rowid}
 use Rattle.sqlite.specs.Cast.{cast_row}
+use Rattle.sqlite.specs.Rowids.{Rowids}
 use Rattle.sqlite.specs.Rowids.TheVariants.{Given}
 use Rattle.sqlite_rules.specs.Calls.{ids_of}
 use Rattle.sqlite_rules.specs.Action as action
@@ -36,6 +40,10 @@ use Rattle.rows_sql.proofs.Truths.{equal_is}
 use Rattle.rows_sql.proofs.Trees.{replaced, only_row, swap_in, same_row, map_on, renewed, none_renewed}
 use Rattle.rows_sql.proofs.Query.{passes, shows, answered}
 use Rattle.rows_sql.proofs.Deletes.{went, same_value}
+
+length_numbered : (rowids : Rowids) (rows news : List Row) → length (numbered rowids rows news) ≡ length news
+length_numbered rowids rows [] = refl
+length_numbered rowids rows (r ∷ rs) = ap suc (length_numbered rowids (put_row (with_rowid rowids rows r) rows) rs)
 
 module _ (limit : Option ℕ) (table : Table) (params given : Row) (db : Trees) (terms project : List Term) (plainly : overlay db [] table.tree ≡ db table.tree) where
   abbrev task : Task
@@ -67,6 +75,15 @@ module _ (limit : Option ℕ) (table : Table) (params given : Row) (db : Trees) 
         shown = answered table.tree terms project given (record { schema = the_schema; trees = db }) queried.0 plainly queried.1;
         wrote = subst (λ t. action.Writes the_schema Enforced db (edit queried.0) (Ok t)) (sym (ap (λ (it : Written). it.trees) (same_value edited.2))) edited.1;
       }
+
+  -- it wrote as many rows as were found
+  pub counted : (written : Written) → Updates task (record { lets = []; body = over table.tree terms project }) given db (Ok written) → length written.rows ≡ length (filter goes es)
+  counted written did =
+      let queried = went did in
+      let edited = went queried.2 in
+      let perm = answered table.tree terms project given (record { schema = the_schema; trees = db }) queried.0 plainly queried.1 in
+      ap (λ (it : Written). length it.rows) (same_value edited.2) ∙ length_numbered Given (left_by db (edit queried.0)) (map (λ s. cast_row table (drop 1 s)) queried.0) ∙ length-map queried.0 (λ s. cast_row table (drop 1 s))
+      ∙ length_permutation (map shown_as (filter goes es)) queried.0 perm ∙ length-map (filter goes es) shown_as
 
   -- a row that is found becomes this one, which has its rowid; no two are found, and no foreign key acts on it
   pub record Renews (becomes : Row → Row) : Type 0 where

@@ -5,9 +5,9 @@ use Rattle.sqlite.specs.Listing.{understood}
 use Rattle.sqlite.specs.Given.{IsPlain}
 use Rattle.sqlite.proofs.Callers.{command_of}
 use Rattle.rows_sql.specs.OurSchema.{the_schema}
-use Rattle.rows_sql.specs.WriteTexts.{set_epoch_text, set_next_instance_text, put_node_text, put_child_text, set_lock_generation_text, remove_node_text, remove_child_text, put_session_text, put_lock_text, remove_lock_text}
+use Rattle.rows_sql.specs.WriteTexts.{set_epoch_text, set_next_instance_text, renew_node_text, add_node_text, put_child_text, set_lock_generation_text, remove_node_text, put_session_text, put_lock_text, remove_lock_text}
 use Rattle.rows_sql.specs.Carrying.{set_version_text, set_version_command}
-use Rattle.rows_sql.specs.WriteCommands.{set_epoch_command, set_next_instance_command, put_node_command, put_child_command, set_lock_generation_command, remove_node_command, remove_child_command, put_session_command, put_lock_command, remove_lock_command}
+use Rattle.rows_sql.specs.WriteCommands.{set_epoch_command, set_next_instance_command, renew_node_command, add_node_command, put_child_command, set_lock_generation_command, remove_node_command, put_session_command, put_lock_command, remove_lock_command}
 
 pub set_epoch_is : command_of (understood the_schema set_epoch_text) ≡ set_epoch_command
 unfolding understood everything
@@ -25,13 +25,21 @@ pub set_next_instance_plain : IsPlain (understood the_schema set_next_instance_t
 unfolding understood everything
 set_next_instance_plain = (refl, refl)
 
-pub put_node_is : command_of (understood the_schema put_node_text) ≡ put_node_command
+pub renew_node_is : command_of (understood the_schema renew_node_text) ≡ renew_node_command
 unfolding understood everything
-put_node_is = refl
+renew_node_is = refl
 
-pub put_node_plain : IsPlain (understood the_schema put_node_text)
+pub renew_node_plain : IsPlain (understood the_schema renew_node_text)
 unfolding understood everything
-put_node_plain = (refl, refl)
+renew_node_plain = (refl, refl)
+
+pub add_node_is : command_of (understood the_schema add_node_text) ≡ add_node_command
+unfolding understood everything
+add_node_is = refl
+
+pub add_node_plain : IsPlain (understood the_schema add_node_text)
+unfolding understood everything
+add_node_plain = (refl, refl)
 
 pub set_lock_generation_is : command_of (understood the_schema set_lock_generation_text) ≡ set_lock_generation_command
 unfolding understood everything
@@ -48,14 +56,6 @@ remove_node_is = refl
 pub remove_node_plain : IsPlain (understood the_schema remove_node_text)
 unfolding understood everything
 remove_node_plain = (refl, refl)
-
-pub remove_child_is : command_of (understood the_schema remove_child_text) ≡ remove_child_command
-unfolding understood everything
-remove_child_is = refl
-
-pub remove_child_plain : IsPlain (understood the_schema remove_child_text)
-unfolding understood everything
-remove_child_plain = (refl, refl)
 
 pub put_session_is : command_of (understood the_schema put_session_text) ≡ put_session_command
 unfolding understood everything

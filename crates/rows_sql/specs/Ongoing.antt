@@ -1,6 +1,6 @@
 -- A transaction that does edits.
-use Rattle.std.specs.Prelude.{◌≡◌, ◌⊎◌, ℕ, true, List, IsTrue, Ok, IfSome}
-use Rattle.std.specs.Map.{lookup, remove_entry}
+use Rattle.std.specs.Prelude.{◌≡◌, ℕ, Bool, true, List, None, IsTrue, Ok, IfSome, MatchBool}
+use Rattle.std.specs.Map.{lookup}
 use Rattle.std.specs.BTreeMap.{is_at, insert_entry}
 use Rattle.std.specs.Cmp.Lexicographic.{slice_cmp}
 use Rattle.std.specs.Ordering.{nat_cmp}
@@ -13,8 +13,8 @@ use Rattle.sqlite.specs.State.{State, Shows, Executes}
 use Rattle.sqlite_trees.specs.declared.store.Shape.TheVariants.{Table}
 use Rattle.rows_cell.specs.declared.tables.Rows.{Rows}
 use Rattle.rows_cell.specs.declared.tables.Edit.{Edit}
-use Rattle.rows_cell.specs.declared.tables.Edit.TheVariants.{PutNode, RemoveNode}
-use Rattle.rows_cell.specs.Rows.{changed_rows, edited}
+use Rattle.rows_cell.specs.declared.tables.Edit.TheVariants.{PutNode}
+use Rattle.rows_cell.specs.Rows.{changed_rows, edited, stored_node}
 use Rattle.node_core.specs.declared.nodes.Node.{Node}
 use Rattle.rows_sql.specs.declared.schema.ours.Version.{Version}
 use Rattle.rows_sql.specs.declared.schema.ours.Version.TheVariants.{Second}
@@ -44,6 +44,12 @@ pub record RanInside (sql : List ℕ) (params : Row) (old new : State) : Type 0 
   pub ran : Executes sql params old new (Ok count)
   pub shown : Shows old new new.now old.committed true
 
+-- the same, and it changed so many rows
+pub record RanCounted (sql : List ℕ) (params : Row) (count : ℕ) (old new : State) : Type 0 where
+  pub inside : IsTrue old.in_transaction
+  pub ran : Executes sql params old new (Ok count)
+  pub shown : Shows old new new.now old.committed true
+
 -- whatever rows the tables said, they say the changed ones
 abbrev pub SaysChanged : List Edit → Trees → Trees → Type 0
 SaysChanged change old new = (rows : Rows) → Says (tables_of old) rows → Says (tables_of new) (changed_rows rows change)
@@ -64,7 +70,13 @@ pub record Committed (change : List Edit) (old new : State) : Type 0 where
 abbrev pub MayCommit : List Edit → State → Trees → Type 0
 MayCommit change old db = IsStore old.now → SaysChanged change old.now.trees db
 
--- ---- a put of a node, in its two statements
+-- ---- a put of a node, in its statements
+
+-- the node was put, which is there; or there is none of this name, and the tables say what they said
+pub record Renews (name : List ℕ) (node : Node) (is_there : Bool) (old new : State) : Type 0 where
+  pub store : IsStore old.now → IsStore new.now
+  pub says : IsStore old.now → (rows : Rows) → Says (tables_of old.now.trees) rows
+      → MatchBool is_there (Says (tables_of new.now.trees) (edited rows (PutNode name node))) ((stored_node rows.nodes name ≡ None) × Says (tables_of new.now.trees) rows)
 
 -- the node was put, and its name not yet under its parent
 pub record PutsEntry (name : List ℕ) (node : Node) (old new : State) : Type 0 where
@@ -80,20 +92,3 @@ pub record PutsChild (child parent : List ℕ) (old new : State) : Type 0 where
   pub store : IsStore old.now → IsStore new.now
   pub says : IsStore old.now → (version : Version) (rows : Rows) (children : Parents) → HasNoOther children child parent → SaysWith version (tables_of old.now.trees) rows children
       → SaysWith version (tables_of new.now.trees) rows (insert_entry (slice_cmp nat_cmp) children child parent)
-
--- ---- a removal of a node, in its two statements
-
--- a name was taken from under its parent: whatever else the tables said, they say it still
-pub record TakesChild (child parent : List ℕ) (old new : State) : Type 0 where
-  pub store : IsStore old.now → IsStore new.now
-  pub says : IsStore old.now → (version : Version) (rows : Rows) (children : Parents) → HasNoOther children child parent → SaysWith version (tables_of old.now.trees) rows children
-      → SaysWith version (tables_of new.now.trees) rows (remove_entry (is_at (slice_cmp nat_cmp child)) children)
-
--- all children are there, or all but this name
-abbrev pub MayLack : List ℕ → Parents → Parents → Type 0
-MayLack name children all = (children ≡ all) ⊎ (children ≡ remove_entry (is_at (slice_cmp nat_cmp name)) all)
-
--- the node was removed, and its name from under its parent, if it was still there
-pub record RemovesEntry (name : List ℕ) (old new : State) : Type 0 where
-  pub store : IsStore old.now → IsStore new.now
-  pub says : IsStore old.now → (rows : Rows) (children : Parents) → MayLack name children (children_of rows.nodes) → SaysWith Second (tables_of old.now.trees) rows children → Says (tables_of new.now.trees) (edited rows (RemoveNode name))

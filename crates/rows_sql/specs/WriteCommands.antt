@@ -1,12 +1,12 @@
 -- What the statements of the edits mean.
-use Rattle.std.specs.Prelude.{[], ◌∷◌, Some, None, pos}
+use Rattle.std.specs.Prelude.{[], ◌∷◌, Some, pos}
 use Rattle.sqlite.specs.Collation.TheVariants.{Binary}
 use Rattle.sqlite.specs.declared.types.Value.TheVariants.{Null, Int}
 use Rattle.sqlite.specs.Term.{Term, lit, col, op2}
 use Rattle.sqlite_sql.specs.declared.ops.BinaryOp.TheVariants.{Compare}
 use Rattle.sqlite_sql.specs.declared.ops.CompareOp.TheVariants.{Eq, Ne}
 use Rattle.sqlite.specs.Command.{Command}
-use Rattle.sqlite.specs.Command.TheVariants.{InsertOr, Update, Delete}
+use Rattle.sqlite.specs.Command.TheVariants.{Insert, InsertOr, Update, Delete}
 use Rattle.sqlite.specs.Source.TheVariants.{Values}
 use Rattle.sqlite_schema.specs.declared.command.Conflict.TheVariants.{Abort}
 use Rattle.rows_sql.specs.Commands.{over}
@@ -23,23 +23,20 @@ set_epoch_command = Update 0 (record { lets = []; body = over 0 (is (col 1 0) (l
 abbrev pub set_next_instance_command : Command
 set_next_instance_command = Update 0 (record { lets = []; body = over 0 (is (col 1 0) (lit (Int (pos 1))) ∷ isnt (col 1 6) (col 0 0) ∷ []) (col 1 0 ∷ col 1 0 ∷ lit Null ∷ col 1 2 ∷ col 1 3 ∷ col 1 4 ∷ col 1 5 ∷ col 0 0 ∷ []) })
 
-abbrev pub put_node_command : Command
-put_node_command = InsertOr 1 Abort (Values (lit Null ∷ col 0 0 ∷ col 0 1 ∷ col 0 2 ∷ col 0 3 ∷ col 0 4 ∷ col 0 5 ∷ lit (Int (pos 0)) ∷ col 0 6 ∷ col 0 7 ∷ col 0 8 ∷ col 0 9 ∷ []) 12) (record {
-  target = Some (1 ∷ []);
-  update = Some (record { lets = []; body = over 1 (is (col 1 0) (col 0 10) ∷ []) (col 1 0 ∷ col 1 0 ∷ col 1 1 ∷ col 0 13 ∷ col 0 14 ∷ col 0 15 ∷ col 0 16 ∷ col 0 17 ∷ col 1 7 ∷ col 0 19 ∷ col 0 20 ∷ col 0 21 ∷ col 0 22 ∷ []) });
-} ∷ [])
+abbrev pub renew_node_command : Command
+renew_node_command = Update 1 (record { lets = []; body = over 1 (is (col 1 1) (col 0 0) ∷ []) (col 1 0 ∷ col 1 0 ∷ col 1 1 ∷ col 0 1 ∷ col 0 2 ∷ col 0 3 ∷ col 0 4 ∷ col 0 5 ∷ col 1 7 ∷ col 0 6 ∷ col 0 7 ∷ col 0 8 ∷ col 0 9 ∷ []) })
+
+abbrev pub add_node_command : Command
+add_node_command = Insert 1 (Values (lit Null ∷ col 0 0 ∷ col 0 1 ∷ col 0 2 ∷ col 0 3 ∷ col 0 4 ∷ col 0 5 ∷ lit (Int (pos 0)) ∷ col 0 6 ∷ col 0 7 ∷ col 0 8 ∷ col 0 9 ∷ []) 12)
 
 abbrev pub put_child_command : Command
-put_child_command = InsertOr 4 Abort (Values (lit Null ∷ col 0 0 ∷ col 0 1 ∷ []) 3) (record { target = Some (1 ∷ 2 ∷ []); update = None } ∷ [])
+put_child_command = Insert 4 (Values (lit Null ∷ col 0 0 ∷ col 0 1 ∷ []) 3)
 
 abbrev pub set_lock_generation_command : Command
 set_lock_generation_command = Update 1 (record { lets = []; body = over 1 (is (col 1 1) (col 0 0) ∷ []) (col 1 0 ∷ col 1 0 ∷ col 1 1 ∷ col 1 2 ∷ col 1 3 ∷ col 1 4 ∷ col 1 5 ∷ col 1 6 ∷ col 0 1 ∷ col 1 8 ∷ col 1 9 ∷ col 1 10 ∷ col 1 11 ∷ []) })
 
 abbrev pub remove_node_command : Command
 remove_node_command = Delete 1 (record { lets = []; body = over 1 (is (col 1 1) (col 0 0) ∷ []) (col 1 0 ∷ []) })
-
-abbrev pub remove_child_command : Command
-remove_child_command = Delete 4 (record { lets = []; body = over 7 (is (col 1 1) (col 0 0) ∷ is (col 1 2) (col 0 1) ∷ []) (col 1 0 ∷ []) })
 
 abbrev pub put_session_command : Command
 put_session_command = InsertOr 2 Abort (Values (col 0 0 ∷ lit Null ∷ col 0 1 ∷ col 0 2 ∷ []) 4) (record {

@@ -7,20 +7,20 @@ set_epoch_text = codes "UPDATE meta SET epoch = ?1 WHERE id = 1"
 abbrev pub set_next_instance_text : List ℕ
 set_next_instance_text = codes "UPDATE meta SET next_instance = ?1 WHERE id = 1 AND next_instance <> ?1"
 
-abbrev pub put_node_text : List ℕ
-put_node_text = codes "INSERT INTO nodes (name, instance, kind, life, content_gen, acl_gen, lock_gen, acl_read, acl_write, acl_change, content) VALUES (?1, ?2, ?3, ?4, ?5, ?6, 0, ?7, ?8, ?9, ?10) ON CONFLICT (name) DO UPDATE SET instance = excluded.instance, kind = excluded.kind, life = excluded.life, content_gen = excluded.content_gen, acl_gen = excluded.acl_gen, acl_read = excluded.acl_read, acl_write = excluded.acl_write, acl_change = excluded.acl_change, content = excluded.content"
+abbrev pub renew_node_text : List ℕ
+renew_node_text = codes "UPDATE nodes SET instance = ?2, kind = ?3, life = ?4, content_gen = ?5, acl_gen = ?6, acl_read = ?7, acl_write = ?8, acl_change = ?9, content = ?10 WHERE name = ?1"
+
+abbrev pub add_node_text : List ℕ
+add_node_text = codes "INSERT INTO nodes (name, instance, kind, life, content_gen, acl_gen, lock_gen, acl_read, acl_write, acl_change, content) VALUES (?1, ?2, ?3, ?4, ?5, ?6, 0, ?7, ?8, ?9, ?10)"
 
 abbrev pub put_child_text : List ℕ
-put_child_text = codes "INSERT INTO children (parent, child) VALUES (?1, ?2) ON CONFLICT (parent, child) DO NOTHING"
+put_child_text = codes "INSERT INTO children (parent, child) VALUES (?1, ?2)"
 
 abbrev pub set_lock_generation_text : List ℕ
 set_lock_generation_text = codes "UPDATE nodes SET lock_gen = ?2 WHERE name = ?1"
 
 abbrev pub remove_node_text : List ℕ
 remove_node_text = codes "DELETE FROM nodes WHERE name = ?1"
-
-abbrev pub remove_child_text : List ℕ
-remove_child_text = codes "DELETE FROM children WHERE parent = ?1 AND child = ?2"
 
 abbrev pub put_session_text : List ℕ
 put_session_text = codes "INSERT INTO sessions (client, principal, live) VALUES (?1, ?2, ?3) ON CONFLICT (client) DO UPDATE SET principal = excluded.principal, live = excluded.live"

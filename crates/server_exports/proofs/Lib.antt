@@ -1,5 +1,4 @@
 pub mod Behind
 pub mod Numbers
-pub mod Frames
 pub mod Naming
 pub mod Filling

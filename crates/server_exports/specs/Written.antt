@@ -9,19 +9,11 @@ use Rattle.tags_cell.specs.declared.messages.outs.Out.{Out}
 use Rattle.tags_cell.specs.declared.messages.outs.Out.TheVariants as outs
 use Rattle.codec.specs.declared.faults.WireFault.{WireFault}
 use Rattle.codec.specs.declared.faults.WireFault.TheVariants.{BadNumber}
-use Rattle.codec.specs.Forms.{◌>>=◌, read_whole}
-use Rattle.codec.specs.Requests.{request}
+use Rattle.codec.specs.Forms.{read_whole}
 use Rattle.codec.specs.Outs.{out_written}
 use Rattle.codec.specs.Laws.{AreBytes}
-use Rattle.hosting.specs.declared.frames.Frame.TheVariants as frames
 use Rattle.hosting.specs.declared.tellings.MasterFrame.TheVariants as tells
-use Rattle.hosting.specs.Blocks.{framed}
-use Rattle.hosting.specs.Frames.{frame}
 use Rattle.hosting.specs.Told.{told}
-
--- the frame by which the message of these bytes comes to a master at a moment
-abbrev pub message_frame : ℕ → List ℕ → Result (List ℕ) WireFault
-message_frame moment bytes = read_whole request bytes >>= λ message. framed frame (frames.Message moment message)
 
 abbrev pub refused_reply : ℕ → ℕ → ℕ → Reply
 refused_reply client epoch number = record { client = client; epoch = epoch; number = number; stamp = None; result = results.Refused StoreRefused }

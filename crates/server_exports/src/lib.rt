@@ -20,7 +20,7 @@ ghost use Rattle.codec.specs.Requests.{request};
 ghost use Rattle.codec.specs.Outs.{out_message};
 ghost use Rattle.hosting.specs.declared.frames.Frame.TheVariants as frames;
 ghost use Rattle.hosting.specs.Blocks.{framed};
-ghost use Rattle.hosting.specs.Frames.{frame};
+ghost use Rattle.hosting.specs.Frames.{frame, carried};
 ghost use Rattle.hosting.specs.Told.{told};
 ghost use Rattle.rows_remote.specs.declared.frames.KeeperAnswer.TheVariants as answers;
 ghost use Rattle.rows_remote.specs.Frames.{asked as asked_of_rows, answer, edit_at, framed as framed_answer};
@@ -28,7 +28,7 @@ ghost use Rattle.server_exports.specs.Codes.{Shows, Tells};
 ghost use Rattle.server_exports.specs.Asked.{asked_parts, asked_name};
 ghost use Rattle.server_exports.specs.Said.{said_parts, said_name};
 ghost use Rattle.server_exports.specs.Heard.{heard_parts, heard_name, block_text};
-ghost use Rattle.server_exports.specs.Written.{message_frame, store_refused};
+ghost use Rattle.server_exports.specs.Written.{store_refused};
 ghost use Rattle.server_exports.specs.Questions.{question_parts, question_name};
 ghost use Rattle.server_exports.specs.Edits.{edit_parts, edit_texts};
 ghost use Rattle.server_exports.specs.Rows.{node_row, session_row, lock_row, front_in};
@@ -39,7 +39,7 @@ pub use edits::EditParts;
 use edits::tell_edit;
 pub use heard::Heard;
 use heard::{block_text, tell_heard};
-use hosting::{Frame, write_frame};
+use hosting::{Frame, carry_message, write_frame};
 pub use laws::message_stands_behind;
 pub use questions::Question;
 use questions::tell_question;
@@ -50,7 +50,7 @@ use rows_remote::{write_kept, write_refused};
 pub use said::Said;
 use said::tell_said;
 use std::alloc::Global;
-use written::{message_frame, store_refused};
+use written::store_refused;
 
 /// What the client's message of these bytes asks for, by its parts; its name, or its principal, goes into the room, if it fits. 0; or
 /// 1 for want of memory, and 2 to 8 for what is wrong with the bytes, the first from the left: then nothing is written.
@@ -117,8 +117,8 @@ pub extern "C" fn cell_server_up(
     put(write_frame(alloc, &Frame::Up(moment)), room, length)
 }
 
-/// The frame by which the client's message of these bytes comes to a master at a moment, with the number of its bytes in front: 0; or
-/// 1 for want of memory, and 2 to 8 for what is wrong with the message: then nothing is written.
+/// The frame by which these bytes come to a master at a moment as a client's message, with the number of all its bytes in front: 0; or
+/// 1 for want of memory, and 2 where they were 2^32 or more: then nothing is written. The master alone reads them.
 #[unsafe(no_mangle)]
 pub extern "C" fn cell_server_message(
     alloc: Global,
@@ -127,9 +127,9 @@ pub extern "C" fn cell_server_message(
     room: &mut [u8],
     length: &mut usize,
 ) -> u32
-    ensures { Shows (message_frame moment message.now) room.old room.new length.old length.new result }
+    ensures { Shows (carried moment message.now) room.old room.new length.old length.new result }
 {
-    put(message_frame(alloc, moment, message), room, length)
+    put(carry_message(alloc, moment, message), room, length)
 }
 
 /// The frame by which a master does what there is to do at a moment, with the number of its bytes in front: 0, or 1 for want of memory.

@@ -1,28 +1,12 @@
 //! What a server writes.
 ghost use Rattle.collections.specs.Results.{Gives};
-ghost use Rattle.server_exports.specs.Written.{message_frame, store_refused};
+ghost use Rattle.server_exports.specs.Written.{store_refused};
 
-use codec::{WireFault, read_request, write_out};
+use codec::{WireFault, write_out};
 use collections::Bytes;
-use hosting::{Frame, write_frame};
 use node_core::Fault;
 use std::alloc::Global;
 use tags_cell::{CallResult, ClientNumber, MessageNumber, Out, Reply};
-
-// The frame by which the message of these bytes comes to a master at a moment.
-pub(crate) fn message_frame(alloc: Global, moment: u64, message: &[u8]) -> Result<Bytes, WireFault>
-    ensures { Gives WireFault.NoMemory result (message_frame moment message.now) }
-{
-    match read_request(alloc, message) {
-        Ok(request) => {
-            let sent = Frame::Message(moment, request);
-            let written = write_frame(alloc, &sent);
-            drop(sent);
-            written
-        }
-        Err(fault) => Err(fault),
-    }
-}
 
 // The reply that the store refused a call.
 pub(crate) fn store_refused(

@@ -390,21 +390,8 @@ shown_then s now bytes mode sequencer (Some handle) =
 -- the moment doesn't matter to what a call changes
 noted_change : (s : MasterState) (now client number : ℕ) (call : Call) (sequencer : Option (List ℕ)) → change_of (effect (name_space (noted s now)) (caller (noted s now) client) (noted s now).clock number call sequencer) ≡ change_of (effect (name_space s) (caller s client) s.clock number call sequencer)
 unfolding effect
-noted_change s now client number (calls.Open opening) sequencer = refl
-noted_change s now client number (calls.Close bytes) sequencer = refl
-noted_change s now client number (calls.Read bytes) sequencer = refl
-noted_change s now client number (calls.Stat bytes) sequencer = refl
-noted_change s now client number (calls.List bytes) sequencer = refl
-noted_change s now client number (calls.Set bytes content generation) sequencer = refl
-noted_change s now client number (calls.SetAcl bytes acls generation) sequencer = refl
-noted_change s now client number (calls.Delete bytes) sequencer = refl
-noted_change s now client number (calls.Acquire bytes mode) sequencer = refl
 noted_change s now client number (calls.TryAcquire bytes mode) sequencer = shown_then s now bytes mode sequencer (read_handle s.secret bytes)
-noted_change s now client number (calls.Release bytes) sequencer = refl
-noted_change s now client number (calls.GetSequencer bytes) sequencer = refl
-noted_change s now client number (calls.SetSequencer bytes) sequencer = refl
-noted_change s now client number (calls.CheckSequencer bytes) sequencer = refl
-noted_change s now client number calls.Leave sequencer = refl
+noted_change s now client number call sequencer = refl
 
 agreed : (w : WorldState) (m : Option MasterState) (s : MasterState) → m ≡ Some s → Agrees w m → IsKept w.cell w.rows s
 agreed w m s e h = rw e at h

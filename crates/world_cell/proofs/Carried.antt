@@ -186,7 +186,7 @@ module _ (R : Reply → Type 0) (E : Event → Type 0) where
   first_hold true up = (up, tt)
   first_hold false up = tt
 
-  pub taken_over_hold : (now : ℕ) (es : List (ℕ × stored.Session)) (client : ℕ) → E events.FailOver → OfSession (lookup (is_at (nat_cmp client)) (map (taken_over now) es))
+  pub taken_over_hold : (now : ℕ) (es : List (ℕ × stored.SessionRow)) (client : ℕ) → E events.FailOver → OfSession (lookup (is_at (nat_cmp client)) (map (taken_over now) es))
   taken_over_hold now [] client up = tt
   taken_over_hold now (e ∷ es) client up =
       elim (is_at (nat_cmp client) e.0) as (λ b. OfSession (cond b (Some (taken_over now e).1) (lookup (is_at (nat_cmp client)) (map (taken_over now) es)))) [

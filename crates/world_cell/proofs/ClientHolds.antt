@@ -148,15 +148,15 @@ without_first : {A : Type 0} (P : A → Type 0) (b : Bool) (xs : List A) → All
 without_first P true xs h = all_but_first P xs h
 without_first P false xs h = h
 
-kept_more : (kept : List (shared.Kept NewHandle)) (one : shared.Kept NewHandle) → AllByRecursion IsSharedByName kept → IsSharedByName one → AllByRecursion IsSharedByName (with_kept kept one)
+kept_more : (kept : List (shared.SharedHandle NewHandle)) (one : shared.SharedHandle NewHandle) → AllByRecursion IsSharedByName kept → IsSharedByName one → AllByRecursion IsSharedByName (with_kept kept one)
 kept_more kept one h k = without_first IsSharedByName (nat_lt entry_limit (length (kept ++ one ∷ []))) (kept ++ one ∷ []) (all_appended IsSharedByName kept one h k)
 
-kept_if : (b : Bool) (kept : List (shared.Kept NewHandle)) (one : shared.Kept NewHandle) → AllByRecursion IsSharedByName kept → IsSharedByName one → AllByRecursion IsSharedByName (cond b (with_kept kept one) kept)
+kept_if : (b : Bool) (kept : List (shared.SharedHandle NewHandle)) (one : shared.SharedHandle NewHandle) → AllByRecursion IsSharedByName kept → IsSharedByName one → AllByRecursion IsSharedByName (cond b (with_kept kept one) kept)
 kept_if true kept one h k = kept_more kept one h k
 kept_if false kept one h k = h
 
 -- one that serves is of the name that it serves
-pub serves_name : (kept : List (shared.Kept NewHandle)) (name : List ℕ) (instance : ℕ) (handle : NewHandle) → AllByRecursion IsSharedByName kept → serving kept name instance ≡ Some handle → name_in handle.bytes ≡ name
+pub serves_name : (kept : List (shared.SharedHandle NewHandle)) (name : List ℕ) (instance : ℕ) (handle : NewHandle) → AllByRecursion IsSharedByName kept → serving kept name instance ≡ Some handle → name_in handle.bytes ≡ name
 serves_name kept name instance handle all is =
     let found = served_is_kept IsSharedByName kept name instance handle all is in
     ap (λ (x : NewHandle). name_in x.bytes) (sym found.4) ∙ found.1 ∙ found.2
@@ -213,7 +213,7 @@ same_handles sent s new same call h =
 pub grips_stay : (sent : List Message) (s new : ClientState) → Grips sent s → SameGrips s new → Grips sent new
 grips_stay sent s new h same = record {
   handles = handles_then s.opened new.opened s.handles new.handles same.opened same.handles h.handles;
-  kept = subst (λ (kept : List (shared.Kept NewHandle)). AllByRecursion IsSharedByName kept) (sym same.kept) h.kept;
+  kept = subst (λ (kept : List (shared.SharedHandle NewHandle)). AllByRecursion IsSharedByName kept) (sym same.kept) h.kept;
   asked = λ call is. same_handles sent s new same call (h.asked call (sym same.outstanding ∙ is));
 }
 
@@ -397,7 +397,7 @@ behind_handles : (opened : ℕ) (handles : Handles) (handle : NewHandle) (o : Op
 behind_handles opened handles handle None h named = more_counted opened handles h
 behind_handles opened handles handle (Some opening) h named = put_handles opened handles (kept_handle handle opening (is_shareable handle opening)) h (named opening refl)
 
-behind_kept : (kept : List (shared.Kept NewHandle)) (handle : NewHandle) (o : Option Open) → AllByRecursion IsSharedByName kept → ((opening : Open) → o ≡ Some opening → name_in handle.bytes ≡ opening.name) → AllByRecursion IsSharedByName (kept_behind kept handle o)
+behind_kept : (kept : List (shared.SharedHandle NewHandle)) (handle : NewHandle) (o : Option Open) → AllByRecursion IsSharedByName kept → ((opening : Open) → o ≡ Some opening → name_in handle.bytes ≡ opening.name) → AllByRecursion IsSharedByName (kept_behind kept handle o)
 behind_kept kept handle None h named = h
 behind_kept kept handle (Some opening) h named = kept_if (is_shareable handle opening) kept (record { name = opening.name; instance = handle.instance; handle = handle }) h (named opening refl)
 

@@ -299,7 +299,7 @@ same_members old new h e epoch number member is =
 abbrev pub IsFirst : Option (Session Reply) → Type 0
 IsFirst o = (kept_in o ≡ None) × IsInTurn o []
 
-pub all_first : (now : ℕ) (es : List (ℕ × stored.Session)) (client : ℕ) → IsFirst (lookup (is_at (nat_cmp client)) (map (taken_over now) es))
+pub all_first : (now : ℕ) (es : List (ℕ × stored.SessionRow)) (client : ℕ) → IsFirst (lookup (is_at (nat_cmp client)) (map (taken_over now) es))
 all_first now [] client = (refl, refl)
 all_first now (e ∷ es) client =
     elim (is_at (nat_cmp client) e.0) as (λ b. IsFirst (cond b (Some (taken_over now e).1) (lookup (is_at (nat_cmp client)) (map (taken_over now) es)))) [

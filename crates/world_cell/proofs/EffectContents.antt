@@ -41,7 +41,7 @@ use Rattle.master_parts.specs.Claims.{owner_of, claim_of}
 use Rattle.master_state.specs.NameSpace.{name_space, caller}
 use Rattle.master_state.specs.State.{MasterState}
 use Rattle.master_state.specs.Lookups.{missing_right, node_of_handle, new_handle, open_present, plain_open, opened_answer, list_answer, sequencer_fault, release_fault, lock_under, sequencer_result, answer_on_node, answer_under, answer_on, shown_handle, is_of_cell, may}
-use Rattle.master_parts.specs.Calls.{is_too_long, content_fault, node_fault, delay_fault, create_fault, write_fault, needing}
+use Rattle.master_parts.specs.Calls.{is_too_long, content_fault, node_fault, delay_fault, create_fault, write_fault, needing, bytes_of}
 use Rattle.cell_core.specs.Step.{admission_of_open, answering, admission_under, check_admission, handle_admission, admission_of}
 use Rattle.cell_core.specs.declared.effects.Effect.{Effect}
 use Rattle.cell_core.specs.Effect as effects
@@ -142,8 +142,6 @@ module _ (s : MasterState) where
   sequencer_shown (Err fault) = tt
 
   on_node_shown : (handle : Handle) (call : Call) (view : Node) → get_node s.nodes handle.name ≡ Some view → IsShownIf s.nodes (answer_on_node (name_space s) handle call view)
-  on_node_shown handle (calls.Open opening) view found = tt
-  on_node_shown handle (calls.Close bytes) view found = tt
   on_node_shown handle (calls.Read bytes) view found = needing_shown handle rights.Read (Some (results.Viewed (view_of s.nodes handle.name view))) (handle.name, found)
   on_node_shown handle (calls.Stat bytes) view found = (handle.name, view, found, refl, refl)
   on_node_shown handle (calls.List bytes) view found = needing_shown handle rights.Read (Some (list_answer (view_of s.nodes handle.name view) view.kind)) (list_shown (view_of s.nodes handle.name view) view.kind)
@@ -154,9 +152,7 @@ module _ (s : MasterState) where
   on_node_shown handle (calls.TryAcquire bytes mode) view found = needing_shown handle rights.Write None tt
   on_node_shown handle (calls.Release bytes) view found = needing_shown handle rights.Write (release_fault (name_space s) handle) (release_shown handle)
   on_node_shown handle (calls.GetSequencer bytes) view found = sequencer_shown (sequencer_of (lock_under (name_space s) handle) handle.instance handle.name (owner_of handle))
-  on_node_shown handle (calls.SetSequencer bytes) view found = tt
-  on_node_shown handle (calls.CheckSequencer bytes) view found = tt
-  on_node_shown handle calls.Leave view found = tt
+  on_node_shown handle call view found = tt
 
   on_node_under_shown : (handle : Handle) (call : Call) (view : Node) (o : Option Fault) → get_node s.nodes handle.name ≡ Some view → IsShownIf s.nodes (answer_under (name_space s) handle call view o)
   on_node_under_shown handle call view (Some fault) found = tt
@@ -168,21 +164,8 @@ module _ (s : MasterState) where
       (λ view is. on_node_under_shown handle call view (sequencer_fault (name_space s) sequencer) (node_shown handle (get_node s.nodes handle.name) view refl is)) tt
 
   on_shown : (handle : Handle) (call : Call) (sequencer : Option (List ℕ)) → IsShownIf s.nodes (answer_on (name_space s) handle call sequencer)
-  on_shown handle (calls.Open opening) sequencer = at_node_shown handle (calls.Open opening) sequencer
   on_shown handle (calls.Close bytes) sequencer = tt
-  on_shown handle (calls.Read bytes) sequencer = at_node_shown handle (calls.Read bytes) sequencer
-  on_shown handle (calls.Stat bytes) sequencer = at_node_shown handle (calls.Stat bytes) sequencer
-  on_shown handle (calls.List bytes) sequencer = at_node_shown handle (calls.List bytes) sequencer
-  on_shown handle (calls.Set bytes content generation) sequencer = at_node_shown handle (calls.Set bytes content generation) sequencer
-  on_shown handle (calls.SetAcl bytes acls generation) sequencer = at_node_shown handle (calls.SetAcl bytes acls generation) sequencer
-  on_shown handle (calls.Delete bytes) sequencer = at_node_shown handle (calls.Delete bytes) sequencer
-  on_shown handle (calls.Acquire bytes mode) sequencer = at_node_shown handle (calls.Acquire bytes mode) sequencer
-  on_shown handle (calls.TryAcquire bytes mode) sequencer = at_node_shown handle (calls.TryAcquire bytes mode) sequencer
-  on_shown handle (calls.Release bytes) sequencer = at_node_shown handle (calls.Release bytes) sequencer
-  on_shown handle (calls.GetSequencer bytes) sequencer = at_node_shown handle (calls.GetSequencer bytes) sequencer
-  on_shown handle (calls.SetSequencer bytes) sequencer = at_node_shown handle (calls.SetSequencer bytes) sequencer
-  on_shown handle (calls.CheckSequencer bytes) sequencer = at_node_shown handle (calls.CheckSequencer bytes) sequencer
-  on_shown handle calls.Leave sequencer = at_node_shown handle calls.Leave sequencer
+  on_shown handle call sequencer = at_node_shown handle call sequencer
 
   handle_shown : (call : Call) (sequencer : Option (List ℕ)) (o : Option Handle) → IsShownIf s.nodes (handle_admission s call sequencer o).answer
   handle_shown call sequencer None = tt
@@ -209,18 +192,7 @@ module _ (s : MasterState) where
       ]
   admission_shown client number (calls.CheckSequencer bytes) sequencer = check_shown bytes (sequencer_fault (name_space s) sequencer)
   admission_shown client number calls.Leave sequencer = tt
-  admission_shown client number (calls.Close bytes) sequencer = handle_shown (calls.Close bytes) sequencer (shown_handle s client bytes)
-  admission_shown client number (calls.Read bytes) sequencer = handle_shown (calls.Read bytes) sequencer (shown_handle s client bytes)
-  admission_shown client number (calls.Stat bytes) sequencer = handle_shown (calls.Stat bytes) sequencer (shown_handle s client bytes)
-  admission_shown client number (calls.List bytes) sequencer = handle_shown (calls.List bytes) sequencer (shown_handle s client bytes)
-  admission_shown client number (calls.Set bytes content generation) sequencer = handle_shown (calls.Set bytes content generation) sequencer (shown_handle s client bytes)
-  admission_shown client number (calls.SetAcl bytes acls generation) sequencer = handle_shown (calls.SetAcl bytes acls generation) sequencer (shown_handle s client bytes)
-  admission_shown client number (calls.Delete bytes) sequencer = handle_shown (calls.Delete bytes) sequencer (shown_handle s client bytes)
-  admission_shown client number (calls.Acquire bytes mode) sequencer = handle_shown (calls.Acquire bytes mode) sequencer (shown_handle s client bytes)
-  admission_shown client number (calls.TryAcquire bytes mode) sequencer = handle_shown (calls.TryAcquire bytes mode) sequencer (shown_handle s client bytes)
-  admission_shown client number (calls.Release bytes) sequencer = handle_shown (calls.Release bytes) sequencer (shown_handle s client bytes)
-  admission_shown client number (calls.GetSequencer bytes) sequencer = handle_shown (calls.GetSequencer bytes) sequencer (shown_handle s client bytes)
-  admission_shown client number (calls.SetSequencer bytes) sequencer = handle_shown (calls.SetSequencer bytes) sequencer (shown_handle s client bytes)
+  admission_shown client number call sequencer = handle_shown call sequencer (shown_handle s client (bytes_of call))
 
   pub answer_shown : (client number : ℕ) (call : Call) (sequencer : Option (List ℕ)) (answer : CallResult) → (admission_of s client number call sequencer).answer ≡ Some answer → IsShown s.nodes answer
   answer_shown client number call sequencer answer is = subst (IsShownIf s.nodes) is (admission_shown client number call sequencer)
@@ -296,21 +268,13 @@ module _ (s : MasterState) where
   released_faithful handle (Err fault) = (tt, tt)
 
   change_faithful : (handle : Handle) (call : Call) (view : Node) → get_node s.nodes handle.name ≡ Some view → IsFaithful s (change_at (name_space s) s.clock handle call view)
-  change_faithful handle (calls.Open opening) view found = (tt, tt)
-  change_faithful handle (calls.Close bytes) view found = (tt, tt)
-  change_faithful handle (calls.Read bytes) view found = (tt, tt)
-  change_faithful handle (calls.Stat bytes) view found = (tt, tt)
-  change_faithful handle (calls.List bytes) view found = (tt, tt)
   change_faithful handle (calls.Set bytes content generation) view found = put_faithful handle view.content_generation generation (effects.content_fault (name_space s) view content) (with_content view content) (inr (handle.name, view, found, refl, one_more view.content_generation))
   change_faithful handle (calls.SetAcl bytes acls generation) view found = put_faithful handle view.acl_generation generation None (with_acls view acls) (inr (handle.name, view, found, refl, least view.content_generation))
   change_faithful handle (calls.Delete bytes) view found = either (IsFaithful s) (has_children s.nodes handle.name || is_none (parent_of handle.name)) (refused faults.NotEmpty) (deleted (name_space s) handle) (tt, tt) (tt, tt)
   change_faithful handle (calls.Acquire bytes mode) view found = acquired_faithful handle (claim_of handle mode) (lock_fault (name_space s) handle.client) (acquired (lock_under (name_space s) handle) (claim_of handle mode))
   change_faithful handle (calls.TryAcquire bytes mode) view found = tried_faithful handle (claim_of handle mode) (lock_fault (name_space s) handle.client) (tried (lock_under (name_space s) handle) (claim_of handle mode) s.clock)
   change_faithful handle (calls.Release bytes) view found = released_faithful handle (released (lock_under (name_space s) handle) (owner_of handle))
-  change_faithful handle (calls.GetSequencer bytes) view found = (tt, tt)
-  change_faithful handle (calls.SetSequencer bytes) view found = (tt, tt)
-  change_faithful handle (calls.CheckSequencer bytes) view found = (tt, tt)
-  change_faithful handle calls.Leave view found = (tt, tt)
+  change_faithful handle call view found = (tt, tt)
 
   change_on_faithful : (handle : Handle) (call : Call) → IsFaithful s (change_on (name_space s) s.clock handle call)
   change_on_faithful handle call =
@@ -322,21 +286,8 @@ module _ (s : MasterState) where
   first_faithful handle call (Some answer) h = (tt, h)
 
   on_faithful : (handle : Handle) (call : Call) (sequencer : Option (List ℕ)) → IsFaithful s (effect_on (name_space s) s.clock handle call sequencer)
-  on_faithful handle (calls.Open opening) sequencer = first_faithful handle (calls.Open opening) (answer_on (name_space s) handle (calls.Open opening) sequencer) (on_shown handle (calls.Open opening) sequencer)
   on_faithful handle (calls.Close bytes) sequencer = (tt, tt)
-  on_faithful handle (calls.Read bytes) sequencer = first_faithful handle (calls.Read bytes) (answer_on (name_space s) handle (calls.Read bytes) sequencer) (on_shown handle (calls.Read bytes) sequencer)
-  on_faithful handle (calls.Stat bytes) sequencer = first_faithful handle (calls.Stat bytes) (answer_on (name_space s) handle (calls.Stat bytes) sequencer) (on_shown handle (calls.Stat bytes) sequencer)
-  on_faithful handle (calls.List bytes) sequencer = first_faithful handle (calls.List bytes) (answer_on (name_space s) handle (calls.List bytes) sequencer) (on_shown handle (calls.List bytes) sequencer)
-  on_faithful handle (calls.Set bytes content generation) sequencer = first_faithful handle (calls.Set bytes content generation) (answer_on (name_space s) handle (calls.Set bytes content generation) sequencer) (on_shown handle (calls.Set bytes content generation) sequencer)
-  on_faithful handle (calls.SetAcl bytes acls generation) sequencer = first_faithful handle (calls.SetAcl bytes acls generation) (answer_on (name_space s) handle (calls.SetAcl bytes acls generation) sequencer) (on_shown handle (calls.SetAcl bytes acls generation) sequencer)
-  on_faithful handle (calls.Delete bytes) sequencer = first_faithful handle (calls.Delete bytes) (answer_on (name_space s) handle (calls.Delete bytes) sequencer) (on_shown handle (calls.Delete bytes) sequencer)
-  on_faithful handle (calls.Acquire bytes mode) sequencer = first_faithful handle (calls.Acquire bytes mode) (answer_on (name_space s) handle (calls.Acquire bytes mode) sequencer) (on_shown handle (calls.Acquire bytes mode) sequencer)
-  on_faithful handle (calls.TryAcquire bytes mode) sequencer = first_faithful handle (calls.TryAcquire bytes mode) (answer_on (name_space s) handle (calls.TryAcquire bytes mode) sequencer) (on_shown handle (calls.TryAcquire bytes mode) sequencer)
-  on_faithful handle (calls.Release bytes) sequencer = first_faithful handle (calls.Release bytes) (answer_on (name_space s) handle (calls.Release bytes) sequencer) (on_shown handle (calls.Release bytes) sequencer)
-  on_faithful handle (calls.GetSequencer bytes) sequencer = first_faithful handle (calls.GetSequencer bytes) (answer_on (name_space s) handle (calls.GetSequencer bytes) sequencer) (on_shown handle (calls.GetSequencer bytes) sequencer)
-  on_faithful handle (calls.SetSequencer bytes) sequencer = first_faithful handle (calls.SetSequencer bytes) (answer_on (name_space s) handle (calls.SetSequencer bytes) sequencer) (on_shown handle (calls.SetSequencer bytes) sequencer)
-  on_faithful handle (calls.CheckSequencer bytes) sequencer = first_faithful handle (calls.CheckSequencer bytes) (answer_on (name_space s) handle (calls.CheckSequencer bytes) sequencer) (on_shown handle (calls.CheckSequencer bytes) sequencer)
-  on_faithful handle calls.Leave sequencer = first_faithful handle calls.Leave (answer_on (name_space s) handle calls.Leave sequencer) (on_shown handle calls.Leave sequencer)
+  on_faithful handle call sequencer = first_faithful handle call (answer_on (name_space s) handle call sequencer) (on_shown handle call sequencer)
 
   shown_faithful : (call : Call) (sequencer : Option (List ℕ)) (o : Option Handle) → IsFaithful s (handle_effect (name_space s) s.clock call sequencer o)
   shown_faithful call sequencer None = (tt, tt)
@@ -345,17 +296,4 @@ module _ (s : MasterState) where
   pub effect_faithful : (client number : ℕ) (call : Call) (sequencer : Option (List ℕ)) → IsFaithful s (effect (name_space s) (caller s client) s.clock number call sequencer)
   unfolding effect
   effect_faithful client number (calls.Open opening) sequencer = open_faithful client number opening sequencer opening.create
-  effect_faithful client number (calls.Close bytes) sequencer = shown_faithful (calls.Close bytes) sequencer (read_handle s.secret bytes)
-  effect_faithful client number (calls.Read bytes) sequencer = shown_faithful (calls.Read bytes) sequencer (read_handle s.secret bytes)
-  effect_faithful client number (calls.Stat bytes) sequencer = shown_faithful (calls.Stat bytes) sequencer (read_handle s.secret bytes)
-  effect_faithful client number (calls.List bytes) sequencer = shown_faithful (calls.List bytes) sequencer (read_handle s.secret bytes)
-  effect_faithful client number (calls.Set bytes content generation) sequencer = shown_faithful (calls.Set bytes content generation) sequencer (read_handle s.secret bytes)
-  effect_faithful client number (calls.SetAcl bytes acls generation) sequencer = shown_faithful (calls.SetAcl bytes acls generation) sequencer (read_handle s.secret bytes)
-  effect_faithful client number (calls.Delete bytes) sequencer = shown_faithful (calls.Delete bytes) sequencer (read_handle s.secret bytes)
-  effect_faithful client number (calls.Acquire bytes mode) sequencer = shown_faithful (calls.Acquire bytes mode) sequencer (read_handle s.secret bytes)
-  effect_faithful client number (calls.TryAcquire bytes mode) sequencer = shown_faithful (calls.TryAcquire bytes mode) sequencer (read_handle s.secret bytes)
-  effect_faithful client number (calls.Release bytes) sequencer = shown_faithful (calls.Release bytes) sequencer (read_handle s.secret bytes)
-  effect_faithful client number (calls.GetSequencer bytes) sequencer = shown_faithful (calls.GetSequencer bytes) sequencer (read_handle s.secret bytes)
-  effect_faithful client number (calls.SetSequencer bytes) sequencer = shown_faithful (calls.SetSequencer bytes) sequencer (read_handle s.secret bytes)
-  effect_faithful client number (calls.CheckSequencer bytes) sequencer = shown_faithful (calls.CheckSequencer bytes) sequencer (read_handle s.secret [])
-  effect_faithful client number calls.Leave sequencer = shown_faithful calls.Leave sequencer (read_handle s.secret [])
+  effect_faithful client number call sequencer = shown_faithful call sequencer (read_handle s.secret (bytes_of call))

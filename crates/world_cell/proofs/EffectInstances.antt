@@ -38,7 +38,7 @@ use Rattle.master_parts.specs.Claims.{owner_of, claim_of}
 use Rattle.master_state.specs.NameSpace.{name_space, caller}
 use Rattle.master_state.specs.State.{MasterState}
 use Rattle.master_state.specs.Lookups.{missing_right, node_of_handle, new_handle, sequencer_fault, lock_under, answer_on, is_of_cell, may}
-use Rattle.master_parts.specs.Calls.{create_fault}
+use Rattle.master_parts.specs.Calls.{create_fault, bytes_of}
 use Rattle.over_core.specs.Kept.{is_there}
 use Rattle.world_cell.specs.Locks.{instance_in}
 use Rattle.tags_cell.specs.declared.messages.outs.CallResult.TheVariants as results
@@ -158,11 +158,6 @@ released_gives s handle (Ok turn) = tt
 released_gives s handle (Err fault) = tt
 
 change_gives : (s : MasterState) (handle : Handle) (call : Call) (view : Node) → instance_in s.nodes handle.name ≡ Some view.instance → GivesBy s (change_at (name_space s) s.clock handle call view)
-change_gives s handle (calls.Open opening) view there = tt
-change_gives s handle (calls.Close bytes) view there = tt
-change_gives s handle (calls.Read bytes) view there = tt
-change_gives s handle (calls.Stat bytes) view there = tt
-change_gives s handle (calls.List bytes) view there = tt
 change_gives s handle (calls.Set bytes content generation) view there = put_gives s handle view.content_generation generation (content_fault (name_space s) view content) (with_content view content) there
 change_gives s handle (calls.SetAcl bytes acls generation) view there = put_gives s handle view.acl_generation generation None (with_acls view acls) there
 change_gives s handle (calls.Delete bytes) view there =
@@ -170,10 +165,7 @@ change_gives s handle (calls.Delete bytes) view there =
 change_gives s handle (calls.Acquire bytes mode) view there = acquired_gives s handle (claim_of handle mode) (lock_fault (name_space s) handle.client) (acquired (lock_under (name_space s) handle) (claim_of handle mode))
 change_gives s handle (calls.TryAcquire bytes mode) view there = tried_gives s handle (claim_of handle mode) (lock_fault (name_space s) handle.client) (tried (lock_under (name_space s) handle) (claim_of handle mode) s.clock)
 change_gives s handle (calls.Release bytes) view there = released_gives s handle (released (lock_under (name_space s) handle) (owner_of handle))
-change_gives s handle (calls.GetSequencer bytes) view there = tt
-change_gives s handle (calls.SetSequencer bytes) view there = tt
-change_gives s handle (calls.CheckSequencer bytes) view there = tt
-change_gives s handle calls.Leave view there = tt
+change_gives s handle call view there = tt
 
 first_gives : (s : MasterState) (handle : Handle) (call : Call) (o : Option CallResult) → GivesBy s (option_map_or (λ answer. answered answer) o (change_on (name_space s) s.clock handle call))
 first_gives s handle call o = found_or s (λ (answer : CallResult). answered answer) o (change_on (name_space s) s.clock handle call) (λ answer is. tt)
@@ -182,20 +174,7 @@ first_gives s handle call o = found_or s (λ (answer : CallResult). answered ans
 
 on_gives : (s : MasterState) (handle : Handle) (call : Call) (sequencer : Option (List ℕ)) → GivesBy s (effect_on (name_space s) s.clock handle call sequencer)
 on_gives s handle (calls.Close bytes) sequencer = tt
-on_gives s handle (calls.Open opening) sequencer = first_gives s handle (calls.Open opening) (answer_on (name_space s) handle (calls.Open opening) sequencer)
-on_gives s handle (calls.Read bytes) sequencer = first_gives s handle (calls.Read bytes) (answer_on (name_space s) handle (calls.Read bytes) sequencer)
-on_gives s handle (calls.Stat bytes) sequencer = first_gives s handle (calls.Stat bytes) (answer_on (name_space s) handle (calls.Stat bytes) sequencer)
-on_gives s handle (calls.List bytes) sequencer = first_gives s handle (calls.List bytes) (answer_on (name_space s) handle (calls.List bytes) sequencer)
-on_gives s handle (calls.Set bytes content generation) sequencer = first_gives s handle (calls.Set bytes content generation) (answer_on (name_space s) handle (calls.Set bytes content generation) sequencer)
-on_gives s handle (calls.SetAcl bytes acls generation) sequencer = first_gives s handle (calls.SetAcl bytes acls generation) (answer_on (name_space s) handle (calls.SetAcl bytes acls generation) sequencer)
-on_gives s handle (calls.Delete bytes) sequencer = first_gives s handle (calls.Delete bytes) (answer_on (name_space s) handle (calls.Delete bytes) sequencer)
-on_gives s handle (calls.Acquire bytes mode) sequencer = first_gives s handle (calls.Acquire bytes mode) (answer_on (name_space s) handle (calls.Acquire bytes mode) sequencer)
-on_gives s handle (calls.TryAcquire bytes mode) sequencer = first_gives s handle (calls.TryAcquire bytes mode) (answer_on (name_space s) handle (calls.TryAcquire bytes mode) sequencer)
-on_gives s handle (calls.Release bytes) sequencer = first_gives s handle (calls.Release bytes) (answer_on (name_space s) handle (calls.Release bytes) sequencer)
-on_gives s handle (calls.GetSequencer bytes) sequencer = first_gives s handle (calls.GetSequencer bytes) (answer_on (name_space s) handle (calls.GetSequencer bytes) sequencer)
-on_gives s handle (calls.SetSequencer bytes) sequencer = first_gives s handle (calls.SetSequencer bytes) (answer_on (name_space s) handle (calls.SetSequencer bytes) sequencer)
-on_gives s handle (calls.CheckSequencer bytes) sequencer = first_gives s handle (calls.CheckSequencer bytes) (answer_on (name_space s) handle (calls.CheckSequencer bytes) sequencer)
-on_gives s handle calls.Leave sequencer = first_gives s handle calls.Leave (answer_on (name_space s) handle calls.Leave sequencer)
+on_gives s handle call sequencer = first_gives s handle call (answer_on (name_space s) handle call sequencer)
 
 shown_gives : (s : MasterState) (call : Call) (sequencer : Option (List ℕ)) (o : Option Handle) → GivesBy s (handle_effect (name_space s) s.clock call sequencer o)
 shown_gives s call sequencer None = tt
@@ -204,17 +183,4 @@ shown_gives s call sequencer (Some handle) = on_gives s handle call sequencer
 pub effect_gives : (s : MasterState) (client number : ℕ) (call : Call) (sequencer : Option (List ℕ)) → GivesBy s (effect (name_space s) (caller s client) s.clock number call sequencer)
 unfolding effect
 effect_gives s client number (calls.Open opening) sequencer = open_gives s client number opening sequencer opening.create
-effect_gives s client number (calls.Close bytes) sequencer = shown_gives s (calls.Close bytes) sequencer (read_handle s.secret bytes)
-effect_gives s client number (calls.Read bytes) sequencer = shown_gives s (calls.Read bytes) sequencer (read_handle s.secret bytes)
-effect_gives s client number (calls.Stat bytes) sequencer = shown_gives s (calls.Stat bytes) sequencer (read_handle s.secret bytes)
-effect_gives s client number (calls.List bytes) sequencer = shown_gives s (calls.List bytes) sequencer (read_handle s.secret bytes)
-effect_gives s client number (calls.Set bytes content generation) sequencer = shown_gives s (calls.Set bytes content generation) sequencer (read_handle s.secret bytes)
-effect_gives s client number (calls.SetAcl bytes acls generation) sequencer = shown_gives s (calls.SetAcl bytes acls generation) sequencer (read_handle s.secret bytes)
-effect_gives s client number (calls.Delete bytes) sequencer = shown_gives s (calls.Delete bytes) sequencer (read_handle s.secret bytes)
-effect_gives s client number (calls.Acquire bytes mode) sequencer = shown_gives s (calls.Acquire bytes mode) sequencer (read_handle s.secret bytes)
-effect_gives s client number (calls.TryAcquire bytes mode) sequencer = shown_gives s (calls.TryAcquire bytes mode) sequencer (read_handle s.secret bytes)
-effect_gives s client number (calls.Release bytes) sequencer = shown_gives s (calls.Release bytes) sequencer (read_handle s.secret bytes)
-effect_gives s client number (calls.GetSequencer bytes) sequencer = shown_gives s (calls.GetSequencer bytes) sequencer (read_handle s.secret bytes)
-effect_gives s client number (calls.SetSequencer bytes) sequencer = shown_gives s (calls.SetSequencer bytes) sequencer (read_handle s.secret bytes)
-effect_gives s client number (calls.CheckSequencer bytes) sequencer = shown_gives s (calls.CheckSequencer bytes) sequencer (read_handle s.secret [])
-effect_gives s client number calls.Leave sequencer = shown_gives s calls.Leave sequencer (read_handle s.secret [])
+effect_gives s client number call sequencer = shown_gives s call sequencer (read_handle s.secret (bytes_of call))

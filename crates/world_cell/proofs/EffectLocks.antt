@@ -34,7 +34,7 @@ use Rattle.master_parts.specs.Claims.{owner_of, claim_of}
 use Rattle.master_state.specs.NameSpace.{name_space, caller}
 use Rattle.master_state.specs.State.{MasterState}
 use Rattle.master_state.specs.Lookups.{missing_right, node_of_handle, new_handle, sequencer_fault, lock_under, answer_on, is_of_cell, may}
-use Rattle.master_parts.specs.Calls.{create_fault}
+use Rattle.master_parts.specs.Calls.{create_fault, bytes_of}
 use Rattle.tags_cell.specs.declared.messages.outs.CallResult.TheVariants as results
 use Rattle.cell_core.specs.declared.effects.Effect.{Effect}
 use Rattle.cell_core.specs.declared.effects.Locking.{Locking}
@@ -138,21 +138,13 @@ shut_raises s handle None = tt
 shut_raises s handle (Some view) = closed_raises s handle (closed_by (lock_under (name_space s) handle) (owner_of handle)) (rises_closed (lock_under (name_space s) handle) (owner_of handle))
 
 change_raises : (s : MasterState) (handle : Handle) (call : Call) (view : Node) → Raises s (change_at (name_space s) s.clock handle call view)
-change_raises s handle (calls.Open opening) view = tt
-change_raises s handle (calls.Close bytes) view = tt
-change_raises s handle (calls.Read bytes) view = tt
-change_raises s handle (calls.Stat bytes) view = tt
-change_raises s handle (calls.List bytes) view = tt
 change_raises s handle (calls.Set bytes content generation) view = put_raises s handle view.content_generation generation (content_fault (name_space s) view content) (with_content view content)
 change_raises s handle (calls.SetAcl bytes acls generation) view = put_raises s handle view.acl_generation generation None (with_acls view acls)
 change_raises s handle (calls.Delete bytes) view = either s (has_children s.nodes handle.name || is_none (parent_of handle.name)) (refused faults.NotEmpty) (deleted (name_space s) handle) tt tt
 change_raises s handle (calls.Acquire bytes mode) view = acquired_raises s handle (claim_of handle mode) (lock_fault (name_space s) handle.client) (acquired (lock_under (name_space s) handle) (claim_of handle mode)) (rises_acquired (lock_under (name_space s) handle) (claim_of handle mode))
 change_raises s handle (calls.TryAcquire bytes mode) view = tried_raises s handle (claim_of handle mode) (lock_fault (name_space s) handle.client) (tried (lock_under (name_space s) handle) (claim_of handle mode) s.clock) refl
 change_raises s handle (calls.Release bytes) view = released_raises s handle (released (lock_under (name_space s) handle) (owner_of handle)) (rises_released (lock_under (name_space s) handle) (owner_of handle))
-change_raises s handle (calls.GetSequencer bytes) view = tt
-change_raises s handle (calls.SetSequencer bytes) view = tt
-change_raises s handle (calls.CheckSequencer bytes) view = tt
-change_raises s handle calls.Leave view = tt
+change_raises s handle call view = tt
 
 first_raises : (s : MasterState) (handle : Handle) (call : Call) (o : Option CallResult) → Raises s (option_map_or (λ answer. answered answer) o (change_on (name_space s) s.clock handle call))
 first_raises s handle call o = found_or s (λ (answer : CallResult). answered answer) o (change_on (name_space s) s.clock handle call) (λ answer. tt)
@@ -160,20 +152,7 @@ first_raises s handle call o = found_or s (λ (answer : CallResult). answered an
 
 on_raises : (s : MasterState) (handle : Handle) (call : Call) (sequencer : Option (List ℕ)) → Raises s (effect_on (name_space s) s.clock handle call sequencer)
 on_raises s handle (calls.Close bytes) sequencer = shut_raises s handle (node_of_handle (name_space s) handle)
-on_raises s handle (calls.Open opening) sequencer = first_raises s handle (calls.Open opening) (answer_on (name_space s) handle (calls.Open opening) sequencer)
-on_raises s handle (calls.Read bytes) sequencer = first_raises s handle (calls.Read bytes) (answer_on (name_space s) handle (calls.Read bytes) sequencer)
-on_raises s handle (calls.Stat bytes) sequencer = first_raises s handle (calls.Stat bytes) (answer_on (name_space s) handle (calls.Stat bytes) sequencer)
-on_raises s handle (calls.List bytes) sequencer = first_raises s handle (calls.List bytes) (answer_on (name_space s) handle (calls.List bytes) sequencer)
-on_raises s handle (calls.Set bytes content generation) sequencer = first_raises s handle (calls.Set bytes content generation) (answer_on (name_space s) handle (calls.Set bytes content generation) sequencer)
-on_raises s handle (calls.SetAcl bytes acls generation) sequencer = first_raises s handle (calls.SetAcl bytes acls generation) (answer_on (name_space s) handle (calls.SetAcl bytes acls generation) sequencer)
-on_raises s handle (calls.Delete bytes) sequencer = first_raises s handle (calls.Delete bytes) (answer_on (name_space s) handle (calls.Delete bytes) sequencer)
-on_raises s handle (calls.Acquire bytes mode) sequencer = first_raises s handle (calls.Acquire bytes mode) (answer_on (name_space s) handle (calls.Acquire bytes mode) sequencer)
-on_raises s handle (calls.TryAcquire bytes mode) sequencer = first_raises s handle (calls.TryAcquire bytes mode) (answer_on (name_space s) handle (calls.TryAcquire bytes mode) sequencer)
-on_raises s handle (calls.Release bytes) sequencer = first_raises s handle (calls.Release bytes) (answer_on (name_space s) handle (calls.Release bytes) sequencer)
-on_raises s handle (calls.GetSequencer bytes) sequencer = first_raises s handle (calls.GetSequencer bytes) (answer_on (name_space s) handle (calls.GetSequencer bytes) sequencer)
-on_raises s handle (calls.SetSequencer bytes) sequencer = first_raises s handle (calls.SetSequencer bytes) (answer_on (name_space s) handle (calls.SetSequencer bytes) sequencer)
-on_raises s handle (calls.CheckSequencer bytes) sequencer = first_raises s handle (calls.CheckSequencer bytes) (answer_on (name_space s) handle (calls.CheckSequencer bytes) sequencer)
-on_raises s handle calls.Leave sequencer = first_raises s handle calls.Leave (answer_on (name_space s) handle calls.Leave sequencer)
+on_raises s handle call sequencer = first_raises s handle call (answer_on (name_space s) handle call sequencer)
 
 shown_raises : (s : MasterState) (call : Call) (sequencer : Option (List ℕ)) (o : Option Handle) → Raises s (handle_effect (name_space s) s.clock call sequencer o)
 shown_raises s call sequencer None = tt
@@ -182,17 +161,4 @@ shown_raises s call sequencer (Some handle) = on_raises s handle call sequencer
 pub effect_raises : (s : MasterState) (client number : ℕ) (call : Call) (sequencer : Option (List ℕ)) → Raises s (effect (name_space s) (caller s client) s.clock number call sequencer)
 unfolding effect
 effect_raises s client number (calls.Open opening) sequencer = open_raises s client number opening sequencer opening.create
-effect_raises s client number (calls.Close bytes) sequencer = shown_raises s (calls.Close bytes) sequencer (read_handle s.secret bytes)
-effect_raises s client number (calls.Read bytes) sequencer = shown_raises s (calls.Read bytes) sequencer (read_handle s.secret bytes)
-effect_raises s client number (calls.Stat bytes) sequencer = shown_raises s (calls.Stat bytes) sequencer (read_handle s.secret bytes)
-effect_raises s client number (calls.List bytes) sequencer = shown_raises s (calls.List bytes) sequencer (read_handle s.secret bytes)
-effect_raises s client number (calls.Set bytes content generation) sequencer = shown_raises s (calls.Set bytes content generation) sequencer (read_handle s.secret bytes)
-effect_raises s client number (calls.SetAcl bytes acls generation) sequencer = shown_raises s (calls.SetAcl bytes acls generation) sequencer (read_handle s.secret bytes)
-effect_raises s client number (calls.Delete bytes) sequencer = shown_raises s (calls.Delete bytes) sequencer (read_handle s.secret bytes)
-effect_raises s client number (calls.Acquire bytes mode) sequencer = shown_raises s (calls.Acquire bytes mode) sequencer (read_handle s.secret bytes)
-effect_raises s client number (calls.TryAcquire bytes mode) sequencer = shown_raises s (calls.TryAcquire bytes mode) sequencer (read_handle s.secret bytes)
-effect_raises s client number (calls.Release bytes) sequencer = shown_raises s (calls.Release bytes) sequencer (read_handle s.secret bytes)
-effect_raises s client number (calls.GetSequencer bytes) sequencer = shown_raises s (calls.GetSequencer bytes) sequencer (read_handle s.secret bytes)
-effect_raises s client number (calls.SetSequencer bytes) sequencer = shown_raises s (calls.SetSequencer bytes) sequencer (read_handle s.secret bytes)
-effect_raises s client number (calls.CheckSequencer bytes) sequencer = shown_raises s (calls.CheckSequencer bytes) sequencer (read_handle s.secret [])
-effect_raises s client number calls.Leave sequencer = shown_raises s calls.Leave sequencer (read_handle s.secret [])
+effect_raises s client number call sequencer = shown_raises s call sequencer (read_handle s.secret (bytes_of call))

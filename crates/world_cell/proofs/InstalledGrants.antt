@@ -57,15 +57,8 @@ read_name secret bytes name h = read_by (is_handle (fields_of bytes) && bytes_eq
 
 node_asked : (secret bytes name : List ℕ) (node : NodeCall) → name_asked secret (call_on bytes node) ≡ Some name → name ≡ name_in bytes
 node_asked secret bytes name node_calls.Read h = read_name secret bytes name h
-node_asked secret bytes name node_calls.Stat h = cc
 node_asked secret bytes name node_calls.List h = read_name secret bytes name h
-node_asked secret bytes name (node_calls.Set content generation) h = cc
-node_asked secret bytes name (node_calls.SetAcl acls generation) h = cc
-node_asked secret bytes name node_calls.Delete h = cc
-node_asked secret bytes name (node_calls.Acquire mode) h = cc
-node_asked secret bytes name (node_calls.TryAcquire mode) h = cc
-node_asked secret bytes name node_calls.Release h = cc
-node_asked secret bytes name node_calls.GetSequencer h = cc
+node_asked secret bytes name node h = cc
 
 -- ---- by an Open
 
@@ -76,20 +69,7 @@ open_asked false own name h = cc
 -- a call that opens this is the Open
 is_open : (call : Call) (opening : Open) → opening_in call ≡ Some opening → call ≡ calls.Open opening
 is_open (calls.Open own) opening h = let e : own ≡ opening = cc in ap (λ o. calls.Open o) e
-is_open (calls.Close bytes) opening h = cc
-is_open (calls.Read bytes) opening h = cc
-is_open (calls.Stat bytes) opening h = cc
-is_open (calls.List bytes) opening h = cc
-is_open (calls.Set bytes content generation) opening h = cc
-is_open (calls.SetAcl bytes acls generation) opening h = cc
-is_open (calls.Delete bytes) opening h = cc
-is_open (calls.Acquire bytes mode) opening h = cc
-is_open (calls.TryAcquire bytes mode) opening h = cc
-is_open (calls.Release bytes) opening h = cc
-is_open (calls.GetSequencer bytes) opening h = cc
-is_open (calls.SetSequencer bytes) opening h = cc
-is_open (calls.CheckSequencer bytes) opening h = cc
-is_open calls.Leave opening h = cc
+is_open call opening h = cc
 
 module _ (sent : List Message) (secret : List ℕ) (s : ClientState) (message : Reply) (call : Outstanding) (handles : AreHandles s.opened s.handles) (r : IsReplied sent secret s message call) (name x : List ℕ) (entry : Option View) (asks : name_asked secret r.asked.message.call ≡ Some name) where
   by_handle : (view : View) (number : ℕ) (o : Option ClientHandle) → call.target ≡ targets.Handle number → handle_of s.handles number ≡ o → viewed o view ≡ Some (x, entry) → Learned name x (Some view) entry

@@ -67,3 +67,4 @@ pub mod RowClaims
 pub mod LimitsByRuns
 pub mod HoldsByName
 pub mod TurnsByRuns
+pub mod Shown

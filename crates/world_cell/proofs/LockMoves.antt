@@ -165,15 +165,7 @@ module _ (s : MasterState) (client number : ℕ) where
     change_moves (calls.Acquire bytes mode) view = acquired_as mode (lock_fault (name_space s) handle.client) (hold_of (lock_under (name_space s) handle) (owner_of handle))
     change_moves (calls.TryAcquire bytes mode) view = tried_by_closing mode (lock_fault (name_space s) handle.client) (lock_under (name_space s) handle).closed
     change_moves (calls.Release bytes) view = released_by (released (lock_under (name_space s) handle) (owner_of handle)) refl
-    change_moves (calls.Open opening) view = tt
-    change_moves (calls.Close bytes) view = tt
-    change_moves (calls.Read bytes) view = tt
-    change_moves (calls.Stat bytes) view = tt
-    change_moves (calls.List bytes) view = tt
-    change_moves (calls.GetSequencer bytes) view = tt
-    change_moves (calls.SetSequencer bytes) view = tt
-    change_moves (calls.CheckSequencer bytes) view = tt
-    change_moves calls.Leave view = tt
+    change_moves call view = tt
 
     behind : (call : Call) (o : Option CallResult) → Moves (option_map_or (λ answer. answered answer) o (change_on (name_space s) s.clock handle call))
     behind call (Some answer) = tt
@@ -181,20 +173,7 @@ module _ (s : MasterState) (client number : ℕ) where
 
     on_moves : (call : Call) (sequencer : Option (List ℕ)) → Moves (effect_on (name_space s) s.clock handle call sequencer)
     on_moves (calls.Close bytes) sequencer = closed_under (node_of_handle (name_space s) handle)
-    on_moves (calls.Open opening) sequencer = behind (calls.Open opening) (answer_on (name_space s) handle (calls.Open opening) sequencer)
-    on_moves (calls.Read bytes) sequencer = behind (calls.Read bytes) (answer_on (name_space s) handle (calls.Read bytes) sequencer)
-    on_moves (calls.Stat bytes) sequencer = behind (calls.Stat bytes) (answer_on (name_space s) handle (calls.Stat bytes) sequencer)
-    on_moves (calls.List bytes) sequencer = behind (calls.List bytes) (answer_on (name_space s) handle (calls.List bytes) sequencer)
-    on_moves (calls.Set bytes content generation) sequencer = behind (calls.Set bytes content generation) (answer_on (name_space s) handle (calls.Set bytes content generation) sequencer)
-    on_moves (calls.SetAcl bytes acls generation) sequencer = behind (calls.SetAcl bytes acls generation) (answer_on (name_space s) handle (calls.SetAcl bytes acls generation) sequencer)
-    on_moves (calls.Delete bytes) sequencer = behind (calls.Delete bytes) (answer_on (name_space s) handle (calls.Delete bytes) sequencer)
-    on_moves (calls.Acquire bytes mode) sequencer = behind (calls.Acquire bytes mode) (answer_on (name_space s) handle (calls.Acquire bytes mode) sequencer)
-    on_moves (calls.TryAcquire bytes mode) sequencer = behind (calls.TryAcquire bytes mode) (answer_on (name_space s) handle (calls.TryAcquire bytes mode) sequencer)
-    on_moves (calls.Release bytes) sequencer = behind (calls.Release bytes) (answer_on (name_space s) handle (calls.Release bytes) sequencer)
-    on_moves (calls.GetSequencer bytes) sequencer = behind (calls.GetSequencer bytes) (answer_on (name_space s) handle (calls.GetSequencer bytes) sequencer)
-    on_moves (calls.SetSequencer bytes) sequencer = behind (calls.SetSequencer bytes) (answer_on (name_space s) handle (calls.SetSequencer bytes) sequencer)
-    on_moves (calls.CheckSequencer bytes) sequencer = behind (calls.CheckSequencer bytes) (answer_on (name_space s) handle (calls.CheckSequencer bytes) sequencer)
-    on_moves calls.Leave sequencer = behind calls.Leave (answer_on (name_space s) handle calls.Leave sequencer)
+    on_moves call sequencer = behind call (answer_on (name_space s) handle call sequencer)
 
   -- ---- by the call
 
@@ -206,17 +185,4 @@ module _ (s : MasterState) (client number : ℕ) where
   pub effect_moves : (call : Call) (sequencer : Option (List ℕ)) → ((handle : Handle) → read_handle s.secret (bytes_of call) ≡ Some handle → handle.client ≡ client) → Moves (effect (name_space s) (caller s client) s.clock number call sequencer)
   unfolding effect
   effect_moves (calls.Open opening) sequencer own = opened opening sequencer opening.create
-  effect_moves (calls.Close bytes) sequencer own = shown_moves (calls.Close bytes) sequencer (read_handle s.secret bytes) own
-  effect_moves (calls.Read bytes) sequencer own = shown_moves (calls.Read bytes) sequencer (read_handle s.secret bytes) own
-  effect_moves (calls.Stat bytes) sequencer own = shown_moves (calls.Stat bytes) sequencer (read_handle s.secret bytes) own
-  effect_moves (calls.List bytes) sequencer own = shown_moves (calls.List bytes) sequencer (read_handle s.secret bytes) own
-  effect_moves (calls.Set bytes content generation) sequencer own = shown_moves (calls.Set bytes content generation) sequencer (read_handle s.secret bytes) own
-  effect_moves (calls.SetAcl bytes acls generation) sequencer own = shown_moves (calls.SetAcl bytes acls generation) sequencer (read_handle s.secret bytes) own
-  effect_moves (calls.Delete bytes) sequencer own = shown_moves (calls.Delete bytes) sequencer (read_handle s.secret bytes) own
-  effect_moves (calls.Acquire bytes mode) sequencer own = shown_moves (calls.Acquire bytes mode) sequencer (read_handle s.secret bytes) own
-  effect_moves (calls.TryAcquire bytes mode) sequencer own = shown_moves (calls.TryAcquire bytes mode) sequencer (read_handle s.secret bytes) own
-  effect_moves (calls.Release bytes) sequencer own = shown_moves (calls.Release bytes) sequencer (read_handle s.secret bytes) own
-  effect_moves (calls.GetSequencer bytes) sequencer own = shown_moves (calls.GetSequencer bytes) sequencer (read_handle s.secret bytes) own
-  effect_moves (calls.SetSequencer bytes) sequencer own = shown_moves (calls.SetSequencer bytes) sequencer (read_handle s.secret bytes) own
-  effect_moves (calls.CheckSequencer bytes) sequencer own = shown_moves (calls.CheckSequencer bytes) sequencer (read_handle s.secret []) own
-  effect_moves calls.Leave sequencer own = shown_moves calls.Leave sequencer (read_handle s.secret []) own
+  effect_moves call sequencer own = shown_moves call sequencer (read_handle s.secret (bytes_of call)) own

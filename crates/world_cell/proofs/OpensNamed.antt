@@ -39,7 +39,7 @@ use Rattle.lock_core.specs.Turns.{tried, acquired, released}
 use Rattle.lock_core.specs.Locks.{sequencer_of}
 use Rattle.master_parts.specs.Claims.{owner_of, claim_of}
 use Rattle.master_state.specs.Lookups.{missing_right, node_of_handle, numbered_handle, new_handle, open_present, plain_open, opened_answer, list_answer, sequencer_fault, release_fault, lock_under, sequencer_result, answer_on_node, answer_under, answer_on, shown_handle, is_of_cell, may}
-use Rattle.master_parts.specs.Calls.{is_too_long, content_fault, node_fault, delay_fault, create_fault, write_fault, needing}
+use Rattle.master_parts.specs.Calls.{is_too_long, content_fault, node_fault, delay_fault, create_fault, write_fault, needing, bytes_of}
 use Rattle.node_core.specs.declared.views.Mod.TheVariants.{Put}
 use Rattle.cell_core.specs.Step.{admission_of_open, answering, admission_under, check_admission, handle_admission, admission_of}
 use Rattle.cell_core.specs.declared.effects.Effect.{Effect}
@@ -122,10 +122,7 @@ sequencer_opens call (Ok sequencer) = tt
 sequencer_opens call (Err fault) = tt
 
 on_node_opens : (s : MasterState) (handle : Handle) (call : Call) (view : Node) → OpensIf call (answer_on_node (name_space s) handle call view)
-on_node_opens s handle (calls.Open opening) view = tt
-on_node_opens s handle (calls.Close bytes) view = tt
 on_node_opens s handle (calls.Read bytes) view = needing_opens (calls.Read bytes) handle rights.Read (Some (results.Viewed (view_of s.nodes handle.name view))) tt
-on_node_opens s handle (calls.Stat bytes) view = tt
 on_node_opens s handle (calls.List bytes) view = needing_opens (calls.List bytes) handle rights.Read (Some (list_answer (view_of s.nodes handle.name view) view.kind)) (list_opens (calls.List bytes) (view_of s.nodes handle.name view) view.kind)
 on_node_opens s handle (calls.Set bytes content generation) view = needing_opens (calls.Set bytes content generation) handle rights.Write (write_fault view.kind content) (write_opens (calls.Set bytes content generation) view.kind content)
 on_node_opens s handle (calls.SetAcl bytes acls generation) view = needing_opens (calls.SetAcl bytes acls generation) handle rights.Change None tt
@@ -134,9 +131,7 @@ on_node_opens s handle (calls.Acquire bytes mode) view = needing_opens (calls.Ac
 on_node_opens s handle (calls.TryAcquire bytes mode) view = needing_opens (calls.TryAcquire bytes mode) handle rights.Write None tt
 on_node_opens s handle (calls.Release bytes) view = needing_opens (calls.Release bytes) handle rights.Write (release_fault (name_space s) handle) (release_opens (calls.Release bytes) s handle)
 on_node_opens s handle (calls.GetSequencer bytes) view = sequencer_opens (calls.GetSequencer bytes) (sequencer_of (lock_under (name_space s) handle) handle.instance handle.name (owner_of handle))
-on_node_opens s handle (calls.SetSequencer bytes) view = tt
-on_node_opens s handle (calls.CheckSequencer bytes) view = tt
-on_node_opens s handle calls.Leave view = tt
+on_node_opens s handle call view = tt
 
 on_node_under_opens : (s : MasterState) (handle : Handle) (call : Call) (view : Node) (o : Option Fault) → OpensIf call (answer_under (name_space s) handle call view o)
 on_node_under_opens s handle call view (Some fault) = tt
@@ -146,21 +141,8 @@ at_node_opens : (s : MasterState) (handle : Handle) (call : Call) (sequencer : O
 at_node_opens s handle call sequencer = found_or (OpensIf call) (λ view. answer_under (name_space s) handle call view (sequencer_fault (name_space s) sequencer)) (node_of_handle (name_space s) handle) (Some (results.Refused faults.StaleInstance)) (λ view. on_node_under_opens s handle call view (sequencer_fault (name_space s) sequencer)) tt
 
 on_opens : (s : MasterState) (handle : Handle) (call : Call) (sequencer : Option (List ℕ)) → OpensIf call (answer_on (name_space s) handle call sequencer)
-on_opens s handle (calls.Open opening) sequencer = at_node_opens s handle (calls.Open opening) sequencer
 on_opens s handle (calls.Close bytes) sequencer = tt
-on_opens s handle (calls.Read bytes) sequencer = at_node_opens s handle (calls.Read bytes) sequencer
-on_opens s handle (calls.Stat bytes) sequencer = at_node_opens s handle (calls.Stat bytes) sequencer
-on_opens s handle (calls.List bytes) sequencer = at_node_opens s handle (calls.List bytes) sequencer
-on_opens s handle (calls.Set bytes content generation) sequencer = at_node_opens s handle (calls.Set bytes content generation) sequencer
-on_opens s handle (calls.SetAcl bytes acls generation) sequencer = at_node_opens s handle (calls.SetAcl bytes acls generation) sequencer
-on_opens s handle (calls.Delete bytes) sequencer = at_node_opens s handle (calls.Delete bytes) sequencer
-on_opens s handle (calls.Acquire bytes mode) sequencer = at_node_opens s handle (calls.Acquire bytes mode) sequencer
-on_opens s handle (calls.TryAcquire bytes mode) sequencer = at_node_opens s handle (calls.TryAcquire bytes mode) sequencer
-on_opens s handle (calls.Release bytes) sequencer = at_node_opens s handle (calls.Release bytes) sequencer
-on_opens s handle (calls.GetSequencer bytes) sequencer = at_node_opens s handle (calls.GetSequencer bytes) sequencer
-on_opens s handle (calls.SetSequencer bytes) sequencer = at_node_opens s handle (calls.SetSequencer bytes) sequencer
-on_opens s handle (calls.CheckSequencer bytes) sequencer = at_node_opens s handle (calls.CheckSequencer bytes) sequencer
-on_opens s handle calls.Leave sequencer = at_node_opens s handle calls.Leave sequencer
+on_opens s handle call sequencer = at_node_opens s handle call sequencer
 
 handle_opens : (s : MasterState) (call : Call) (sequencer : Option (List ℕ)) (o : Option Handle) → OpensIf call (handle_admission s call sequencer o).answer
 handle_opens s call sequencer None = tt
@@ -187,18 +169,7 @@ admission_opens s client number (calls.Open opening) sequencer =
     ]
 admission_opens s client number (calls.CheckSequencer bytes) sequencer = check_opens s (calls.CheckSequencer bytes) bytes (sequencer_fault (name_space s) sequencer)
 admission_opens s client number calls.Leave sequencer = tt
-admission_opens s client number (calls.Close bytes) sequencer = handle_opens s (calls.Close bytes) sequencer (shown_handle s client bytes)
-admission_opens s client number (calls.Read bytes) sequencer = handle_opens s (calls.Read bytes) sequencer (shown_handle s client bytes)
-admission_opens s client number (calls.Stat bytes) sequencer = handle_opens s (calls.Stat bytes) sequencer (shown_handle s client bytes)
-admission_opens s client number (calls.List bytes) sequencer = handle_opens s (calls.List bytes) sequencer (shown_handle s client bytes)
-admission_opens s client number (calls.Set bytes content generation) sequencer = handle_opens s (calls.Set bytes content generation) sequencer (shown_handle s client bytes)
-admission_opens s client number (calls.SetAcl bytes acls generation) sequencer = handle_opens s (calls.SetAcl bytes acls generation) sequencer (shown_handle s client bytes)
-admission_opens s client number (calls.Delete bytes) sequencer = handle_opens s (calls.Delete bytes) sequencer (shown_handle s client bytes)
-admission_opens s client number (calls.Acquire bytes mode) sequencer = handle_opens s (calls.Acquire bytes mode) sequencer (shown_handle s client bytes)
-admission_opens s client number (calls.TryAcquire bytes mode) sequencer = handle_opens s (calls.TryAcquire bytes mode) sequencer (shown_handle s client bytes)
-admission_opens s client number (calls.Release bytes) sequencer = handle_opens s (calls.Release bytes) sequencer (shown_handle s client bytes)
-admission_opens s client number (calls.GetSequencer bytes) sequencer = handle_opens s (calls.GetSequencer bytes) sequencer (shown_handle s client bytes)
-admission_opens s client number (calls.SetSequencer bytes) sequencer = handle_opens s (calls.SetSequencer bytes) sequencer (shown_handle s client bytes)
+admission_opens s client number call sequencer = handle_opens s call sequencer (shown_handle s client (bytes_of call))
 
 pub answer_opens : (s : MasterState) (client number : ℕ) (call : Call) (sequencer : Option (List ℕ)) (answer : CallResult) → (admission_of s client number call sequencer).answer ≡ Some answer → OpensAs call answer
 answer_opens s client number call sequencer answer is = subst (OpensIf call) is (admission_opens s client number call sequencer)
@@ -271,21 +242,13 @@ released_opens call handle (Ok turn) = tt
 released_opens call handle (Err fault) = tt
 
 change_opens : (s : MasterState) (handle : Handle) (call : Call) (view : Node) → EffectOpens call (change_at (name_space s) s.clock handle call view)
-change_opens s handle (calls.Open opening) view = tt
-change_opens s handle (calls.Close bytes) view = tt
-change_opens s handle (calls.Read bytes) view = tt
-change_opens s handle (calls.Stat bytes) view = tt
-change_opens s handle (calls.List bytes) view = tt
 change_opens s handle (calls.Set bytes content generation) view = put_opens s (calls.Set bytes content generation) handle view.content_generation generation (effects.content_fault (name_space s) view content) (with_content view content)
 change_opens s handle (calls.SetAcl bytes acls generation) view = put_opens s (calls.SetAcl bytes acls generation) handle view.acl_generation generation None (with_acls view acls)
 change_opens s handle (calls.Delete bytes) view = either (EffectOpens (calls.Delete bytes)) (has_children s.nodes handle.name || is_none (parent_of handle.name)) (refused faults.NotEmpty) _ tt tt
 change_opens s handle (calls.Acquire bytes mode) view = acquired_opens (calls.Acquire bytes mode) handle (claim_of handle mode) (lock_fault (name_space s) handle.client) (acquired (lock_under (name_space s) handle) (claim_of handle mode))
 change_opens s handle (calls.TryAcquire bytes mode) view = tried_opens (calls.TryAcquire bytes mode) handle (claim_of handle mode) (lock_fault (name_space s) handle.client) (tried (lock_under (name_space s) handle) (claim_of handle mode) s.clock)
 change_opens s handle (calls.Release bytes) view = released_opens (calls.Release bytes) handle (released (lock_under (name_space s) handle) (owner_of handle))
-change_opens s handle (calls.GetSequencer bytes) view = tt
-change_opens s handle (calls.SetSequencer bytes) view = tt
-change_opens s handle (calls.CheckSequencer bytes) view = tt
-change_opens s handle calls.Leave view = tt
+change_opens s handle call view = tt
 
 change_on_opens : (s : MasterState) (handle : Handle) (call : Call) → EffectOpens call (change_on (name_space s) s.clock handle call)
 change_on_opens s handle call = found_or (EffectOpens call) (λ view. change_at (name_space s) s.clock handle call view) (node_of_handle (name_space s) handle) (refused faults.StaleInstance) (λ view. change_opens s handle call view) tt
@@ -295,21 +258,8 @@ first_opens s handle call None h = change_on_opens s handle call
 first_opens s handle call (Some answer) h = h
 
 on_effect_opens : (s : MasterState) (handle : Handle) (call : Call) (sequencer : Option (List ℕ)) → EffectOpens call (effect_on (name_space s) s.clock handle call sequencer)
-on_effect_opens s handle (calls.Open opening) sequencer = first_opens s handle (calls.Open opening) (answer_on (name_space s) handle (calls.Open opening) sequencer) (on_opens s handle (calls.Open opening) sequencer)
 on_effect_opens s handle (calls.Close bytes) sequencer = tt
-on_effect_opens s handle (calls.Read bytes) sequencer = first_opens s handle (calls.Read bytes) (answer_on (name_space s) handle (calls.Read bytes) sequencer) (on_opens s handle (calls.Read bytes) sequencer)
-on_effect_opens s handle (calls.Stat bytes) sequencer = first_opens s handle (calls.Stat bytes) (answer_on (name_space s) handle (calls.Stat bytes) sequencer) (on_opens s handle (calls.Stat bytes) sequencer)
-on_effect_opens s handle (calls.List bytes) sequencer = first_opens s handle (calls.List bytes) (answer_on (name_space s) handle (calls.List bytes) sequencer) (on_opens s handle (calls.List bytes) sequencer)
-on_effect_opens s handle (calls.Set bytes content generation) sequencer = first_opens s handle (calls.Set bytes content generation) (answer_on (name_space s) handle (calls.Set bytes content generation) sequencer) (on_opens s handle (calls.Set bytes content generation) sequencer)
-on_effect_opens s handle (calls.SetAcl bytes acls generation) sequencer = first_opens s handle (calls.SetAcl bytes acls generation) (answer_on (name_space s) handle (calls.SetAcl bytes acls generation) sequencer) (on_opens s handle (calls.SetAcl bytes acls generation) sequencer)
-on_effect_opens s handle (calls.Delete bytes) sequencer = first_opens s handle (calls.Delete bytes) (answer_on (name_space s) handle (calls.Delete bytes) sequencer) (on_opens s handle (calls.Delete bytes) sequencer)
-on_effect_opens s handle (calls.Acquire bytes mode) sequencer = first_opens s handle (calls.Acquire bytes mode) (answer_on (name_space s) handle (calls.Acquire bytes mode) sequencer) (on_opens s handle (calls.Acquire bytes mode) sequencer)
-on_effect_opens s handle (calls.TryAcquire bytes mode) sequencer = first_opens s handle (calls.TryAcquire bytes mode) (answer_on (name_space s) handle (calls.TryAcquire bytes mode) sequencer) (on_opens s handle (calls.TryAcquire bytes mode) sequencer)
-on_effect_opens s handle (calls.Release bytes) sequencer = first_opens s handle (calls.Release bytes) (answer_on (name_space s) handle (calls.Release bytes) sequencer) (on_opens s handle (calls.Release bytes) sequencer)
-on_effect_opens s handle (calls.GetSequencer bytes) sequencer = first_opens s handle (calls.GetSequencer bytes) (answer_on (name_space s) handle (calls.GetSequencer bytes) sequencer) (on_opens s handle (calls.GetSequencer bytes) sequencer)
-on_effect_opens s handle (calls.SetSequencer bytes) sequencer = first_opens s handle (calls.SetSequencer bytes) (answer_on (name_space s) handle (calls.SetSequencer bytes) sequencer) (on_opens s handle (calls.SetSequencer bytes) sequencer)
-on_effect_opens s handle (calls.CheckSequencer bytes) sequencer = first_opens s handle (calls.CheckSequencer bytes) (answer_on (name_space s) handle (calls.CheckSequencer bytes) sequencer) (on_opens s handle (calls.CheckSequencer bytes) sequencer)
-on_effect_opens s handle calls.Leave sequencer = first_opens s handle calls.Leave (answer_on (name_space s) handle calls.Leave sequencer) (on_opens s handle calls.Leave sequencer)
+on_effect_opens s handle call sequencer = first_opens s handle call (answer_on (name_space s) handle call sequencer) (on_opens s handle call sequencer)
 
 shown_opens : (s : MasterState) (call : Call) (sequencer : Option (List ℕ)) (o : Option Handle) → EffectOpens call (handle_effect (name_space s) s.clock call sequencer o)
 shown_opens s call sequencer None = tt
@@ -318,20 +268,7 @@ shown_opens s call sequencer (Some handle) = on_effect_opens s handle call seque
 effect_opens_if : (s : MasterState) (client number : ℕ) (call : Call) (sequencer : Option (List ℕ)) → OpensIf call (effect (name_space s) (caller s client) s.clock number call sequencer).answer
 unfolding effect
 effect_opens_if s client number (calls.Open opening) sequencer = open_effect_opens s client number opening sequencer opening.create
-effect_opens_if s client number (calls.Close bytes) sequencer = shown_opens s (calls.Close bytes) sequencer (read_handle s.secret bytes)
-effect_opens_if s client number (calls.Read bytes) sequencer = shown_opens s (calls.Read bytes) sequencer (read_handle s.secret bytes)
-effect_opens_if s client number (calls.Stat bytes) sequencer = shown_opens s (calls.Stat bytes) sequencer (read_handle s.secret bytes)
-effect_opens_if s client number (calls.List bytes) sequencer = shown_opens s (calls.List bytes) sequencer (read_handle s.secret bytes)
-effect_opens_if s client number (calls.Set bytes content generation) sequencer = shown_opens s (calls.Set bytes content generation) sequencer (read_handle s.secret bytes)
-effect_opens_if s client number (calls.SetAcl bytes acls generation) sequencer = shown_opens s (calls.SetAcl bytes acls generation) sequencer (read_handle s.secret bytes)
-effect_opens_if s client number (calls.Delete bytes) sequencer = shown_opens s (calls.Delete bytes) sequencer (read_handle s.secret bytes)
-effect_opens_if s client number (calls.Acquire bytes mode) sequencer = shown_opens s (calls.Acquire bytes mode) sequencer (read_handle s.secret bytes)
-effect_opens_if s client number (calls.TryAcquire bytes mode) sequencer = shown_opens s (calls.TryAcquire bytes mode) sequencer (read_handle s.secret bytes)
-effect_opens_if s client number (calls.Release bytes) sequencer = shown_opens s (calls.Release bytes) sequencer (read_handle s.secret bytes)
-effect_opens_if s client number (calls.GetSequencer bytes) sequencer = shown_opens s (calls.GetSequencer bytes) sequencer (read_handle s.secret bytes)
-effect_opens_if s client number (calls.SetSequencer bytes) sequencer = shown_opens s (calls.SetSequencer bytes) sequencer (read_handle s.secret bytes)
-effect_opens_if s client number (calls.CheckSequencer bytes) sequencer = shown_opens s (calls.CheckSequencer bytes) sequencer (read_handle s.secret [])
-effect_opens_if s client number calls.Leave sequencer = shown_opens s calls.Leave sequencer (read_handle s.secret [])
+effect_opens_if s client number call sequencer = shown_opens s call sequencer (read_handle s.secret (bytes_of call))
 
 pub effect_opens : (s : MasterState) (client number : ℕ) (call : Call) (sequencer : Option (List ℕ)) (answer : CallResult) → (effect (name_space s) (caller s client) s.clock number call sequencer).answer ≡ Some answer → OpensAs call answer
 effect_opens s client number call sequencer answer is = subst (OpensIf call) is (effect_opens_if s client number call sequencer)

@@ -16,18 +16,18 @@ pub record IsBeside (rows new : Rows) : Type 0 where
   pub epoch : new.epoch ≡ rows.epoch
 
 -- with a session's row
-pub record HasRow (rows new : Rows) (client : ℕ) (row : of_rows.Session) : Type 0 where
+pub record HasRow (rows new : Rows) (client : ℕ) (row : of_rows.SessionRow) : Type 0 where
   pub beside : IsBeside rows new
   pub sessions : new.sessions ≡ insert_entry nat_cmp rows.sessions client row
 
-row_behind : (rows new : Rows) (changes : List LockChange) (client : ℕ) (row : of_rows.Session)
+row_behind : (rows new : Rows) (changes : List LockChange) (client : ℕ) (row : of_rows.SessionRow)
     → new ≡ record rows { nodes = nodes_behind rows.nodes changes; locks = locks_behind rows.locks changes; sessions = insert_entry nat_cmp rows.sessions client row } → HasRow rows new client row
 row_behind rows new changes client row is = record {
   beside = record { map = ap (λ r. map_of r) is ∙ changes_map rows.nodes changes; secret = ap (λ r. r.secret) is; epoch = ap (λ r. r.epoch) is };
   sessions = ap (λ r. r.sessions) is;
 }
 
-pub let_go : (rows : Rows) (changes : List LockChange) (client : ℕ) (row : of_rows.Session) → HasRow rows (changed_rows rows (locks_edits changes ++ PutSession client row ∷ [])) client row
+pub let_go : (rows : Rows) (changes : List LockChange) (client : ℕ) (row : of_rows.SessionRow) → HasRow rows (changed_rows rows (locks_edits changes ++ PutSession client row ∷ [])) client row
 let_go rows changes client row =
     row_behind rows (changed_rows rows (locks_edits changes ++ PutSession client row ∷ [])) changes client row (expiry_done rows changes client row)
 

@@ -22,7 +22,7 @@ is_live : (live : Bool) → standing_so live ≡ Live → live ≡ true
 is_live true h = refl
 is_live false h = cc
 
-live_row : (row : Option of_rows.Session) → standing_of row ≡ Live → option_map_or (λ session. session.live) row false ≡ true
+live_row : (row : Option of_rows.SessionRow) → standing_of row ≡ Live → option_map_or (λ session. session.live) row false ≡ true
 live_row None h = cc
 live_row (Some session) h = is_live session.live h
 

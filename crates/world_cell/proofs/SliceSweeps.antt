@@ -119,7 +119,7 @@ mapped_rows : (rows : Rows) (change : Mod) (next : ℕ) → IsMapped rows (chang
 mapped_rows rows (Put name view) next = record { sessions = refl; secret = refl; epoch = refl; map = nodes_put rows.nodes name view }
 mapped_rows rows (Gone name) next = record { sessions = refl; secret = refl; epoch = refl; map = nodes_gone rows.nodes name }
 
-standing_by : (c : ℕ) (rows : Rows) (sessions : List (ℕ × of_rows.Session)) → rows.sessions ≡ sessions → standing_in rows c ≡ standing_of (lookup (is_at (nat_cmp c)) sessions)
+standing_by : (c : ℕ) (rows : Rows) (sessions : List (ℕ × of_rows.SessionRow)) → rows.sessions ≡ sessions → standing_in rows c ≡ standing_of (lookup (is_at (nat_cmp c)) sessions)
 standing_by c rows sessions is = ap (λ es. standing_of (lookup (is_at (nat_cmp c)) es)) is
 
 -- ---- who was heard from
@@ -175,20 +175,7 @@ no_name_in secret (Some handle) = refl
 
 leave_names : (secret : List ℕ) (call : Call) → is_leave call ≡ true → names_of (call_touched secret call) ≡ []
 leave_names secret calls.Leave h = no_name_in secret (read_handle secret [])
-leave_names secret (calls.Open opening) h = cc
-leave_names secret (calls.Close handle) h = cc
-leave_names secret (calls.Read handle) h = cc
-leave_names secret (calls.Stat handle) h = cc
-leave_names secret (calls.List handle) h = cc
-leave_names secret (calls.Set handle content generation) h = cc
-leave_names secret (calls.SetAcl handle acl generation) h = cc
-leave_names secret (calls.Delete handle) h = cc
-leave_names secret (calls.Acquire handle mode) h = cc
-leave_names secret (calls.TryAcquire handle mode) h = cc
-leave_names secret (calls.Release handle) h = cc
-leave_names secret (calls.GetSequencer handle) h = cc
-leave_names secret (calls.SetSequencer handle) h = cc
-leave_names secret (calls.CheckSequencer bytes) h = cc
+leave_names secret call h = cc
 
 -- the client whose call to end its session has its turn serves nothing any more
 abbrev pub LeavesOff : List ℕ → WorldState → MasterState → Type 0
@@ -261,7 +248,7 @@ module _ (x : List ℕ) (w : WorldState) (s : MasterState) (knows : IsKnown w s)
   -- ---- a session expires
 
   module _ (client : ℕ) (session : Session Reply) (due : IsDueToEnd s client session) where
-    abbrev ended_row : of_rows.Session
+    abbrev ended_row : of_rows.SessionRow
     ended_row = record { principal = session.principal; live = false }
 
     abbrev changes : List LockChange
@@ -527,7 +514,7 @@ module _ (x : List ℕ) (w : WorldState) (s : MasterState) (knows : IsKnown w s)
   -- ---- a client ends its session
 
   module _ (front back : List (Waiting Task)) (asked : WaitingRequest) (turn : IsNextApplied s front (tasks.Asked asked) back) (call : Call) (sequencer : Option (List ℕ)) (session : Session Reply) (work : asked.work ≡ works.Calls call sequencer) (leave : is_leave call ≡ true) (found : session_of s asked.client ≡ Some session) (live : session.live ≡ true) where
-    abbrev left_row : of_rows.Session
+    abbrev left_row : of_rows.SessionRow
     left_row = record { principal = session.principal; live = false }
 
     abbrev left_lapses : List Lapse
@@ -782,7 +769,7 @@ module _ (x : List ℕ) (w : WorldState) (s : MasterState) (knows : IsKnown w s)
       })
 
       -- a new session
-      abbrev live_row : of_rows.Session
+      abbrev live_row : of_rows.SessionRow
       live_row = record { principal = principal; live = true }
 
       abbrev begun_rows : Rows

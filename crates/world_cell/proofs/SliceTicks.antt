@@ -120,13 +120,13 @@ behind_up w now = record w {
 }
 
 module _ (c : ℕ) (x : List ℕ) (w : WorldState) (now : ℕ) where
-  abbrev known_of : of_rows.Session → Session Reply
+  abbrev known_of : of_rows.SessionRow → Session Reply
   known_of row = recovered_session row.principal row.live now
 
-  abbrev row_here : Option of_rows.Session
+  abbrev row_here : Option of_rows.SessionRow
   row_here = lookup (is_at (nat_cmp c)) w.rows.sessions
 
-  abbrev down_slice : Option of_rows.Session → Option WorldClient → Slice Shown
+  abbrev down_slice : Option of_rows.SessionRow → Option WorldClient → Slice Shown
   down_slice row member = record {
     present = view_at (map_of w.rows) x;
     session = standing_of row;
@@ -139,7 +139,7 @@ module _ (c : ℕ) (x : List ℕ) (w : WorldState) (now : ℕ) where
   }
 
   -- with the session that the master found, and the member at its coming up
-  abbrev up_slice : Option of_rows.Session → Bool → Option (Session Reply) → Option WorldClient → Bool → Slice Shown
+  abbrev up_slice : Option of_rows.SessionRow → Bool → Option (Session Reply) → Option WorldClient → Bool → Slice Shown
   up_slice row recovering found member heard = seen_up now (clocks_of now member) (client_of x member) (record {
     present = view_at (map_of w.rows) x;
     session = standing_of row;
@@ -156,14 +156,14 @@ module _ (c : ℕ) (x : List ℕ) (w : WorldState) (now : ℕ) where
     grants = grants_of c x w.rows.secret w.messages;
   })
 
-  abbrev comes_up : Option of_rows.Session → Bool → Event Shown
+  abbrev comes_up : Option of_rows.SessionRow → Bool → Event Shown
   comes_up row recovering = ComeUp now w.terms.lease (seen_of (option_map known_of row)).timeout recovering
 
   -- a session that the master found is known by no Beat
-  abbrev up_found : Option of_rows.Session → Bool → Option WorldClient → Slice Shown
+  abbrev up_found : Option of_rows.SessionRow → Bool → Option WorldClient → Slice Shown
   up_found row recovering member = up_slice row recovering (option_map known_of row) (option_map (at_up now) member) (heard_from recovering (seen_of (option_map known_of row)))
 
-  comes_up_by : (row : Option of_rows.Session) (recovering : Bool) (member : Option WorldClient) → w.terms.lease ≤ longest_lease → (standing_of row ≡ one.Live → recovering ≡ true) → Leads (down_slice row member) (comes_up row recovering ∷ []) (up_found row recovering member)
+  comes_up_by : (row : Option of_rows.SessionRow) (recovering : Bool) (member : Option WorldClient) → w.terms.lease ≤ longest_lease → (standing_of row ≡ one.Live → recovering ≡ true) → Leads (down_slice row member) (comes_up row recovering ∷ []) (up_found row recovering member)
   comes_up_by None recovering None short recovers = record { allowed = record { first = record { down = refl; lease = short; recovers = recovers; timeout = λ k. absurd (cc) }; rest = tt }; leads_there = refl }
   comes_up_by None recovering (Some member) short recovers = record { allowed = record { first = record { down = refl; lease = short; recovers = recovers; timeout = λ k. absurd (cc) }; rest = tt }; leads_there = refl }
   comes_up_by (Some row) recovering None short recovers = record {
@@ -181,7 +181,7 @@ module _ (c : ℕ) (x : List ℕ) (w : WorldState) (now : ℕ) where
   found_known : session_of new_master c ≡ option_map known_of row_here
   found_known = lookup_rows known_of (is_at (nat_cmp c)) w.rows.sessions
 
-  live_recovers : (row : Option of_rows.Session) → row_here ≡ row → standing_of row ≡ one.Live → not (all_heard new_master.sessions) ≡ true
+  live_recovers : (row : Option of_rows.SessionRow) → row_here ≡ row → standing_of row ≡ one.Live → not (all_heard new_master.sessions) ≡ true
   live_recovers None is live = absurd (cc)
   live_recovers (Some row) is live = by_test (all_heard new_master.sessions)
       (λ heard. absurd (not_live row.principal row.live now (all_found c (λ entry. has_heard entry.1) new_master.sessions.sessions (known_of row) heard (found_known ∙ ap (option_map known_of) is)) live))

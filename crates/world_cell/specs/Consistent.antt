@@ -73,7 +73,7 @@ pub record AreHandles (opened : ℕ) (handles : List (ℕ × ClientHandle)) : Ty
   pub named : (number : ℕ) (handle : ClientHandle) → handle_of handles number ≡ Some handle → name_in handle.bytes ≡ handle.name
 
 -- so is one that is kept to be shared
-abbrev pub IsSharedByName : shared.Kept NewHandle → Type 0
+abbrev pub IsSharedByName : shared.SharedHandle NewHandle → Type 0
 IsSharedByName kept = name_in kept.handle.bytes ≡ kept.name
 
 -- the call that has no reply yet was sent; one on the node of an open handle was made with the handle's bytes

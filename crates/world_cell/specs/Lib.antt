@@ -40,3 +40,4 @@ pub mod Told
 pub mod Limits
 pub mod Turns
 pub mod RunLaws
+pub mod Shown

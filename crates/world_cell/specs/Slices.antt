@@ -50,7 +50,7 @@ standing_so true = one.Live
 standing_so false = one.Ended
 
 -- what the rows say of a client's session
-abbrev pub standing_of : Option of_rows.Session → one.Session
+abbrev pub standing_of : Option of_rows.SessionRow → one.Session
 standing_of None = one.Never
 standing_of (Some session) = standing_so session.live
 

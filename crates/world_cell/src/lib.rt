@@ -2,8 +2,10 @@
 //! run of its steps, is defined here and proved from the table of steps.
 #![tactic(auto)]
 
+mod answers;
 mod runs;
 mod worlds;
 
+pub use answers::answers_are_shown;
 pub use world_steps::Step;
 pub use worlds::World;

@@ -1,11 +1,10 @@
-//! The eight edits, in a transaction: each is one statement, but a put and a removal of a node, which are two.
-ghost use Rattle.std.specs.Prelude.{◌≡◌, ◌∷◌, [], OnOk, Some};
+//! The eight edits, in a transaction: each is one statement, but a put of a node that isn't there, which is three.
+ghost use Rattle.std.specs.Prelude.{◌≡◌, ◌∷◌, [], OnOk, IfOk};
 ghost use Rattle.sqlite.specs.Values.{bound};
 ghost use Rattle.sqlite.specs.State.{HasCleanDisk, KeepsCommit, Survives};
 ghost use Rattle.sqlite.specs.Held.{state};
-ghost use Rattle.names_cell.specs.Text.{parent_of};
 ghost use Rattle.rows_cell.specs.declared.tables.Edit.TheVariants.{Epoch, NextInstance, PutNode, LockGeneration, RemoveNode, PutSession, PutLock, RemoveLock};
-ghost use Rattle.rows_sql.specs.Ongoing.{RanInside, Changed, PutsEntry, PutsChild, TakesChild, RemovesEntry};
+ghost use Rattle.rows_sql.specs.Ongoing.{RanInside, RanCounted, Changed, Renews, PutsEntry, PutsChild};
 
 use crate::writing::values::{kind_as, life_as, live_as, mode_as, number};
 use names_cell::Name;
@@ -27,6 +26,20 @@ pub(crate) fn run<S: Alter>(
 {
     tx.execute(sql, params)?;
     Ok(())
+}
+
+// Runs one statement in a transaction, and counts the rows that it changed.
+fn run_counted<S: Alter>(
+    tx: &mut Transaction<'_, S>,
+    sql: &str,
+    params: &[ValueRef<'_>],
+) -> Result<usize, Error>
+    ensures same { tx.new.conn.ghost_name ≡ tx.old.conn.ghost_name }
+    ensures ok { HasCleanDisk (state S.Store tx.new.conn.now) → IfOk result (λ count. RanCounted sql.now (bound params.now) count (state S.Store tx.old.conn.now) (state S.Store tx.new.conn.now)) }
+    ensures kept { HasCleanDisk (state S.Store tx.new.conn.now) → KeepsCommit (state S.Store tx.old.conn.now) (state S.Store tx.new.conn.now) }
+    ensures survives { Survives (state S.Store tx.old.conn.now) (state S.Store tx.new.conn.now) (λ _. ⊥) }
+{
+    tx.execute(sql, params)
 }
 
 /// Sets the epoch.
@@ -58,7 +71,7 @@ pub(crate) fn set_next_instance<S: Alter>(
     )
 }
 
-/// Puts a node, and its name under its parent: a node that is there keeps the generation of its lock.
+/// Puts a node: one that is there keeps the generation of its lock, and another gets its name under its parent.
 pub(crate) fn put_node<S: Alter>(
     tx: &mut Transaction<'_, S>,
     name: &Name,
@@ -69,15 +82,28 @@ pub(crate) fn put_node<S: Alter>(
     ensures kept { HasCleanDisk (state S.Store tx.new.conn.now) → KeepsCommit (state S.Store tx.old.conn.now) (state S.Store tx.new.conn.now) }
     ensures survives { Survives (state S.Store tx.old.conn.now) (state S.Store tx.new.conn.now) (λ _. ⊥) }
 {
+    if renew_entry(tx, name, node)? {
+        return Ok(());
+    }
+    add_node(tx, name, node)
+}
+
+// Puts a node that isn't there, and its name under its parent.
+fn add_node<S: Alter>(tx: &mut Transaction<'_, S>, name: &Name, node: &Node) -> Result<(), Error>
+    ensures same { tx.new.conn.ghost_name ≡ tx.old.conn.ghost_name }
+    ensures ok { HasCleanDisk (state S.Store tx.new.conn.now) → OnOk result (Changed (PutNode name.now node.now ∷ []) (state S.Store tx.old.conn.now) (state S.Store tx.new.conn.now)) }
+    ensures kept { HasCleanDisk (state S.Store tx.new.conn.now) → KeepsCommit (state S.Store tx.old.conn.now) (state S.Store tx.new.conn.now) }
+    ensures survives { Survives (state S.Store tx.old.conn.now) (state S.Store tx.new.conn.now) (λ _. ⊥) }
+{
     let parent = name.parent()?;
-    put_entry(tx, name, node)?;
+    add_entry(tx, name, node)?;
     match parent {
         Some(parent) => put_child(tx, &parent, name),
         None => Ok(()),
     }
 }
 
-/// Puts a name under its parent, where it isn't there yet.
+/// Puts a name under its parent. It is refused where it is there.
 pub(crate) fn put_child<S: Alter>(
     tx: &mut Transaction<'_, S>,
     parent: &Name,
@@ -90,7 +116,7 @@ pub(crate) fn put_child<S: Alter>(
 {
     run(
         tx,
-        "INSERT INTO children (parent, child) VALUES (?1, ?2) ON CONFLICT (parent, child) DO NOTHING",
+        "INSERT INTO children (parent, child) VALUES (?1, ?2)",
         &[
             ValueRef::Text(parent.as_str().as_bytes()),
             ValueRef::Text(child.as_str().as_bytes()),
@@ -98,8 +124,41 @@ pub(crate) fn put_child<S: Alter>(
     )
 }
 
-// Puts the row of a node.
-fn put_entry<S: Alter>(tx: &mut Transaction<'_, S>, name: &Name, node: &Node) -> Result<(), Error>
+// Puts the row of a node that is there, and answers whether it is.
+fn renew_entry<S: Alter>(
+    tx: &mut Transaction<'_, S>,
+    name: &Name,
+    node: &Node,
+) -> Result<bool, Error>
+    ensures same { tx.new.conn.ghost_name ≡ tx.old.conn.ghost_name }
+    ensures ok { HasCleanDisk (state S.Store tx.new.conn.now) → IfOk result (λ there. Renews name.now node.now there (state S.Store tx.old.conn.now) (state S.Store tx.new.conn.now)) }
+    ensures kept { HasCleanDisk (state S.Store tx.new.conn.now) → KeepsCommit (state S.Store tx.old.conn.now) (state S.Store tx.new.conn.now) }
+    ensures survives { Survives (state S.Store tx.old.conn.now) (state S.Store tx.new.conn.now) (λ _. ⊥) }
+{
+    let instance = number(node.instance)?;
+    let content_generation = number(node.content_generation)?;
+    let acl_generation = number(node.acl_generation)?;
+    let count = run_counted(
+        tx,
+        "UPDATE nodes SET instance = ?2, kind = ?3, life = ?4, content_gen = ?5, acl_gen = ?6, acl_read = ?7, acl_write = ?8, acl_change = ?9, content = ?10 WHERE name = ?1",
+        &[
+            ValueRef::Text(name.as_str().as_bytes()),
+            instance,
+            kind_as(node.kind),
+            life_as(node.life),
+            content_generation,
+            acl_generation,
+            ValueRef::Text(node.read.as_str().as_bytes()),
+            ValueRef::Text(node.write.as_str().as_bytes()),
+            ValueRef::Text(node.change.as_str().as_bytes()),
+            ValueRef::Blob(node.content.as_slice()),
+        ],
+    )?;
+    Ok(count != 0)
+}
+
+// Puts the row of a node that isn't there.
+fn add_entry<S: Alter>(tx: &mut Transaction<'_, S>, name: &Name, node: &Node) -> Result<(), Error>
     ensures same { tx.new.conn.ghost_name ≡ tx.old.conn.ghost_name }
     ensures ok { HasCleanDisk (state S.Store tx.new.conn.now) → OnOk result (PutsEntry name.now node.now (state S.Store tx.old.conn.now) (state S.Store tx.new.conn.now)) }
     ensures kept { HasCleanDisk (state S.Store tx.new.conn.now) → KeepsCommit (state S.Store tx.old.conn.now) (state S.Store tx.new.conn.now) }
@@ -110,7 +169,7 @@ fn put_entry<S: Alter>(tx: &mut Transaction<'_, S>, name: &Name, node: &Node) ->
     let acl_generation = number(node.acl_generation)?;
     run(
         tx,
-        "INSERT INTO nodes (name, instance, kind, life, content_gen, acl_gen, lock_gen, acl_read, acl_write, acl_change, content) VALUES (?1, ?2, ?3, ?4, ?5, ?6, 0, ?7, ?8, ?9, ?10) ON CONFLICT (name) DO UPDATE SET instance = excluded.instance, kind = excluded.kind, life = excluded.life, content_gen = excluded.content_gen, acl_gen = excluded.acl_gen, acl_read = excluded.acl_read, acl_write = excluded.acl_write, acl_change = excluded.acl_change, content = excluded.content",
+        "INSERT INTO nodes (name, instance, kind, life, content_gen, acl_gen, lock_gen, acl_read, acl_write, acl_change, content) VALUES (?1, ?2, ?3, ?4, ?5, ?6, 0, ?7, ?8, ?9, ?10)",
         &[
             ValueRef::Text(name.as_str().as_bytes()),
             instance,
@@ -145,60 +204,10 @@ pub(crate) fn set_lock_generation<S: Alter>(
     )
 }
 
-/// Removes a node: its name from under its parent, and then its row, with its locks.
+/// Removes a node, its name from under its parent, and its locks: the references of the schema take these with it.
 pub(crate) fn remove_node<S: Alter>(tx: &mut Transaction<'_, S>, name: &Name) -> Result<(), Error>
     ensures same { tx.new.conn.ghost_name ≡ tx.old.conn.ghost_name }
     ensures ok { HasCleanDisk (state S.Store tx.new.conn.now) → OnOk result (Changed (RemoveNode name.now ∷ []) (state S.Store tx.old.conn.now) (state S.Store tx.new.conn.now)) }
-    ensures kept { HasCleanDisk (state S.Store tx.new.conn.now) → KeepsCommit (state S.Store tx.old.conn.now) (state S.Store tx.new.conn.now) }
-    ensures survives { Survives (state S.Store tx.old.conn.now) (state S.Store tx.new.conn.now) (λ _. ⊥) }
-{
-    match name.parent()? {
-        Some(parent) => remove_under(tx, &parent, name),
-        None => remove_entry(tx, name),
-    }
-}
-
-// Removes the node of a name that has this parent.
-fn remove_under<S: Alter>(
-    tx: &mut Transaction<'_, S>,
-    parent: &Name,
-    name: &Name,
-) -> Result<(), Error>
-    requires { parent_of name.now ≡ Some parent.now }
-    ensures same { tx.new.conn.ghost_name ≡ tx.old.conn.ghost_name }
-    ensures ok { HasCleanDisk (state S.Store tx.new.conn.now) → OnOk result (Changed (RemoveNode name.now ∷ []) (state S.Store tx.old.conn.now) (state S.Store tx.new.conn.now)) }
-    ensures kept { HasCleanDisk (state S.Store tx.new.conn.now) → KeepsCommit (state S.Store tx.old.conn.now) (state S.Store tx.new.conn.now) }
-    ensures survives { Survives (state S.Store tx.old.conn.now) (state S.Store tx.new.conn.now) (λ _. ⊥) }
-{
-    remove_child(tx, parent, name)?;
-    remove_entry(tx, name)
-}
-
-// Takes a name from under its parent.
-fn remove_child<S: Alter>(
-    tx: &mut Transaction<'_, S>,
-    parent: &Name,
-    child: &Name,
-) -> Result<(), Error>
-    ensures same { tx.new.conn.ghost_name ≡ tx.old.conn.ghost_name }
-    ensures ok { HasCleanDisk (state S.Store tx.new.conn.now) → OnOk result (TakesChild child.now parent.now (state S.Store tx.old.conn.now) (state S.Store tx.new.conn.now)) }
-    ensures kept { HasCleanDisk (state S.Store tx.new.conn.now) → KeepsCommit (state S.Store tx.old.conn.now) (state S.Store tx.new.conn.now) }
-    ensures survives { Survives (state S.Store tx.old.conn.now) (state S.Store tx.new.conn.now) (λ _. ⊥) }
-{
-    run(
-        tx,
-        "DELETE FROM children WHERE parent = ?1 AND child = ?2",
-        &[
-            ValueRef::Text(parent.as_str().as_bytes()),
-            ValueRef::Text(child.as_str().as_bytes()),
-        ],
-    )
-}
-
-// Removes the row of a node, and its locks with it.
-fn remove_entry<S: Alter>(tx: &mut Transaction<'_, S>, name: &Name) -> Result<(), Error>
-    ensures same { tx.new.conn.ghost_name ≡ tx.old.conn.ghost_name }
-    ensures ok { HasCleanDisk (state S.Store tx.new.conn.now) → OnOk result (RemovesEntry name.now (state S.Store tx.old.conn.now) (state S.Store tx.new.conn.now)) }
     ensures kept { HasCleanDisk (state S.Store tx.new.conn.now) → KeepsCommit (state S.Store tx.old.conn.now) (state S.Store tx.new.conn.now) }
     ensures survives { Survives (state S.Store tx.old.conn.now) (state S.Store tx.new.conn.now) (λ _. ⊥) }
 {

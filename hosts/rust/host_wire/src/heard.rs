@@ -22,7 +22,7 @@ pub enum Frame<'a> {
 }
 
 impl Frame<'_> {
-    /// Its bytes, ready to be sent; None where what it carries is no message, or memory is wanting.
+    /// Its bytes, ready to be sent, and those of a message as they came; None where they are too many, or memory is wanting.
     #[must_use]
     pub fn write(self) -> Option<Vec<u8>> {
         match self {
@@ -312,6 +312,9 @@ mod tests {
         for frame in [Frame::Up(1000), Frame::Tick(2), Frame::Down] {
             assert!(frame.write().is_some(), "{frame:?}");
         }
-        assert!(Frame::Message(1, b"no message").write().is_none());
+        for bytes in [&b""[..], b"no message"] {
+            let frame = Frame::Message(1, bytes).write();
+            assert!(frame.is_some_and(|frame| frame.ends_with(bytes) && frame.len() == bytes.len() + 14), "{bytes:?}");
+        }
     }
 }

@@ -237,7 +237,7 @@ pub fn up(moment: u64) -> Option<Vec<u8>> {
     written(64, |room, length| unsafe { cell_server_up(moment, room.as_mut_ptr(), room.len(), length) })
 }
 
-/// The frame by which a client's message comes to a master; None where these bytes are none.
+/// The frame by which these bytes come to a master as a client's message, as they are; None where they are too many.
 #[must_use]
 pub fn message(moment: u64, message: &[u8]) -> Option<Vec<u8>> {
     // SAFETY: as above

@@ -2,6 +2,8 @@
 
 use nix::sys::signal::Signal;
 use serde_json::{Value, json};
+use std::fs;
+use std::os::unix::fs::PermissionsExt;
 use std::process::Command;
 use std::sync::Barrier;
 use std::sync::atomic::{AtomicBool, Ordering};
@@ -267,6 +269,10 @@ fn a_cell_that_is_served_is_not_copied() {
     assert!(String::from_utf8_lossy(&told.stderr).contains("a server is master there") && !etcd.path("first.db").exists(), "{told:?}");
     assert!(server.kill(Kill::InOrder).unwrap().success());
     assert!(copy("second.db").status.success());
+    for name in ["second.db", "second.db-numbers"] {
+        let permissions = fs::metadata(etcd.path(name)).unwrap().permissions();
+        assert_eq!(permissions.mode() & 0o777, 0o600, "{name}");
+    }
 }
 
 // What a page of the operators' address says.
@@ -362,7 +368,7 @@ fn a_user_of_etcd_is_let_in_by_its_password() {
     ask("role/grant", json!({ "name": "cell", "perm": below }));
     ask("enable", json!({}));
     let password = etcd.path("password").display().to_string();
-    std::fs::write(&password, "right\n").unwrap();
+    fs::write(&password, "right\n").unwrap();
     let as_user = ["--etcd-user", "cell", "--etcd-password", &password];
     let admin = ["--etcd-history", "1", "--admin", &format!("tcp:{}", free())];
     let server = etcd.server("server", etcd.address).with(&as_user).with(&admin).start().unwrap();
@@ -372,7 +378,7 @@ fn a_user_of_etcd_is_let_in_by_its_password() {
     assert!(!server.logged().contains("etcd doesn't forget old revisions"), "{}", server.logged());
     assert_eq!(metric(&server, "etcd_failures_total"), 0.0);
     drop(server);
-    std::fs::write(&password, "wrong\n").unwrap();
+    fs::write(&password, "wrong\n").unwrap();
     let copy = Command::new(program("tillermossd"))
         .args(["copy", "--from", &rows(etcd.address), "--to"])
         .arg(etcd.path("out.db"))

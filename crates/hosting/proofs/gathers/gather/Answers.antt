@@ -5,10 +5,10 @@ pub loop-frame-init : goal.loop-frame-init
 loop-frame-init g c = so_far_none _ _ _ _
 
 pub loop-frame-preserved : goal.loop-frame-preserved
-loop-frame-preserved g c = so_far_on _ _ _ _ _ _ _ _ _ _ _ _ _ c.in-Next.is c.loop-frame.invariant c.go_on.ensures
+loop-frame-preserved g c = so_far_on c.loop-frame.counter _ _ _ _ _ _ _ _ _ _ _ _ _ c.loop-frame-test.true c.in-Next.is c.loop-frame.invariant c.go_on.ensures
 
 pub returns-in-Ends : goal.returns-in-Ends
-returns-in-Ends g c = so_far_ends _ _ _ _ _ _ _ _ _ _ _ _ _ c.in-Ends.is c.loop-frame.invariant c.go_on.ensures
+returns-in-Ends g c = so_far_ends c.loop-frame.counter _ _ _ _ _ _ _ _ _ _ _ _ _ c.loop-frame-test.true c.in-Ends.is c.loop-frame.invariant c.go_on.ensures
 
 pub returns : goal.returns
-returns g c = so_far_full _ _ _ _ _ _ _ _ c.loop-frame.invariant
+returns g c = so_far_full c.loop-frame.counter _ _ _ _ _ _ _ _ c.loop-frame.invariant

@@ -39,39 +39,39 @@ const HANDSHAKE: Duration = Duration::from_secs(5);
 
 /// What operators show who come from elsewhere, by its sum: so how long a comparison takes tells nothing of it.
 #[derive(Clone, Debug)]
-pub struct Token([u8; 32]);
+pub struct OperatorToken([u8; 32]);
 
-impl Token {
-    fn of(text: &str) -> Token {
-        Token(sha256(text.as_bytes()))
+impl OperatorToken {
+    fn of(text: &str) -> OperatorToken {
+        OperatorToken(sha256(text.as_bytes()))
     }
 
     /// That of a file.
-    pub fn read(path: &Path) -> Result<Token> {
+    pub fn read(path: &Path) -> Result<OperatorToken> {
         let text = fs::read_to_string(path).with_context(|| format!("--admin-token names a file that can be read: {}", path.display()))?;
         match text.trim() {
-            token if token.len() >= SHORTEST && token.bytes().all(|byte| byte.is_ascii_graphic()) => Ok(Token::of(token)),
+            token if token.len() >= SHORTEST && token.bytes().all(|byte| byte.is_ascii_graphic()) => Ok(OperatorToken::of(token)),
             _ => Err(anyhow!("it is {SHORTEST} characters or more, without spaces").context(format!("the token of {}", path.display()))),
         }
     }
 
     fn is_shown(&self, request: &Request<Body>) -> bool {
         let shown = request.headers().get(AUTHORIZATION).and_then(|shown| shown.to_str().ok());
-        shown.and_then(|shown| shown.strip_prefix("Bearer ")).is_some_and(|shown| Token::of(shown).0 == self.0)
+        shown.and_then(|shown| shown.strip_prefix("Bearer ")).is_some_and(|shown| OperatorToken::of(shown).0 == self.0)
     }
 }
 
 /// Who is let in beyond the machine: who shows the token, or a certificate with one of these common names.
 #[derive(Clone, Debug)]
 pub struct Operators {
-    token: Option<Token>,
+    token: Option<OperatorToken>,
     names: Vec<String>,
 }
 
 impl Operators {
     /// Those of the options.
     pub fn read(options: &ServerOptions) -> Result<Operators> {
-        let token = options.admin_token.as_deref().map(Token::read).transpose()?;
+        let token = options.admin_token.as_deref().map(OperatorToken::read).transpose()?;
         Ok(Operators { token, names: options.operator.clone() })
     }
 
@@ -236,7 +236,7 @@ mod tests {
     #[test]
     fn who_is_known_is_let_in() {
         let operators = |token: Option<&str>, names: &[&str]| Operators {
-            token: token.map(Token::of),
+            token: token.map(OperatorToken::of),
             names: names.iter().map(|name| (*name).to_owned()).collect(),
         };
         let (by_token, by_name, both) = (operators(Some("t"), &[]), operators(None, &["ann"]), operators(Some("t"), &["ann", "bob"]));

@@ -50,7 +50,7 @@ type Task = Pin<Box<dyn Future<Output = ()> + Send>>;
 
 /// Why there is no answer.
 #[derive(Debug)]
-pub enum Fault {
+pub enum ChannelFault {
     /// The member says why: gRPC's number of the reason, and its words.
     Told(u32, String),
     /// It took too long.
@@ -59,12 +59,12 @@ pub enum Fault {
     Cut(Error),
 }
 
-impl From<Fault> for Error {
-    fn from(fault: Fault) -> Error {
+impl From<ChannelFault> for Error {
+    fn from(fault: ChannelFault) -> Error {
         match fault {
-            Fault::Told(status, words) => anyhow!("status {status}: {words}"),
-            Fault::Late => anyhow!("it took too long"),
-            Fault::Cut(error) => error,
+            ChannelFault::Told(status, words) => anyhow!("status {status}: {words}"),
+            ChannelFault::Late => anyhow!("it took too long"),
+            ChannelFault::Cut(error) => error,
         }
     }
 }
@@ -79,29 +79,29 @@ pub struct Limit {
 }
 
 impl Limit {
-    async fn wait<T, E: Into<Error>>(self, coming: impl Future<Output = Result<T, E>>) -> Result<T, Fault> {
+    async fn wait<T, E: Into<Error>>(self, coming: impl Future<Output = Result<T, E>>) -> Result<T, ChannelFault> {
         let silent = Instant::now() + self.silence;
         let until = self.by.map_or(silent, |by| by.min(silent));
         match timeout_at(until.into(), coming).await {
-            Ok(come) => come.map_err(|error| Fault::Cut(error.into())),
-            Err(_) => Err(Fault::Late),
+            Ok(come) => come.map_err(|error| ChannelFault::Cut(error.into())),
+            Err(_) => Err(ChannelFault::Late),
         }
     }
 }
 
 /// What is asked: by which method, the message as it goes out, and by what the member knows who asks.
 #[derive(Clone, Debug)]
-pub struct Asked {
+pub struct ChannelQuestion {
     method: &'static str,
     framed: Bytes,
     token: Option<String>,
 }
 
-impl Asked {
+impl ChannelQuestion {
     /// This message.
     #[must_use]
-    pub fn new(method: &'static str, message: &impl Message, token: Option<String>) -> Asked {
-        Asked { method, framed: framed(message), token }
+    pub fn new(method: &'static str, message: &impl Message, token: Option<String>) -> ChannelQuestion {
+        ChannelQuestion { method, framed: framed(message), token }
     }
 
     fn request(&self, member: &str) -> Result<Request<()>> {
@@ -146,9 +146,9 @@ pub fn unframed(came: &mut BytesMut) -> Result<Option<Bytes>> {
 }
 
 // What became of a question, where these say it.
-fn state(told: &HeaderMap) -> Option<Result<(), Fault>> {
+fn state(told: &HeaderMap) -> Option<Result<(), ChannelFault>> {
     let status = told.get("grpc-status")?.to_str().ok()?.parse().ok()?;
-    Some(if status == 0 { Ok(()) } else { Err(Fault::Told(status, words(told))) })
+    Some(if status == 0 { Ok(()) } else { Err(ChannelFault::Told(status, words(told))) })
 }
 
 // The words of a reason, where each byte that isn't plain stands as a % and two digits.
@@ -166,31 +166,31 @@ fn words(told: &HeaderMap) -> String {
 
 /// A connection that is kept.
 #[derive(Clone, Debug)]
-struct Connection {
+struct KeptConnection {
     sending: SendRequest<Bytes>,
-    open: Arc<Open>,
+    open: Arc<ConnectionUse>,
 }
 
 /// Has a part in each answer that is open over a connection, and in what is kept of it.
 #[derive(Debug, Default)]
-struct Open {
+struct ConnectionUse {
     /// Nothing more is asked over it.
     is_left: AtomicBool,
 }
 
 /// An answer that is coming. (What is asked isn't at its end before this is dropped, unless it was whole.)
-struct Answer {
+struct ComingAnswer {
     body: RecvStream,
     came: BytesMut,
     _asking: SendStream<Bytes>,
-    _open: Arc<Open>,
+    _open: Arc<ConnectionUse>,
 }
 
-impl Answer {
+impl ComingAnswer {
     // Its next message; None at its end, where the member says that all is well.
-    async fn next(&mut self, limit: Limit) -> Result<Option<Bytes>, Fault> {
+    async fn next(&mut self, limit: Limit) -> Result<Option<Bytes>, ChannelFault> {
         loop {
-            if let Some(message) = unframed(&mut self.came).map_err(Fault::Cut)? {
+            if let Some(message) = unframed(&mut self.came).map_err(ChannelFault::Cut)? {
                 return Ok(Some(message));
             }
             let Some(some) = limit.wait(async { self.body.data().await.transpose() }).await? else {
@@ -201,17 +201,17 @@ impl Answer {
             let _ = self.body.flow_control().release_capacity(some.len());
         }
         let trailers = limit.wait(self.body.trailers()).await?.unwrap_or_default();
-        state(&trailers).unwrap_or_else(|| Err(Fault::Cut(anyhow!("an answer without an end")))).map(|()| None)
+        state(&trailers).unwrap_or_else(|| Err(ChannelFault::Cut(anyhow!("an answer without an end")))).map(|()| None)
     }
 }
 
-impl Connection {
+impl KeptConnection {
     // Begins it over a stream that is there.
-    async fn begin(stream: impl AsyncRead + AsyncWrite + Send + Unpin + 'static) -> Result<Connection> {
+    async fn begin(stream: impl AsyncRead + AsyncWrite + Send + Unpin + 'static) -> Result<KeptConnection> {
         let mut builder = Builder::new();
         builder.initial_window_size(WINDOW).initial_connection_window_size(WINDOWS).max_header_list_size(HEAD_LIMIT).enable_push(false);
         let (sending, mut connection) = builder.handshake(stream).await?;
-        let open = Arc::<Open>::default();
+        let open = Arc::<ConnectionUse>::default();
         let (pings, watched) = (connection.ping_pong().context("a connection without pings")?, Arc::downgrade(&open));
         // (where it ends, so does what is open over it)
         tokio::spawn(async move {
@@ -220,28 +220,28 @@ impl Connection {
                 () = ping(pings, watched) => {}
             }
         });
-        Ok(Connection { sending, open })
+        Ok(KeptConnection { sending, open })
     }
 
     // Asks; the answer as it begins. `is_whole` says that nothing else is asked with it.
-    async fn ask(mut self, member: &str, asked: &Asked, is_whole: bool, limit: Limit) -> Result<Answer, Fault> {
-        let request = asked.request(member).map_err(Fault::Cut)?;
-        let (coming, mut asking) = self.sending.send_request(request, false).map_err(|error| Fault::Cut(error.into()))?;
-        asking.send_data(asked.framed.clone(), is_whole).map_err(|error| Fault::Cut(error.into()))?;
+    async fn ask(mut self, member: &str, asked: &ChannelQuestion, is_whole: bool, limit: Limit) -> Result<ComingAnswer, ChannelFault> {
+        let request = asked.request(member).map_err(ChannelFault::Cut)?;
+        let (coming, mut asking) = self.sending.send_request(request, false).map_err(|error| ChannelFault::Cut(error.into()))?;
+        asking.send_data(asked.framed.clone(), is_whole).map_err(|error| ChannelFault::Cut(error.into()))?;
         let answer = limit.wait(coming).await?;
         if answer.status() != StatusCode::OK {
-            return Err(Fault::Cut(anyhow!("status {} of HTTP", answer.status())));
+            return Err(ChannelFault::Cut(anyhow!("status {} of HTTP", answer.status())));
         }
         // (a member that has nothing else to say says at once what became of it)
         if let Some(Err(fault)) = state(answer.headers()) {
             return Err(fault);
         }
-        Ok(Answer { body: answer.into_body(), came: BytesMut::new(), _asking: asking, _open: self.open })
+        Ok(ComingAnswer { body: answer.into_body(), came: BytesMut::new(), _asking: asking, _open: self.open })
     }
 }
 
 // Pings while something is open beside the one who keeps the connection; over where the member doesn't answer.
-async fn ping(mut pings: PingPong, open: Weak<Open>) {
+async fn ping(mut pings: PingPong, open: Weak<ConnectionUse>) {
     loop {
         sleep(PINGING).await;
         if open.strong_count() > 1 && !matches!(timeout(PINGED, pings.ping(Ping::opaque())).await, Ok(Ok(_))) {
@@ -257,38 +257,38 @@ struct Member {
     place: String,
     connector: Option<Arc<Connector>>,
     /// The connection, where there is one; it may have ended.
-    kept: Mutex<Option<Connection>>,
+    kept: Mutex<Option<KeptConnection>>,
 }
 
 impl Member {
-    async fn connect(&self) -> Result<Connection> {
+    async fn connect(&self) -> Result<KeptConnection> {
         let connecting = timeout(CONNECTING, TcpStream::connect(&self.place));
         let stream = connecting.await.context("connecting took too long")??;
         stream.set_nodelay(true)?;
         let host = self.place.rsplit_once(':').map_or(self.place.as_str(), |(host, _)| host);
         match &self.connector {
-            Some(connector) => Connection::begin(connector.connect(host, stream).await?).await,
-            None => Connection::begin(stream).await,
+            Some(connector) => KeptConnection::begin(connector.connect(host, stream).await?).await,
+            None => KeptConnection::begin(stream).await,
         }
     }
 
     // One that is ready: that is kept, or a new one where it has ended or was left.
-    async fn connection(&self) -> Result<Connection> {
-        let mut kept: MutexGuard<Option<Connection>> = self.kept.lock().await;
-        if let Some(Connection { sending, open }) = kept.take_if(|kept| !kept.open.is_left.load(Ordering::SeqCst))
+    async fn connection(&self) -> Result<KeptConnection> {
+        let mut kept: MutexGuard<Option<KeptConnection>> = self.kept.lock().await;
+        if let Some(KeptConnection { sending, open }) = kept.take_if(|kept| !kept.open.is_left.load(Ordering::SeqCst))
             && let Ok(sending) = sending.ready().await
         {
-            return Ok(kept.insert(Connection { sending, open }).clone());
+            return Ok(kept.insert(KeptConnection { sending, open }).clone());
         }
         Ok(kept.insert(self.connect().await?).clone())
     }
 
     // Asks; after a question that wasn't answered the next one goes over another connection.
-    async fn ask<T>(&self, limit: Limit, deed: impl AsyncFnOnce(Connection) -> Result<T, Fault>) -> Result<T, Fault> {
+    async fn ask<T>(&self, limit: Limit, deed: impl AsyncFnOnce(KeptConnection) -> Result<T, ChannelFault>) -> Result<T, ChannelFault> {
         let connection = limit.wait(self.connection()).await?;
         let open = connection.open.clone();
         let answered = deed(connection).await;
-        if matches!(answered, Err(Fault::Late | Fault::Cut(_))) {
+        if matches!(answered, Err(ChannelFault::Late | ChannelFault::Cut(_))) {
             open.is_left.store(true, Ordering::SeqCst);
         }
         answered
@@ -299,18 +299,23 @@ impl Member {
     }
 
     // The one message that is answered; of a stream the first.
-    async fn answer(&self, asked: &Asked, limit: Limit) -> Result<Bytes, Fault> {
+    async fn answer(&self, asked: &ChannelQuestion, limit: Limit) -> Result<Bytes, ChannelFault> {
         self.ask(limit, async |connection| {
             let mut answer = connection.ask(&self.name(), asked, true, limit).await?;
             let first = answer.next(limit).await?;
             while answer.next(limit).await?.is_some() {}
-            first.ok_or_else(|| Fault::Cut(anyhow!("an empty answer")))
+            first.ok_or_else(|| ChannelFault::Cut(anyhow!("an empty answer")))
         })
         .await
     }
 
     // Tells each message that is answered, until nobody takes them, or nothing came for a while.
-    async fn follow(&self, asked: &Asked, limit: Limit, telling: &Sender<Result<Bytes, Fault>>) -> Result<(), Fault> {
+    async fn follow(
+        &self,
+        asked: &ChannelQuestion,
+        limit: Limit,
+        telling: &Sender<Result<Bytes, ChannelFault>>,
+    ) -> Result<(), ChannelFault> {
         let begun = self.ask(limit, async |connection| connection.ask(&self.name(), asked, false, limit).await);
         let mut answer = begun.await?;
         loop {
@@ -320,7 +325,7 @@ impl Member {
             };
             let message = match next {
                 Ok(Some(message)) => message,
-                Ok(None) | Err(Fault::Late) => return Ok(()),
+                Ok(None) | Err(ChannelFault::Late) => return Ok(()),
                 Err(fault) => return Err(fault),
             };
             if telling.send(Ok(message)).await.is_err() {
@@ -366,19 +371,19 @@ impl Channels {
     }
 
     /// What the member at this place answers.
-    pub fn ask(&self, at: usize, asked: Asked, limit: Limit) -> Result<Bytes, Fault> {
+    pub fn ask(&self, at: usize, asked: ChannelQuestion, limit: Limit) -> Result<Bytes, ChannelFault> {
         let member = self.members[at].clone();
         let (telling, told) = sync_channel(1);
         self.begin(async move {
             // (there is room for it, and who asked waits)
             let _ = telling.send(member.answer(&asked, limit).await);
         });
-        told.recv().unwrap_or_else(|_| Err(Fault::Cut(anyhow!("nobody carries it"))))
+        told.recv().unwrap_or_else(|_| Err(ChannelFault::Cut(anyhow!("nobody carries it"))))
     }
 
     /// Each message that the member at this place answers, until that tells to stop, or nothing came for a while. It isn't called by what
     /// a runtime drives.
-    pub fn follow(&self, at: usize, asked: Asked, silence: Duration, mut tell: impl FnMut(Bytes) -> Result<bool>) -> Result<()> {
+    pub fn follow(&self, at: usize, asked: ChannelQuestion, silence: Duration, mut tell: impl FnMut(Bytes) -> Result<bool>) -> Result<()> {
         let member = self.members[at].clone();
         let (telling, mut told) = channel(UNTAKEN);
         self.begin(async move {
@@ -435,7 +440,7 @@ mod tests {
             let headers =
                 told.iter().map(|(name, value)| (http::header::HeaderName::from_static(name), HeaderValue::from_str(value).unwrap()));
             let read = state(&headers.collect()).map(|read| match read {
-                Err(Fault::Told(status, words)) => Some((status, words)),
+                Err(ChannelFault::Told(status, words)) => Some((status, words)),
                 _ => None,
             });
             assert_eq!(read, wanted.map(|it| it.map(|(status, words): (u32, &str)| (status, words.to_owned()))), "{told:?}");

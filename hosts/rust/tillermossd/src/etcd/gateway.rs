@@ -1,9 +1,10 @@
 //! What is asked of etcd, by gRPC: ranges, transactions, leases, and what changes.
 
-use crate::etcd::channels::{Asked, Channels, Fault, Limit};
+use crate::etcd::channels::{ChannelFault, ChannelQuestion, Channels, Limit};
 use crate::etcd::messages::{
-    self, AlarmsWanted, Authenticate, CHANGED, CREATED, Compaction, Condition, Deed, DeedKind, DeleteRange, Event, GONE, Grant, Header,
-    KeepAlive, KeyValue, Put, Question, Range, Revoke, Transaction, Wanted, Watch, WatchWanted, Watched,
+    self, AlarmsWanted, Authenticate, CHANGED, CREATED, Compaction, ConditionWanted, DeedKind, DeleteRange, GONE, Header, KeepAlive,
+    KeyValue, LeaseGrant, MethodCall, PutPair, Range, Revoke, Transaction, TransactionCondition, TransactionDeed, WatchOfKeys, WatchWanted,
+    Watched, WatchedChange,
 };
 use crate::net::tls::Connector;
 use anyhow::{Context, Error, Result, anyhow};
@@ -100,7 +101,7 @@ impl Followed {
     }
 }
 
-fn change(event: Event) -> Option<Result<Pair, String>> {
+fn change(event: WatchedChange) -> Option<Result<Pair, String>> {
     let about = event.pair?;
     if event.kind == GONE {
         return Some(Err(String::from_utf8(about.key).ok()?));
@@ -226,10 +227,10 @@ impl Display for Unanswered {
     }
 }
 
-impl From<Fault> for Lost {
-    fn from(fault: Fault) -> Lost {
+impl From<ChannelFault> for Lost {
+    fn from(fault: ChannelFault) -> Lost {
         match fault {
-            Fault::Told(status, words) if REFUSING.contains(&status) || words.contains(NO_ROOM) || words.contains(TOO_LONG) => {
+            ChannelFault::Told(status, words) if REFUSING.contains(&status) || words.contains(NO_ROOM) || words.contains(TOO_LONG) => {
                 Lost::Refused(anyhow!(words))
             }
             fault => Lost::Unknown(fault.into()),
@@ -264,36 +265,36 @@ fn term(header: Option<Header>) -> Result<i64> {
 }
 
 impl Compare<'_> {
-    fn write(&self) -> Condition {
+    fn write(&self) -> TransactionCondition {
         let (key, target, wanted) = match self {
-            Compare::Created(key, at) => (key, CREATED, Wanted::Created(*at)),
-            Compare::Changed(key, at) => (key, CHANGED, Wanted::Changed(*at)),
+            Compare::Created(key, at) => (key, CREATED, ConditionWanted::Created(*at)),
+            Compare::Changed(key, at) => (key, CHANGED, ConditionWanted::Changed(*at)),
         };
-        Condition { target, key: key.as_bytes().to_vec(), wanted: Some(wanted) }
+        TransactionCondition { target, key: key.as_bytes().to_vec(), wanted: Some(wanted) }
     }
 }
 
 impl Operation {
-    fn write(&self) -> Deed {
-        let put = |key: &str, value: &[u8], lease| DeedKind::Put(Put { key: key.as_bytes().to_vec(), value: value.to_vec(), lease });
+    fn write(&self) -> TransactionDeed {
+        let put = |key: &str, value: &[u8], lease| DeedKind::Put(PutPair { key: key.as_bytes().to_vec(), value: value.to_vec(), lease });
         let kind = match self {
             Operation::Put(key, value) => put(key, value, 0),
             Operation::Lend(key, value, lease) => put(key, value, *lease),
             Operation::Delete(key) => DeedKind::Delete(DeleteRange { key: key.as_bytes().to_vec(), end: Vec::new() }),
             Operation::DeleteAll(prefix) => DeedKind::Delete(DeleteRange { key: prefix.as_bytes().to_vec(), end: behind(prefix) }),
         };
-        Deed { kind: Some(kind) }
+        TransactionDeed { kind: Some(kind) }
     }
 }
 
 // The same deeds, of which etcd does all or none, in transactions within transactions where they are many.
-fn nested(mut deeds: Vec<Deed>) -> Vec<Deed> {
+fn nested(mut deeds: Vec<TransactionDeed>) -> Vec<TransactionDeed> {
     while deeds.len() > WIDTH {
         let mut parts = Vec::with_capacity(deeds.len() / WIDTH + 1);
         let mut rest = deeds.into_iter();
         while rest.len() > 0 {
             let part = Transaction { conditions: Vec::new(), deeds: rest.by_ref().take(WIDTH).collect() };
-            parts.push(Deed { kind: Some(DeedKind::Transaction(part)) });
+            parts.push(TransactionDeed { kind: Some(DeedKind::Transaction(part)) });
         }
         deeds = parts;
     }
@@ -326,12 +327,12 @@ impl Members {
         &self.health
     }
 
-    fn ask<Q: Question>(&self, asked: &Q) -> Result<Q::Answer, Lost> {
+    fn ask<Q: MethodCall>(&self, asked: &Q) -> Result<Q::Answer, Lost> {
         self.ask_within(asked, Some(ANSWERING))
     }
 
     // Asks the member that answered last, and the others after it. An answer may take so long in all, or as long as something comes.
-    fn ask_within<Q: Question>(&self, asked: &Q, limit: Option<Duration>) -> Result<Q::Answer, Lost> {
+    fn ask_within<Q: MethodCall>(&self, asked: &Q, limit: Option<Duration>) -> Result<Q::Answer, Lost> {
         let began = Instant::now();
         let answered = self.ask_each(asked, limit);
         self.health.note(began, answered.as_ref().err());
@@ -341,7 +342,7 @@ impl Members {
         answered
     }
 
-    fn ask_each<Q: Question>(&self, asked: &Q, limit: Option<Duration>) -> Result<Q::Answer, Lost> {
+    fn ask_each<Q: MethodCall>(&self, asked: &Q, limit: Option<Duration>) -> Result<Q::Answer, Lost> {
         let (first, count) = (self.last.load(Ordering::Relaxed), self.channels.count());
         let mut fault = None;
         for turn in 0..count {
@@ -364,7 +365,7 @@ impl Members {
     }
 
     // (a token that etcd has forgotten is asked for anew, once)
-    fn ask_as_user<Q: Question>(&self, at: usize, asked: &Q, limit: Option<Duration>) -> Result<Q::Answer, Lost> {
+    fn ask_as_user<Q: MethodCall>(&self, at: usize, asked: &Q, limit: Option<Duration>) -> Result<Q::Answer, Lost> {
         let Some(user) = &self.user else {
             return self.ask_one(at, asked, limit, None);
         };
@@ -380,9 +381,9 @@ impl Members {
         self.ask_one(at, asked, limit, Some(token))
     }
 
-    fn ask_one<Q: Question>(&self, at: usize, asked: &Q, limit: Option<Duration>, token: Option<String>) -> Result<Q::Answer, Lost> {
+    fn ask_one<Q: MethodCall>(&self, at: usize, asked: &Q, limit: Option<Duration>, token: Option<String>) -> Result<Q::Answer, Lost> {
         let by = limit.map(|limit| Instant::now() + limit).into_iter().chain(self.by).min();
-        let told = self.channels.ask(at, Asked::new(Q::METHOD, asked, token), Limit { by, silence: ANSWERING })?;
+        let told = self.channels.ask(at, ChannelQuestion::new(Q::METHOD, asked, token), Limit { by, silence: ANSWERING })?;
         Q::Answer::decode(told).map_err(|error| Lost::Unknown(error.into()))
     }
 
@@ -415,7 +416,7 @@ impl Members {
         let at = self.last.load(Ordering::Relaxed) % self.channels.count();
         let wanted = WatchWanted { key: prefix.as_bytes().to_vec(), end: behind(prefix), from };
         let token = self.user.as_ref().and_then(|user| user.token());
-        let asked = Asked::new(Watch::METHOD, &Watch { wanted: Some(wanted) }, token);
+        let asked = ChannelQuestion::new(WatchOfKeys::METHOD, &WatchOfKeys { wanted: Some(wanted) }, token);
         self.channels.follow(at, asked, SILENCE, |told| Ok(Followed::of(Watched::decode(told)?)?.is_none_or(&mut tell)))
     }
 
@@ -443,7 +444,7 @@ impl Members {
 
     /// A new lease of so many seconds; etcd may give more.
     pub fn lend(&self, seconds: u64) -> Result<(i64, u64)> {
-        let answer = self.ask(&Grant { seconds: i64::try_from(seconds)? })?;
+        let answer = self.ask(&LeaseGrant { seconds: i64::try_from(seconds)? })?;
         if answer.lease == 0 {
             return Err(anyhow!("etcd gave no lease"));
         }
@@ -493,7 +494,7 @@ mod tests {
     }
 
     // The deeds that are no transactions themselves, in their order.
-    fn bottom(deed: &Deed) -> Vec<&Deed> {
+    fn bottom(deed: &TransactionDeed) -> Vec<&TransactionDeed> {
         match within(deed) {
             [] => vec![deed],
             deeds => deeds.iter().flat_map(bottom).collect(),
@@ -503,7 +504,7 @@ mod tests {
     #[test]
     fn etcd_takes_however_many_deeds() {
         for count in [0, 1, WIDTH, WIDTH + 1, WIDTH * WIDTH, WIDTH * WIDTH + 1, 10_000, WIDTH * WIDTH * WIDTH] {
-            let deeds: Vec<Deed> = (0..count).map(|number| Operation::Delete(number.to_string()).write()).collect();
+            let deeds: Vec<TransactionDeed> = (0..count).map(|number| Operation::Delete(number.to_string()).write()).collect();
             let written = nested(deeds.clone());
             assert!(written.iter().flat_map(bottom).eq(&deeds) && is_taken(&written), "{count}");
         }
@@ -542,7 +543,7 @@ mod tests {
             (16, "etcdserver: invalid auth token", true),
         ];
         for (status, words, is_refused) in rows {
-            let lost = Lost::from(Fault::Told(status, words.to_owned()));
+            let lost = Lost::from(ChannelFault::Told(status, words.to_owned()));
             assert_eq!(matches!(lost, Lost::Refused(_)), is_refused, "{status} {words}");
             assert!(lost.to_string().contains(words), "{lost}");
         }

@@ -74,13 +74,13 @@ pub struct Mastership {
     value: Vec<u8>,
     /// The revision by which it began, which no other mastership has.
     pub revision: i64,
-    grant: Mutex<Grant>,
+    grant: Mutex<KeyLease>,
     end: AtomicU64,
 }
 
 /// By which lease the key stands there.
 #[derive(Clone, Copy, Debug)]
-struct Grant {
+struct KeyLease {
     lease: i64,
     /// The revision that put it there under this lease.
     changed: i64,
@@ -161,7 +161,7 @@ impl Mastership {
             let _ = gateway.give_back(lease);
             return Ok(None);
         };
-        let (end, grant) = (AtomicU64::new(end_of(sent, seconds)), Mutex::new(Grant { lease, changed: revision }));
+        let (end, grant) = (AtomicU64::new(end_of(sent, seconds)), Mutex::new(KeyLease { lease, changed: revision }));
         let taken = Arc::new(Mastership { gateway: gateway.clone(), key: key.to_owned(), value, revision, grant, end });
         info!(revision, "this server is master");
         let renewing = taken.clone();
@@ -210,7 +210,7 @@ impl Mastership {
         // (of puts that got lost none can be done after this one)
         let same = [self.fence(), Compare::Changed(&self.key, grant.changed)];
         let next = match self.gateway.change(&same, &[Operation::Lend(self.key.clone(), self.value.clone(), lease)]) {
-            Ok(Some(changed)) => Grant { lease, changed },
+            Ok(Some(changed)) => KeyLease { lease, changed },
             Ok(None) | Err(Lost::Unknown(_)) => self.read_grant()?,
             Err(lost) => return Err(lost.into()),
         };
@@ -240,9 +240,9 @@ impl Mastership {
     }
 
     // How the key stands there.
-    fn read_grant(&self) -> Result<Grant> {
+    fn read_grant(&self) -> Result<KeyLease> {
         match self.gateway.get(&self.key)? {
-            Some(pair) if pair.created == self.revision => Ok(Grant { lease: pair.lease, changed: pair.changed }),
+            Some(pair) if pair.created == self.revision => Ok(KeyLease { lease: pair.lease, changed: pair.changed }),
             _ => {
                 self.end.store(0, Ordering::SeqCst);
                 bail!("its key is gone")

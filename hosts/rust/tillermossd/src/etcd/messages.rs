@@ -4,7 +4,7 @@
 use prost::{Message, Oneof};
 
 /// What is asked, by which method, and what is answered to it.
-pub trait Question: Message {
+pub trait MethodCall: Message {
     /// Its answer; of a stream each of them.
     type Answer: Message + Default;
     /// The service and the method.
@@ -13,7 +13,7 @@ pub trait Question: Message {
 
 macro_rules! questions {
     ($($question:ty => $answer:ty, $method:literal;)*) => {
-        $(impl Question for $question {
+        $(impl MethodCall for $question {
             type Answer = $answer;
             const METHOD: &'static str = $method;
         })*
@@ -24,12 +24,12 @@ questions! {
     Range => RangeAnswer, "etcdserverpb.KV/Range";
     Transaction => TransactionAnswer, "etcdserverpb.KV/Txn";
     Compaction => HeaderAlone, "etcdserverpb.KV/Compact";
-    Watch => Watched, "etcdserverpb.Watch/Watch";
-    Grant => Granted, "etcdserverpb.Lease/LeaseGrant";
+    WatchOfKeys => Watched, "etcdserverpb.Watch/Watch";
+    LeaseGrant => Granted, "etcdserverpb.Lease/LeaseGrant";
     KeepAlive => KeptAlive, "etcdserverpb.Lease/LeaseKeepAlive";
     Revoke => HeaderAlone, "etcdserverpb.Lease/LeaseRevoke";
     AlarmsWanted => Alarms, "etcdserverpb.Maintenance/Alarm";
-    Authenticate => Token, "etcdserverpb.Auth/Authenticate";
+    Authenticate => UserToken, "etcdserverpb.Auth/Authenticate";
 }
 
 /// What each answer has in common.
@@ -104,7 +104,7 @@ pub struct RangeAnswer {
 
 /// A key gets a value.
 #[derive(Clone, PartialEq, Message)]
-pub struct Put {
+pub struct PutPair {
     /// The key.
     #[prost(bytes = "vec", tag = "1")]
     pub key: Vec<u8>,
@@ -129,7 +129,7 @@ pub struct DeleteRange {
 
 /// One deed of a transaction.
 #[derive(Clone, PartialEq, Message)]
-pub struct Deed {
+pub struct TransactionDeed {
     /// Which one.
     #[prost(oneof = "DeedKind", tags = "2, 3, 4")]
     pub kind: Option<DeedKind>,
@@ -140,7 +140,7 @@ pub struct Deed {
 pub enum DeedKind {
     /// A key gets a value.
     #[prost(message, tag = "2")]
-    Put(Put),
+    Put(PutPair),
     /// Keys go.
     #[prost(message, tag = "3")]
     Delete(DeleteRange),
@@ -151,7 +151,7 @@ pub enum DeedKind {
 
 /// A condition of a transaction: that something of a key is what it says. (That the two are equal is etcd's first way to compare.)
 #[derive(Clone, PartialEq, Message)]
-pub struct Condition {
+pub struct TransactionCondition {
     /// What is compared: `CREATED` or `CHANGED`.
     #[prost(int32, tag = "2")]
     pub target: i32,
@@ -159,17 +159,17 @@ pub struct Condition {
     #[prost(bytes = "vec", tag = "3")]
     pub key: Vec<u8>,
     /// With what.
-    #[prost(oneof = "Wanted", tags = "5, 6")]
-    pub wanted: Option<Wanted>,
+    #[prost(oneof = "ConditionWanted", tags = "5, 6")]
+    pub wanted: Option<ConditionWanted>,
 }
 
-/// Condition::target of the revision that made a key, and of the one that changed it last.
+/// TransactionCondition::target of the revision that made a key, and of the one that changed it last.
 pub const CREATED: i32 = 1;
 pub const CHANGED: i32 = 2;
 
 /// What a condition wants.
 #[derive(Clone, PartialEq, Oneof)]
-pub enum Wanted {
+pub enum ConditionWanted {
     /// That this revision made it; 0: that it isn't there.
     #[prost(int64, tag = "5")]
     Created(i64),
@@ -183,10 +183,10 @@ pub enum Wanted {
 pub struct Transaction {
     /// The conditions.
     #[prost(message, repeated, tag = "1")]
-    pub conditions: Vec<Condition>,
+    pub conditions: Vec<TransactionCondition>,
     /// The deeds.
     #[prost(message, repeated, tag = "2")]
-    pub deeds: Vec<Deed>,
+    pub deeds: Vec<TransactionDeed>,
 }
 
 /// What became of it.
@@ -210,7 +210,7 @@ pub struct Compaction {
 
 /// Begins to tell of changes.
 #[derive(Clone, PartialEq, Message)]
-pub struct Watch {
+pub struct WatchOfKeys {
     /// Of what.
     #[prost(message, optional, tag = "1")]
     pub wanted: Option<WatchWanted>,
@@ -241,12 +241,12 @@ pub struct Watched {
     pub is_cancelled: bool,
     /// The changes.
     #[prost(message, repeated, tag = "11")]
-    pub events: Vec<Event>,
+    pub events: Vec<WatchedChange>,
 }
 
 /// One change.
 #[derive(Clone, PartialEq, Message)]
-pub struct Event {
+pub struct WatchedChange {
     /// `GONE`, or another where a value was put.
     #[prost(int32, tag = "1")]
     pub kind: i32,
@@ -255,12 +255,12 @@ pub struct Event {
     pub pair: Option<KeyValue>,
 }
 
-/// Event::kind of a key that is gone.
+/// WatchedChange::kind of a key that is gone.
 pub const GONE: i32 = 1;
 
 /// A lease of so many seconds is wanted.
 #[derive(Clone, PartialEq, Message)]
-pub struct Grant {
+pub struct LeaseGrant {
     /// How many.
     #[prost(int64, tag = "1")]
     pub seconds: i64,
@@ -340,7 +340,7 @@ pub struct Authenticate {
 
 /// By what the members know a user.
 #[derive(Clone, PartialEq, Message)]
-pub struct Token {
+pub struct UserToken {
     /// It goes with each question from then on.
     #[prost(string, tag = "2")]
     pub token: String,

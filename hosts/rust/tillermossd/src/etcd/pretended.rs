@@ -3,8 +3,8 @@
 use crate::etcd::channels::{framed, unframed};
 use crate::etcd::gateway::Members;
 use crate::etcd::messages::{
-    CHANGED, CREATED, Condition, Deed, DeedKind, Grant, Granted, Header, HeaderAlone, KeyValue, Question, Range, RangeAnswer, Revoke,
-    Transaction, TransactionAnswer, Wanted,
+    CHANGED, CREATED, ConditionWanted, DeedKind, Granted, Header, HeaderAlone, KeyValue, LeaseGrant, MethodCall, Range, RangeAnswer,
+    Revoke, Transaction, TransactionAnswer, TransactionCondition, TransactionDeed,
 };
 use bytes::{Bytes, BytesMut};
 use h2::server::SendResponse;
@@ -80,19 +80,19 @@ pub struct Pretended {
 }
 
 /// What stands within a deed that is a transaction itself; nothing in another one.
-pub fn within(deed: &Deed) -> &[Deed] {
+pub fn within(deed: &TransactionDeed) -> &[TransactionDeed] {
     match &deed.kind {
         Some(DeedKind::Transaction(transaction)) => &transaction.deeds,
         _ => &[],
     }
 }
 
-fn side_by_side(deeds: &[Deed]) -> usize {
+fn side_by_side(deeds: &[TransactionDeed]) -> usize {
     deeds.len() + deeds.iter().map(|deed| side_by_side(within(deed))).max().unwrap_or(0)
 }
 
 /// Whether etcd takes a transaction of these deeds.
-pub fn is_taken(deeds: &[Deed]) -> bool {
+pub fn is_taken(deeds: &[TransactionDeed]) -> bool {
     side_by_side(deeds) <= OPERATIONS
 }
 
@@ -111,9 +111,9 @@ impl PretendedState {
         match path {
             Range::METHOD => framed(&self.range(&Range::decode(asked).unwrap())),
             Transaction::METHOD => framed(&self.transact(&Transaction::decode(asked).unwrap())),
-            Grant::METHOD => {
+            LeaseGrant::METHOD => {
                 self.leases += 1;
-                framed(&Granted { lease: self.leases, seconds: Grant::decode(asked).unwrap().seconds })
+                framed(&Granted { lease: self.leases, seconds: LeaseGrant::decode(asked).unwrap().seconds })
             }
             Revoke::METHOD => {
                 let lease = Revoke::decode(asked).unwrap().lease;
@@ -141,16 +141,16 @@ impl PretendedState {
         TransactionAnswer { header: self.header(), has_succeeded: holds }
     }
 
-    fn holds(&self, condition: &Condition) -> bool {
+    fn holds(&self, condition: &TransactionCondition) -> bool {
         let stands = self.pairs.get(&condition.key);
         match (condition.target, &condition.wanted) {
-            (CREATED, Some(Wanted::Created(at))) => stands.map_or(0, |stands| stands.created) == *at,
-            (CHANGED, Some(Wanted::Changed(at))) => stands.map_or(0, |stands| stands.changed) == *at,
+            (CREATED, Some(ConditionWanted::Created(at))) => stands.map_or(0, |stands| stands.created) == *at,
+            (CHANGED, Some(ConditionWanted::Changed(at))) => stands.map_or(0, |stands| stands.changed) == *at,
             _ => panic!("{condition:?}"),
         }
     }
 
-    fn act(&mut self, deed: &Deed) {
+    fn act(&mut self, deed: &TransactionDeed) {
         match deed.kind.as_ref().unwrap() {
             DeedKind::Transaction(transaction) => transaction.deeds.iter().for_each(|deed| self.act(deed)),
             DeedKind::Put(put) => {

@@ -1,8 +1,8 @@
 //! What an etcd answers to each question that is asked of it here: Debian's etcd-server, of one member, as a process.
 
-use crate::etcd::channels::{Asked, Channels};
+use crate::etcd::channels::{ChannelQuestion, Channels};
 use crate::etcd::gateway::{Compare, Followed, Lost, Members, Operation};
-use crate::etcd::messages::{Question, Watch, WatchWanted};
+use crate::etcd::messages::{MethodCall, WatchOfKeys, WatchWanted};
 use crate::net::tls::client_config;
 use nix::sys::signal::{Signal, kill};
 use nix::unistd::Pid;
@@ -181,7 +181,7 @@ fn a_member_that_hangs_is_noticed_by_pings() {
     let tell = |signal| kill(Pid::from_raw(etcd.child.id().cast_signed()), signal).unwrap();
     let channels = Channels::new(from_ref(&etcd.place), None).unwrap();
     let wanted = WatchWanted { key: b"c/".to_vec(), end: b"c0".to_vec(), from: 0 };
-    let asked = Asked::new(Watch::METHOD, &Watch { wanted: Some(wanted) }, None);
+    let asked = ChannelQuestion::new(WatchOfKeys::METHOD, &WatchOfKeys { wanted: Some(wanted) }, None);
     let begun = Instant::now();
     let mut told = 0;
     let followed = channels.follow(0, asked, 2 * COMING_UP, |_| {

@@ -13,7 +13,7 @@ use crate::net::outgoing::Outbox;
 use crate::serving::Reading;
 use crate::settings::Settings;
 use anyhow::{Context, Result, bail};
-use host_wire::{ANSWER_LIMIT, Asked, Blocks, Frame, Heard, MasterAnswer, Printed, Said, Text, Told};
+use host_wire::{ANSWER_LIMIT, Blocks, Frame, Heard, MasterAnswer, Printed, Said, Text, Told};
 use std::collections::VecDeque;
 use std::error::Error;
 use std::fmt::{self, Display, Formatter};
@@ -246,7 +246,7 @@ impl Making {
 impl Input {
     // Puts a frame after what waits; how many bytes it has.
     fn put(&mut self, frame: Frame<'_>) -> Result<usize> {
-        let bytes = frame.write().context("a message that is none, or no memory")?;
+        let bytes = frame.write().context("a message that is too long, or no memory")?;
         self.waiting.extend_from_slice(&bytes);
         Ok(bytes.len())
     }
@@ -456,8 +456,7 @@ impl Master {
 
     // A Start of a client that has begun its session too often already: it is let go, as if it got lost.
     fn is_one_too_many(&self, message: &Message) -> bool {
-        let is_start = || Asked::read(&message.bytes).is_some_and(|asked| asked.is_start());
-        let is_too_many = self.starts.is_worn_out(message.client) && is_start();
+        let is_too_many = message.is_start && self.starts.is_worn_out(message.client);
         if is_too_many {
             self.hall.metrics.let_go();
             debug!(client = message.client, principal = &*message.principal, "a Start of a session that has begun often was let go");

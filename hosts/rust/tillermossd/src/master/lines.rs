@@ -14,7 +14,9 @@ pub struct Message {
     pub principal: Arc<str>,
     /// Whether it asks for something: a call. Else it keeps a session: a Start or a Beat.
     pub is_call: bool,
-    /// Its bytes.
+    /// Whether it is a Start.
+    pub is_start: bool,
+    /// Its bytes, as they came.
     pub bytes: Vec<u8>,
     /// Its place among those of its connection, and its room among those of all, which are free again when it is taken.
     pub place: Vec<OwnedSemaphorePermit>,
@@ -135,7 +137,7 @@ mod tests {
         let lines = Lines::default();
         for word in sent {
             let (client, is_call) = (u64::from(word.as_bytes()[1] - b'0'), !word[2..].starts_with('b'));
-            lines.push(Message { client, principal: word[..1].into(), is_call, bytes: (*word).into(), place: Vec::new() });
+            lines.push(Message { client, principal: word[..1].into(), is_call, is_start: false, bytes: (*word).into(), place: Vec::new() });
         }
         lines
     }

@@ -173,7 +173,7 @@ mod tests {
     use super::*;
 
     fn message(client: u64, principal: &str) -> Message {
-        Message { client, principal: principal.into(), is_call: true, bytes: Vec::new(), place: Vec::new() }
+        Message { client, principal: principal.into(), is_call: true, is_start: false, bytes: Vec::new(), place: Vec::new() }
     }
 
     // How many of so many changes of a principal, each of a client of its own from a number on, go on.

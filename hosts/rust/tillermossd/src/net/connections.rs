@@ -328,8 +328,8 @@ impl Hall {
             if !self.routes.is_bound(bound.client, binding) {
                 return Some("its client has a later one");
             }
-            let (principal, is_call) = (principal.clone(), asked.is_call());
-            let message = Message { client: bound.client, principal, is_call, bytes: block, place };
+            let (principal, is_call, is_start) = (principal.clone(), asked.is_call(), asked.is_start());
+            let message = Message { client: bound.client, principal, is_call, is_start, bytes: block, place };
             self.go_on(self.let_in(&asked, message, binding, outgoing));
         }
     }
