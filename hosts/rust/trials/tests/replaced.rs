@@ -2,7 +2,7 @@
 
 use host_wire::{Blocks, GREETING_LIMIT, TurnedAway, Welcome, write_block};
 use nix::sys::signal::Signal;
-use std::net::{SocketAddr, TcpListener};
+use std::net::{SocketAddr, TcpListener, TcpStream};
 use std::path::Path;
 use std::thread;
 use std::time::{Duration, Instant};
@@ -72,6 +72,13 @@ fn a_new_client_waits_for_the_next_master() {
     std::fs::remove_dir_all(folder).unwrap();
 }
 
+// Where the master is, as a server says to a new client.
+fn told_master(place: &str) -> Option<String> {
+    let mut stream = TcpStream::connect(place).ok()?;
+    write_block(&mut stream, &new("ann").write()).ok()?;
+    Welcome::master(&Blocks::new(GREETING_LIMIT).next(&mut stream).ok()??)
+}
+
 // It knows the first server alone, which is cut off from etcd until its mastership is over: that one can't look who is master now, and
 // tells of the one that was master before.
 #[test]
@@ -81,6 +88,12 @@ fn a_server_that_is_cut_off_tells_of_another() {
     let starts = [etcd.server("first", relay.address()), etcd.server("second", etcd.address)];
     let mut second = starts[1].start().unwrap();
     let first = starts[0].stand_by().unwrap();
+    // (it tells of one that it has seen)
+    let begun = Instant::now();
+    while told_master(first.place()).as_deref() != Some(&second.address) {
+        assert!(begun.elapsed() < Duration::from_secs(20), "{}", first.logged());
+        thread::sleep(Duration::from_millis(20));
+    }
     assert!(second.kill(Kill::InOrder).unwrap().success() && first.has_logged("a master is up"), "{}", first.logged());
     let client = Client::connect(&Options::new(&first.address, "ann")).unwrap();
     let file = client.create("/ls/c/f", b"").unwrap();
