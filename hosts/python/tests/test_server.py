@@ -284,7 +284,9 @@ class Locks(WithServer):
 class Examples(WithServer):
     def run_example(self, name: str, *words: str) -> subprocess.Popen:
         program = Path(__file__).parents[1] / "examples" / name
-        return subprocess.Popen([sys.executable, program, self.server.address, *words], stdout=subprocess.PIPE, text=True)
+        # (what a shell starts beside itself ignores SIGINT, and so would the example)
+        heeding = ["env", "--default-signal=INT", sys.executable]
+        return subprocess.Popen([*heeding, program, self.server.address, *words], stdout=subprocess.PIPE, text=True)
 
     def test_a_primary_and_the_next_one(self):
         name = "/ls/c/primary"
