@@ -217,7 +217,8 @@ class Restarts(WithServer):
         begun = time.monotonic()
         self.server.start()
         self.client().open(NAME, "rw", make=b"")
-        self.assertLess(time.monotonic() - begun, 5)
+        # (for one that didn't leave it waits a minute)
+        self.assertLess(time.monotonic() - begun, 20)
 
     def test_a_client_that_nobody_answers_is_closed_all_the_same(self):
         client = self.client()
