@@ -177,11 +177,14 @@ one_more count less = omega (arith, less)
 pub so_far_on : (count : ℕ) (onward : Onward) (begun sent next : Result Frame WireFault) (here there rest : Known) (old mid new : GroupState) (before between after : List ℕ) → count < 256 → onward ≡ onwards.Next next
     → (count ≤ 256) × SoFar count begun here old sent mid there before between → GathersOnBy 1 sent there mid onward new rest between after
     → (count + 1 ≤ 256) × SoFar (count + 1) begun here old next new rest before after
-so_far_on count onward begun sent next here there rest old mid new before between after less is s g = (one_more count less, λ terms text f.
-    let P : Onward → Type 0 = λ u. GathersOnBy 1 sent there mid u new rest between after in
-    let front = s.1 terms text f in
-    let back = subst P is g terms front.0 front.2 in
-    (back.0, gathered_then count 1 terms text front.0 back.0 old mid new before between after front.1 back.1, back.2))
+so_far_on count onward begun sent next here there rest old mid new before between after less is s g = (
+  one_more count less,
+  λ terms text f.
+      let P : Onward → Type 0 = λ u. GathersOnBy 1 sent there mid u new rest between after in
+      let front = s.1 terms text f in
+      let back = subst P is g terms front.0 front.2 in
+      (back.0, gathered_then count 1 terms text front.0 back.0 old mid new before between after front.1 back.1, back.2),
+)
 
 then_gathers : (most : ℕ) (behind : Behind) (terms : MasterTerms) (text there rest : Known) (old mid new : GroupState) (before between after : List ℕ) → Gathered most terms text old mid there before between
     → Gathers 1 terms there mid behind new rest between after → Gathers (most + 1) terms text old behind new rest before after

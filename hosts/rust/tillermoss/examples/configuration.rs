@@ -12,12 +12,12 @@ fn main() -> Result<(), Error> {
     let config = client.open("/ls/c/config", Mode::READ)?;
     println!("the configuration: {}", String::from_utf8_lossy(&client.read(config)?.content));
 
-    // Threads share the client, each by a viewer of its own. What that shows is what the master holds at that moment: no copy can be old.
+    // Threads share the client, each by a handle reader of its own. What that shows is what the master holds at that moment: no copy can be old.
     let read = || -> Result<u64, Error> {
-        let mut viewer = client.viewer();
+        let mut reader = client.handle_reader();
         let mut bytes = 0;
         for _ in 0..READS {
-            bytes += viewer.read(config)?.len() as u64;
+            bytes += reader.read(config)?.len() as u64;
         }
         Ok(bytes)
     };

@@ -5,6 +5,7 @@ use crate::clock;
 use crate::core::{Core, End, Mark, Reply, Standing, State, Teller, Tried};
 use crate::errors::Error;
 use crate::events::{Event, Events};
+use crate::handle_reader::HandleReader;
 use crate::keeper::{SessionKeeper, greet_any};
 use crate::library::Library;
 use crate::lines::{Answer, ShownView};
@@ -12,7 +13,6 @@ use crate::nodes::{LockMode, Mode, Stat, View};
 use crate::reaching::Reach;
 use crate::refusals::Refusal;
 use crate::sequencers::Sequencer;
-use crate::viewer::Viewer;
 use host_wire::{Hello, Welcome};
 use std::path::PathBuf;
 use std::sync::Arc;
@@ -588,12 +588,12 @@ impl Client {
     /// # programs::with_server(|address| -> Result<(), tillermoss::Error> {
     /// # let client = &tillermoss::Client::connect(&tillermoss::Options::new(address, "ann"))?;
     /// let file = client.create("/ls/c/f", b"hello")?;
-    /// assert_eq!(client.viewer().read(file)?, b"hello");
+    /// assert_eq!(client.handle_reader().read(file)?, b"hello");
     /// # Ok(()) });
     /// ```
     #[must_use]
-    pub fn viewer(&self) -> Viewer<&Client> {
-        Viewer::of(self)
+    pub fn handle_reader(&self) -> HandleReader<&Client> {
+        HandleReader::of(self)
     }
 
     // As `read_into`, with word of how long that is what the cache answers.

@@ -433,7 +433,7 @@ mod tests {
 
     const CLIENT: u64 = 7;
 
-    // What went out, each message with whether what a viewer had read stood still then.
+    // What went out, each message with whether what a handle reader had read stood still then.
     type Sent = Arc<Mutex<Vec<(bool, Vec<u8>)>>>;
 
     /// A stream that keeps what is written.
@@ -477,7 +477,7 @@ mod tests {
             Stage { core, mark, sent, master: Master::start().unwrap() }
         }
 
-        // A viewer reads now.
+        // A handle reader reads now.
         fn read(&self) {
             *self.mark.lock().unwrap() = self.core.lock().mark();
         }
@@ -493,7 +493,7 @@ mod tests {
     }
 
     #[test]
-    fn what_a_viewer_read_ends_before_a_message_goes_out() {
+    fn what_a_handle_reader_read_ends_before_a_message_goes_out() {
         let mut stage = Stage::new();
         stage.core.lock().beat();
         stage.answer();

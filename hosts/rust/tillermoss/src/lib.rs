@@ -27,6 +27,7 @@ mod core;
 mod denials;
 mod errors;
 mod events;
+mod handle_reader;
 mod keeper;
 mod library;
 mod lines;
@@ -37,7 +38,6 @@ mod reaching;
 mod reader;
 mod refusals;
 mod sequencers;
-mod viewer;
 
 pub use admin::Admin;
 pub use bare::Bare;
@@ -45,6 +45,7 @@ pub use calls::{Create, Life, Opening};
 pub use client::{Client, Handle, Options, Watch};
 pub use errors::Error;
 pub use events::{Event, Events};
+pub use handle_reader::HandleReader;
 /// ```
 /// use tillermoss::Address;
 ///
@@ -108,7 +109,6 @@ pub use reaching::own_principal;
 pub use reader::{Page, Reader, Sight, TaskWatch};
 pub use refusals::Refusal;
 pub use sequencers::Sequencer;
-pub use viewer::Viewer;
 
 /// The version of this crate, and whether its client library was built without proof.
 ///

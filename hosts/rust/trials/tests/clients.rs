@@ -148,7 +148,7 @@ fn viewers_show_no_content_behind_a_write() {
     let counts = thread::scope(|scope| {
         let readers: Vec<_> = (0..4)
             .map(|_| {
-                let (mut viewer, acknowledged) = (reader.viewer(), &acknowledged);
+                let (mut viewer, acknowledged) = (reader.handle_reader(), &acknowledged);
                 scope.spawn(move || {
                     let mut count = 0u64;
                     loop {
@@ -170,7 +170,7 @@ fn viewers_show_no_content_behind_a_write() {
         readers.into_iter().map(|reader| reader.join().unwrap()).collect::<Vec<_>>()
     });
     assert!(counts.iter().sum::<u64>() > 1200, "{counts:?}");
-    let mut viewer = reader.viewer();
+    let mut viewer = reader.handle_reader();
     reader.close(read).unwrap();
     assert_eq!(refusal(viewer.read(read)), Some(Refusal::BadHandle));
     assert_eq!(refusal(viewer.read(written)), Some(Refusal::BadHandle));
@@ -184,7 +184,7 @@ fn a_viewer_trusts_a_lease_no_longer_than_its_client() {
         Client::connect(&Options { patience: Duration::from_millis(100), ..Options::new(&cell.server.address.to_string(), "ann") })
             .unwrap();
     let file = client.create("/ls/c/f", b"hello").unwrap();
-    let mut viewer = client.viewer();
+    let mut viewer = client.handle_reader();
     viewer.read(file).unwrap();
     assert_eq!(viewer.read(file).unwrap(), b"hello");
     cell.server.kill(Kill::Server).unwrap();

@@ -37,6 +37,10 @@ use tracing::{debug, error, info, trace, warn};
 const AT_ONCE: usize = 256;
 const BYTES_AT_ONCE: usize = 1 << 20;
 
+/// So many are there where the last one that it answered left something to do, as where thousands of Beats are due because of one change:
+/// each does as much as one may, and what comes waits for all that were sent before.
+const AT_ONCE_WITH_MORE: usize = 2;
+
 /// How long a master has one frame at a time after one that the store refused: of a group it refuses all, and the master is gone; one
 /// that is alone it refuses alone, and Beats are answered.
 const ALONE: Duration = Duration::from_secs(60);
@@ -99,6 +103,7 @@ pub struct Making {
 #[derive(Debug)]
 struct Sent {
     at: Instant,
+    moment: u64,
     bytes: usize,
     client: Option<(u64, Arc<str>)>,
     has_committed: bool,
@@ -132,6 +137,7 @@ pub struct Master {
     pulse: Pulse,
     sent: VecDeque<Sent>,
     bytes_sent: usize,
+    has_more: bool,
     alone_until: Option<Instant>,
     copying: Option<oneshot::Sender<io::Result<TempDir>>>,
 }
@@ -196,6 +202,7 @@ impl Making {
             pulse: Pulse::new(0, next),
             sent: VecDeque::new(),
             bytes_sent: 0,
+            has_more: false,
             alone_until: is_alone.then(|| begun + ALONE),
             copying: None,
         })
@@ -385,7 +392,8 @@ impl Master {
     }
 
     fn has_room(&self) -> bool {
-        self.copying.is_none() && (self.sent.is_empty() || (self.sent.len() < AT_ONCE && self.bytes_sent < BYTES_AT_ONCE))
+        let most = if self.has_more { AT_ONCE_WITH_MORE } else { AT_ONCE };
+        self.copying.is_none() && (self.sent.is_empty() || (self.sent.len() < most && self.bytes_sent < BYTES_AT_ONCE))
     }
 
     fn is_alone(&self) -> bool {
@@ -472,7 +480,7 @@ impl Master {
             drop(place);
             (client, principal)
         });
-        self.sent.push_back(Sent { at: Instant::now(), bytes, client, has_committed: false, is_refused: false });
+        self.sent.push_back(Sent { at: Instant::now(), moment, bytes, client, has_committed: false, is_refused: false });
         Ok(())
     }
 
@@ -546,6 +554,8 @@ impl Master {
             self.alone_until = Some(Instant::now() + ALONE);
         }
         if let Some(sent) = sent {
+            // (its deadline is its own moment then)
+            self.has_more = next.is_some_and(|next| next <= sent.moment);
             self.bytes_sent -= sent.bytes;
             self.hall.metrics.answered(sent.at.elapsed(), sent.has_committed);
         }

@@ -56,7 +56,7 @@ fn read_by_viewers(client: &Client, file: Handle, viewers: u32) -> Result<f64, E
     thread::scope(|scope| {
         let reading: Vec<_> = (0..viewers)
             .map(|_| {
-                let mut viewer = client.viewer();
+                let mut viewer = client.handle_reader();
                 scope.spawn(move || (0..READS).try_for_each(|_| viewer.read(file).map(|content| assert_eq!(black_box(content).len(), 64))))
             })
             .collect();

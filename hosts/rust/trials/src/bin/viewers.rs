@@ -6,7 +6,7 @@ use std::hint::black_box;
 use std::io::{Error as Fault, ErrorKind};
 use std::thread;
 use std::time::Instant;
-use tillermoss::{Client, Error, Handle, Options, Viewer};
+use tillermoss::{Client, Error, Handle, HandleReader, Options};
 use trials::{Kill, Server, folder};
 
 /// What one thread found, and the nanoseconds of a processor that it took.
@@ -32,7 +32,7 @@ fn main() -> Result<(), Error> {
 }
 
 fn measure(client: &Client, files: &[Handle], hits: usize, viewers: usize) -> Result<(), Error> {
-    let mut ready = (0..viewers).map(|_| client.viewer()).collect::<Vec<_>>();
+    let mut ready = (0..viewers).map(|_| client.handle_reader()).collect::<Vec<_>>();
     for viewer in &mut ready {
         read(viewer, files, files.len(), 0)?;
     }
@@ -49,7 +49,7 @@ fn measure(client: &Client, files: &[Handle], hits: usize, viewers: usize) -> Re
 }
 
 // Each reader begins at another file.
-fn read(viewer: &mut Viewer<&Client>, files: &[Handle], hits: usize, k: usize) -> Result<Done, Error> {
+fn read(viewer: &mut HandleReader<&Client>, files: &[Handle], hits: usize, k: usize) -> Result<Done, Error> {
     let before = busy()?;
     let mut found = 0;
     let mut at = k * 1000 % files.len();

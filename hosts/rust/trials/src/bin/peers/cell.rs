@@ -94,7 +94,7 @@ pub fn cached(address: &str, threads: u32, lasting: Duration) -> Measured<f64> {
 
 // By a viewer of its own.
 fn served(client: &Client, file: Handle, begun: Instant, lasting: Duration) -> Measured<u32> {
-    let (mut viewer, mut served) = (client.viewer(), 0);
+    let (mut viewer, mut served) = (client.handle_reader(), 0);
     while begun.elapsed() < lasting {
         for _ in 0..1000 {
             served += u32::from(black_box(viewer.read(file)?).len() == CONTENT.len());

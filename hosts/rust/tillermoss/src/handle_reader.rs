@@ -7,7 +7,7 @@ use crate::errors::Error;
 use rustc_hash::FxHashMap;
 use std::ops::Deref;
 
-/// What a viewer knows of a file: its content, and for how long that is what the cache answers.
+/// What a handle reader knows of a file: its content, and for how long that is what the cache answers.
 #[derive(Debug, Default)]
 struct Kept {
     mark: Mark,
@@ -24,11 +24,11 @@ impl Kept {
 }
 
 /// Reads the files of a client for one thread, as [`Client::read_into`] does: what its cache answers without a lock and without a
-/// copy, so threads that read don't wait for one another. Each thread has a viewer of its own.
+/// copy, so threads that read don't wait for one another. Each thread has a handle reader of its own.
 ///
-/// A viewer keeps what the cache answered, until the client does anything at all: a client's next message leaves after that. So a
-/// content that is written by anybody is written when no viewer shows the former one any more, as with the cache itself. Where
-/// the client has done something since, or the lease has ended, the viewer asks the client again.
+/// A handle reader keeps what the cache answered, until the client does anything at all: a client's next message leaves after that. So a
+/// content that is written by anybody is written when no handle reader shows the former one any more, as with the cache itself. Where
+/// the client has done something since, or the lease has ended, the handle reader asks the client again.
 ///
 /// It keeps a content for each handle that it was asked for, until it is dropped.
 ///
@@ -38,20 +38,20 @@ impl Kept {
 /// let file = client.create("/ls/c/f", b"hello")?;
 /// std::thread::scope(|scope| {
 ///     for _ in 0..4 {
-///         let mut viewer = client.viewer();
-///         scope.spawn(move || assert_eq!(viewer.read(file).unwrap(), b"hello"));
+///         let mut reader = client.handle_reader();
+///         scope.spawn(move || assert_eq!(reader.read(file).unwrap(), b"hello"));
 ///     }
 /// });
 /// # Ok(()) });
 /// ```
 #[derive(Debug)]
-pub struct Viewer<C: Deref<Target = Client>> {
+pub struct HandleReader<C: Deref<Target = Client>> {
     client: C,
     // (a client counts its handles itself, so nobody chooses numbers that hash alike)
     kept: FxHashMap<u64, Kept>,
 }
 
-impl<C: Deref<Target = Client>> Viewer<C> {
+impl<C: Deref<Target = Client>> HandleReader<C> {
     /// One of this client, which it holds: by an [`Arc`](std::sync::Arc) a thread may have it that outlives its maker.
     ///
     /// ```
@@ -61,14 +61,14 @@ impl<C: Deref<Target = Client>> Viewer<C> {
     /// # let address = server.address.as_str();
     /// let client = Arc::new(Client::connect(&Options::new(address, "ann"))?);
     /// let file = client.create("/ls/c/f", b"hello")?;
-    /// let mut viewer = Viewer::of(Arc::clone(&client));
-    /// let reader = std::thread::spawn(move || viewer.read(file).map(<[u8]>::to_vec));
+    /// let mut reader = HandleReader::of(Arc::clone(&client));
+    /// let reader = std::thread::spawn(move || reader.read(file).map(<[u8]>::to_vec));
     /// assert_eq!(reader.join().unwrap()?, b"hello");
     /// # Ok::<(), Error>(())
     /// ```
     #[must_use]
-    pub fn of(client: C) -> Viewer<C> {
-        Viewer { client, kept: FxHashMap::default() }
+    pub fn of(client: C) -> HandleReader<C> {
+        HandleReader { client, kept: FxHashMap::default() }
     }
 
     /// The content of a file, as [`Client::read_into`] reads it.
@@ -77,10 +77,10 @@ impl<C: Deref<Target = Client>> Viewer<C> {
     /// # programs::with_server(|address| -> Result<(), tillermoss::Error> {
     /// # let client = &tillermoss::Client::connect(&tillermoss::Options::new(address, "ann"))?;
     /// let file = client.create("/ls/c/f", b"hello")?;
-    /// let mut viewer = client.viewer();
-    /// assert_eq!(viewer.read(file)?, b"hello");
+    /// let mut reader = client.handle_reader();
+    /// assert_eq!(reader.read(file)?, b"hello");
     /// client.set(file, b"hi", None)?;
-    /// assert_eq!(viewer.read(file)?, b"hi");
+    /// assert_eq!(reader.read(file)?, b"hi");
     /// # Ok(()) });
     /// ```
     ///
