@@ -217,7 +217,8 @@ class Restarts(WithServer):
         begun = time.monotonic()
         self.server.start()
         self.client().open(NAME, "rw", make=b"")
-        self.assertLess(time.monotonic() - begun, 5)
+        # (for one that didn't leave it waits a minute)
+        self.assertLess(time.monotonic() - begun, 20)
 
     def test_a_client_that_nobody_answers_is_closed_all_the_same(self):
         client = self.client()
@@ -284,7 +285,9 @@ class Locks(WithServer):
 class Examples(WithServer):
     def run_example(self, name: str, *words: str) -> subprocess.Popen:
         program = Path(__file__).parents[1] / "examples" / name
-        return subprocess.Popen([sys.executable, program, self.server.address, *words], stdout=subprocess.PIPE, text=True)
+        # (what a shell starts beside itself ignores SIGINT, and so would the example)
+        heeding = ["env", "--default-signal=INT", sys.executable]
+        return subprocess.Popen([*heeding, program, self.server.address, *words], stdout=subprocess.PIPE, text=True)
 
     def test_a_primary_and_the_next_one(self):
         name = "/ls/c/primary"
