@@ -3,8 +3,9 @@ ghost use Rattle.std.specs.Prelude.{◌≡◌, ◌≤◌, ◌<◌, ◌-◌, None
 ghost use Rattle.node_core.specs.Limits.{number_end};
 ghost use Rattle.event_core.specs.Queue.{empty_queue, waiting_limit, count_of, is_full, is_exhausted, has_waiting, unacked, pushed, with_lost, without_first, acknowledge_fault, acknowledged_to};
 
+use crate::boxes::BoxedEvent;
 use collections::Items;
-use node_core::{Event, Fault, NUMBER_LIMIT};
+use node_core::{Fault, NUMBER_LIMIT};
 use std::alloc::{AllocError, Global};
 use std::collections::VecDeque;
 use std::marker::Model;
@@ -14,24 +15,25 @@ use tags_cell::NumberedEvent;
 pub const WAITING_LIMIT: usize = 256;
 
 /// The events of one session (Burrows 2006, section 2.5), numbered from 1 in each epoch: up to which number they were
-/// acknowledged, those behind it in order, and whether one was missed, as the queue was full. It has room for as many as
-/// may wait, so that only its making takes memory.
+/// acknowledged, those after it in order, and whether one was missed, because the queue was full. It has room for as many
+/// as may wait, 8 bytes for each, so that only its making takes memory.
 #[derive(Drop)]
 pub struct EventQueue {
     acknowledged: u64,
-    waiting: VecDeque<Event>,
-    missed: bool,
+    waiting: VecDeque<BoxedEvent>,
+    // The last one that was missed: its place in memory is the one of the event that says so later.
+    missed: Option<BoxedEvent>,
 }
 
 impl Model for EventQueue {
-    ghost use Rattle.std.specs.Prelude.{◌≤◌, ◌<◌, ◌+◌};
+    ghost use Rattle.std.specs.Prelude.{◌≤◌, ◌<◌, ◌+◌, is_some};
     ghost use Rattle.node_core.specs.Limits.{number_end};
     ghost use Rattle.std.specs.VecDeque.{deque_len, deque_capacity};
     ghost use Rattle.event_core.specs.Queue.{EventQueue, waiting_limit};
 
     ghost Value = { EventQueue };
 
-    ghost view = { λ q. record { acknowledged = q.acknowledged; waiting = q.waiting.items; missed = q.missed } };
+    ghost view = { λ q. record { acknowledged = q.acknowledged; waiting = q.waiting.items; missed = is_some q.missed } };
 
     ghost invariant = { λ q. (waiting_limit ≤ deque_capacity q.waiting) × (deque_len q.waiting ≤ waiting_limit) × (q.acknowledged + deque_len q.waiting < number_end) };
 }
@@ -44,7 +46,7 @@ impl EventQueue {
         Ok(EventQueue {
             acknowledged: 0,
             waiting: VecDeque::with_capacity(alloc, WAITING_LIMIT)?,
-            missed: false,
+            missed: None,
         })
     }
 
@@ -86,11 +88,11 @@ impl EventQueue {
 
     /// An event for the session gets the next number. Where 256 wait already, or no number is left, it is missed. Takes
     /// no memory.
-    pub fn push(&mut self, event: Event)
+    pub fn push(&mut self, event: BoxedEvent)
         ensures { self.new ≡ pushed event self.old }
     {
         if self.is_full() {
-            self.missed = true;
+            self.missed = Some(event);
             return;
         }
         self.waiting.push_back_reserved(event);
@@ -128,11 +130,12 @@ impl EventQueue {
     fn add_lost(&mut self)
         ensures { self.new ≡ with_lost self.old }
     {
-        if !self.missed || self.is_full() {
+        if self.is_full() {
             return;
         }
-        self.waiting.push_back_reserved(Event::Lost);
-        self.missed = false;
+        if let Some(missed) = self.missed.take() {
+            self.waiting.push_back_reserved(missed.into_lost());
+        }
     }
 
     /// The events up to a number wait no longer. Where one can be added then and some were missed, one event that says
@@ -161,7 +164,7 @@ impl EventQueue {
         let mut events = Items::new(alloc);
         for event in self.waiting.iter() {
             number += 1;
-            let event = event.clone()?;
+            let event = event.event().clone()?;
             events.push(NumberedEvent { number, event })?;
         }
         Ok(events)

@@ -1,5 +1,5 @@
 -- Frames that are done in a group, one after the other.
-use Rattle.std.proofs.Common.{◌≡◌, ◌≤◌, ◌<◌, ◌+◌, ⊤, ℕ, List, [], ◌∷◌, ◌++◌, length, length-append, Option, None, Some, Result, Ok, refl, sym, ap, subst, ◌∙◌, append-nil, append_assoc}
+use Rattle.std.proofs.Common.{◌≡◌, ◌≤◌, ◌<◌, ◌+◌, ℕ, arith, List, [], ◌∷◌, ◌++◌, length, length-append, Option, None, Some, Result, Ok, refl, sym, ap, subst, ◌∙◌, append-nil, append_assoc}
 use Rattle.codec.specs.declared.faults.WireFault.{WireFault}
 use Rattle.master_state.specs.State.{MasterState}
 use Rattle.hosting.specs.Held.{GroupState, ground, seen}

@@ -60,7 +60,7 @@ pub(crate) fn gather<R: Records, I: Read>(
 {
     let mut group = first;
     let mut sent = begun;
-    for _frame in 0..GROUP_LIMIT {
+    for _ in 0..GROUP_LIMIT {
         match go_on(alloc, &mut group, sent, reader, buffer, told) {
             Onward::Next(next) => sent = next,
             Onward::Ends(behind) => return (group, behind),

@@ -2,6 +2,7 @@
 ghost use Rattle.std.specs.Prelude.{◌≡◌, IfOk};
 ghost use Rattle.master_parts.specs.Events.{instance_of, event_of};
 
+use event_core::BoxedEvent;
 use names_cell::Name;
 use node_core::Event;
 use std::alloc::AllocError;
@@ -30,7 +31,7 @@ pub enum Notice {
 #[derive(Drop)]
 pub struct SessionEvent {
     pub client: u64,
-    pub event: Event,
+    pub event: BoxedEvent,
 }
 
 /// Whose handles a notice concerns.

@@ -28,9 +28,10 @@ use crate::walks::{
     add_parent, candidates_of, forget_node, lose_node, note_node, wake_held, wake_open, wake_tidied,
 };
 use collections::Table;
+use event_core::BoxedEvent;
 use gate_core::{Pending, Queue};
 use names_cell::{Name, Principal};
-use node_core::{Event, Fault, Node};
+use node_core::{Fault, Node};
 use rights_core::{Ending, Grant};
 use session_core::{LastCall, Sessions};
 use std::alloc::{AllocError, Global};
@@ -362,7 +363,7 @@ impl Tables {
     }
 
     /// A client is told of an event; one whose session has ended isn't. Takes no memory.
-    pub fn tell(&mut self, client: u64, event: Event)
+    pub fn tell(&mut self, client: u64, event: BoxedEvent)
         ensures { self.new ≡ record self.old { sessions = with_session self.old.sessions client (told event) } }
     {
         self.sessions.tell(client, event);

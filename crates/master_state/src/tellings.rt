@@ -9,6 +9,7 @@ ghost use Rattle.master_state.specs.Concerned.{HasTold, HasConcerned, telling_at
 
 use crate::masters::Master;
 use collections::{Items, Table};
+use event_core::BoxedEvent;
 use master_parts::{
     HandleKey, HandleNote, HandleState, ListenSubject, Notice, SessionEvent, event_of, instance_of,
 };
@@ -169,7 +170,7 @@ impl Master {
         match self.event_for(handle, notices)? {
             Some(event) => Ok(Some(SessionEvent {
                 client: key.client.get(),
-                event,
+                event: BoxedEvent::new(self.alloc, event)?,
             })),
             None => Ok(None),
         }

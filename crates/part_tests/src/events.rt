@@ -1,7 +1,7 @@
 //! The events of a session: their numbers, what is missed, and acknowledgements.
-use event_core::EventQueue;
+use event_core::{BoxedEvent, EventQueue};
 use node_core::{Event, Fault};
-use std::alloc::Global;
+use std::alloc::{AllocError, Global};
 use std::process::Abort;
 use std::test::Fail;
 
@@ -25,10 +25,11 @@ enum Step {
     Owes,
 }
 
-fn push(queue: &mut EventQueue, count: u64) {
+fn push(alloc: Global, queue: &mut EventQueue, count: u64) -> Result<(), AllocError> {
     for handle in 0..count {
-        queue.push(Event::Locked(handle));
+        queue.push(BoxedEvent::new(alloc, Event::Locked(handle))?);
     }
+    Ok(())
 }
 
 // Of the events that wait: how many, the numbers of the first and the last, and whether the last says that some were missed.
@@ -48,7 +49,7 @@ fn waiting(alloc: Global, queue: &EventQueue) -> Result<[u64; 4], Fault> {
 
 fn does(alloc: Global, queue: &mut EventQueue, step: Step) -> Result<u64, Fault> {
     match step {
-        Step::Push(count) => push(queue, count),
+        Step::Push(count) => push(alloc, queue, count)?,
         Step::Acknowledge(number) => queue.acknowledge(number)?,
         Step::Waiting => return Ok(waiting(alloc, queue)?[0]),
         Step::First => return Ok(waiting(alloc, queue)?[1]),

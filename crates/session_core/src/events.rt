@@ -6,12 +6,13 @@ ghost use Rattle.session_core.specs.Session.{events_of, told};
 use crate::records::Session;
 use crate::sessions::Sessions;
 use collections::Items;
-use node_core::{Event, NUMBER_LIMIT};
+use event_core::BoxedEvent;
+use node_core::NUMBER_LIMIT;
 use std::alloc::{AllocError, Global};
 use tags_cell::NumberedEvent;
 
 impl<K> Session<K> {
-    fn tell(&mut self, event: Event)
+    fn tell(&mut self, event: BoxedEvent)
         ensures { self.new ≡ told event self.old }
     {
         if let Some(events) = &mut self.events {
@@ -47,7 +48,7 @@ impl<K> Sessions<K> {
     /// A client's session is told of an event (Burrows 2006, section 2.5): the event gets the next number of the
     /// session, or is missed where 256 wait already or no number is left. A session that has ended is told of nothing.
     /// Takes no memory.
-    pub fn tell(&mut self, client: u64, event: Event)
+    pub fn tell(&mut self, client: u64, event: BoxedEvent)
         ensures { self.new ≡ with_session self.old client (told event) }
     {
         if let Some(session) = self.map.get_mut(&client) {

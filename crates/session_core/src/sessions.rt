@@ -6,7 +6,7 @@ ghost use Rattle.session_core.specs.Session.{session_until, recovered_session};
 
 use crate::bounds::Bounds;
 use crate::records::{Session, Tally};
-use event_core::EventQueue;
+use event_core::{BoxedEvent, EventQueue};
 use lease_core::RECOVERY_TIMEOUT;
 use names_cell::Principal;
 use node_core::Event;
@@ -142,7 +142,7 @@ fn recovered_session<K>(
 {
     let mut session = session_until(alloc, principal, live, now + RECOVERY_TIMEOUT)?;
     if let Some(events) = &mut session.events {
-        events.push(Event::FailOver);
+        events.push(BoxedEvent::new(alloc, Event::FailOver)?);
     }
     session.taken_over = true;
     Ok(session)
