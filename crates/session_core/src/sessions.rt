@@ -140,9 +140,10 @@ fn recovered_session<K>(
     requires { IsMoment now }
     ensures { IfOk result (λ session. session ≡ recovered_session principal live now) }
 {
+    let told = BoxedEvent::new(alloc, Event::FailOver)?;
     let mut session = session_until(alloc, principal, live, now + RECOVERY_TIMEOUT)?;
     if let Some(events) = &mut session.events {
-        events.push(BoxedEvent::new(alloc, Event::FailOver)?);
+        events.push(told);
     }
     session.taken_over = true;
     Ok(session)
