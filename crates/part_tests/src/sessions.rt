@@ -1,9 +1,10 @@
 //! Sessions: Starts, Beats, events, what was issued and acknowledged, the last call, expiry, and a new master. The lease is
 //! 12,000 ms.
+use event_core::BoxedEvent;
 use names_cell::Principal;
 use node_core::{Event, Fault};
 use session_core::{LastCall, Sessions};
-use std::alloc::Global;
+use std::alloc::{AllocError, Global};
 use std::process::Abort;
 use tags_cell::{Beat, ClientNumber, MessageNumber};
 
@@ -124,10 +125,16 @@ fn offer(sessions: &Sessions<u64>, number: u64, now: u64) -> Result<u64, Fault> 
     })
 }
 
-fn tell(sessions: &mut Sessions<u64>, client: u64, count: u64) {
+fn tell(
+    alloc: Global,
+    sessions: &mut Sessions<u64>,
+    client: u64,
+    count: u64,
+) -> Result<(), AllocError> {
     for handle in 0..count {
-        sessions.tell(client, Event::Locked(handle));
+        sessions.tell(client, BoxedEvent::new(alloc, Event::Locked(handle))?);
     }
+    Ok(())
 }
 
 // Of the events that wait: how many, the number of the last, and whether the last says that some were missed and the first tells
@@ -164,11 +171,11 @@ fn reads(sessions: &Sessions<u64>, step: Step) -> Result<u64, Fault> {
     }
 }
 
-fn changes(sessions: &mut Sessions<u64>, step: Step) -> Result<u64, Fault> {
+fn changes(alloc: Global, sessions: &mut Sessions<u64>, step: Step) -> Result<u64, Fault> {
     match step {
         Step::TakeBack(number) => sessions.take_back(client(number)?),
         Step::Issue(client) => sessions.issue(client)?,
-        Step::Tell(client, count) => tell(sessions, client, count),
+        Step::Tell(client, count) => tell(alloc, sessions, client, count)?,
         Step::Beat(client, number, invalidations, events, received) => {
             sessions.beat(&beat(client, number, invalidations, events)?, received)?
         }
@@ -196,7 +203,7 @@ fn does(alloc: Global, sessions: &mut Sessions<u64>, step: Step) -> Result<u64, 
             start(alloc, sessions, client, principal, received, now)
         }
         Step::Recover(client, live, now) => recover(alloc, sessions, client, live, now),
-        _ => changes(sessions, step),
+        _ => changes(alloc, sessions, step),
     }
 }
 
