@@ -114,3 +114,7 @@ pub passes_all : (text after : Option (List ℕ)) (texts : List (List ℕ)) → 
 passes_all None after texts h k = tt
 passes_all (Some text) None texts h k = absurd h
 passes_all (Some text) (Some rest) texts h k = sym (append-nil texts) ∙ ap (λ xs. texts ++ text_lines xs) (sym k) ∙ sym h
+
+pub passes_whole : (text : Option (List ℕ)) (texts : List (List ℕ)) → AreLines text texts → Passes text texts (Some [])
+passes_whole None texts h = tt
+passes_whole (Some text) texts h = sym h ∙ sym (append-nil texts)

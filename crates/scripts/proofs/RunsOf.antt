@@ -1,6 +1,6 @@
 -- What a script does is a run of its world, and what its lines tell.
-use Rattle.std.proofs.Common.{◌≡◌, inl, inr, ℕ, zero, suc, ◌+◌, ◌≤◌, min, arith, List, [], ◌∷◌, ◌++◌, Bool, true, false, Option, None, Some, Result, Ok, Err, refl, sym, ap, subst, ◌∙◌}
-use Rattle.std.specs.Prelude.{is_some, IfOk, IfErr}
+use Rattle.std.proofs.Common.{◌≡◌, ◌⊎◌, inl, inr, ℕ, zero, suc, ◌+◌, ◌≤◌, min, arith, List, [], ◌∷◌, ◌++◌, Bool, true, false, Option, None, Some, Result, Ok, Err, refl, sym, ap, subst, ◌∙◌}
+use Rattle.std.specs.Prelude.{is_some, not, ◌&&◌, length, IfOk, IfErr}
 use Rattle.std.specs.Option.{option_and_then}
 use Rattle.std.specs.Io.KnownBytes.{IsAtEnd, Keeps}
 use Rattle.std.specs.Str.Lossy.{utf8_lossy}
@@ -24,12 +24,13 @@ use Rattle.scripts.specs.declared.steps.Parsed.TheVariants as parsed
 use Rattle.scripts.specs.Readings.{IsParsed}
 use Rattle.scripts.specs.declared.stops.ScriptStop.{ScriptStop}
 use Rattle.scripts.specs.declared.stops.ScriptStop.TheVariants.{BadStep, Unread, NoMemory, Unwritten}
-use Rattle.scripts.specs.Settling.{Played, played, PlaysMade, PlaysRefused, TakesTurn, Turns, SettlesBy, Settles}
+use Rattle.scripts.specs.Settling.{Played, played, PlaysMade, PlaysRefused, turn_step, is_waiting, is_idle, TakesTurn, Turns, SettlesBy, Settles, SettlesSomeBy, SettlesSome}
 use Rattle.output.specs.Fronts.{AppendsFront}
 use Rattle.scripts.specs.Scripts.{lines_text, told, DoesParsed, DoesLine, DoesLines, IsOfPart, IsOfScript, Wrote, WroteFront}
 use Rattle.scripts.specs.Stops.{status_of}
 use Rattle.scripts.specs.Texts.{Reading, Advances}
-use Rattle.scripts.specs.Ran.{Adds, Ran, TellsOfRun, RanWell, IsNoStep, StopsReading, IsDoneBefore, Ends, EndsWell, EndsSurely, EndsAs, EndsIn, EndsWith, Breaks, BreaksLine, Writes, Obeys}
+use Rattle.scripts.specs.Ran.{Adds, Ran, TellsOfRun, RanWell, IsNoStep, StopsReading, IsDoneBefore, Begins, BeginsLine, BeginsNext, IsDoneInto, Ends, EndsWell, EndsSurely, EndsAs, EndsIn, EndsWith, Breaks, BreaksTurn, BreaksLine, Writes, Obeys}
+use Rattle.scripts.proofs.FirstLines.{passes_none, passes_whole}
 use Rattle.scripts.proofs.Doings.{wrote_as, wrote_then, wrote_none, wrote_kept, front_of, front_as, front_then, front_kept, part_whole}
 
 -- ---- lines of a run, with refusals between them
@@ -102,6 +103,26 @@ parsed_ran old new (parsed.Step step) printed (inr h) = refused_ran old new step
 parsed_ran old new parsed.Settle printed h = settles_ran old new printed h
 parsed_ran old new (parsed.Refused fault) printed h = refusal_ran old.view new.view fault printed h.0 (ap (λ (w : Played). w.view) h.1)
 parsed_ran old new parsed.Bad printed h = absurd h
+
+last_ran : (mid new : Played) (later : List Line) → ((later ≡ []) × (new ≡ mid)) ⊎ ((more : Bool) × TakesTurn more mid later new) → Ran mid.view new.view later
+last_ran mid new later (inl h) = same_ran mid new later h.0 h.1
+last_ran mid new later (inr h) = turn_ran h.0 mid new later h.1
+
+begun_ran : (up : Bool) (old new : Played) (printed : List Line) → SettlesSomeBy up old printed new → Ran old.view new.view printed
+begun_ran true old new printed h =
+    subst (λ xs. Ran old.view new.view xs) (sym h.tells) (ran_then old.view h.mid.view new.view h.here h.later (turns_ran h.count old h.mid h.here h.first) (last_ran h.mid new h.later h.last))
+begun_ran false old new printed h = refusal_ran old.view new.view MasterDown printed h.0 (ap (λ (w : Played). w.view) h.1)
+
+begins_ran : (old new : Played) (meant : Parsed) (printed : List Line) → Begins old meant printed new → Ran old.view new.view printed
+begins_ran old new parsed.Nothing printed h = parsed_ran old new parsed.Nothing printed h
+begins_ran old new (parsed.Step step) printed h = parsed_ran old new (parsed.Step step) printed h
+begins_ran old new parsed.Settle printed h = begun_ran (is_some old.view.world.master) old new printed h
+begins_ran old new (parsed.Refused fault) printed h = parsed_ran old new (parsed.Refused fault) printed h
+begins_ran old new parsed.Bad printed h = absurd h
+
+next_ran : (rest : Option (List ℕ)) (old new : Played) (printed : List Line) → BeginsNext rest old printed new → Ran old.view new.view printed
+next_ran rest old new printed (inl h) = same_ran old new printed h.0 h.1
+next_ran rest old new printed (inr h) = begins_ran old new h.3.1.0 printed h.3.1.2
 
 pub lines_ran : (old new : Played) (texts : List (List ℕ)) (printed : List Line) → DoesLines old texts printed new → Ran old.view new.view printed
 lines_ran old new [] printed h = same_ran old new printed h.0 h.1
@@ -191,18 +212,59 @@ all_done there text mid after old new a b none next h =
     wrote_as (λ printed. IsOfPart text mid.rest mid.number old printed new) (Ends text old new.view (Ok tt)) a b
     (λ printed f. part_whole text mid.rest mid.number old new printed ended f) h
 
--- what was done so far
-pub parts_ran : (text after : Option (List ℕ)) (count : ℕ) (old : WorldView) (new : Played) (a b : Option (List ℕ)) → Wrote (λ printed. IsOfPart text after count old printed new) a b → Wrote (Ran old new.view) a b
-parts_ran text after count old new a b h =
-    wrote_as (λ printed. IsOfPart text after count old printed new) (Ran old new.view) a b (λ printed f. part_ran text after count old printed new f) h
+-- so far, and nothing of the next line
+into_none : (text rest : Option (List ℕ)) (count : ℕ) (old : WorldView) (new : Played) (printed : List Line) → IsOfPart text rest count old printed new → IsDoneInto text old new.view printed
+into_none text rest count old new printed h =
+    record { rest = rest; count = count; mid = new; marks = new.delivered; front = printed; back = []; before = h; next = inl (refl, refl); tells = sym (append-nil printed) }
 
-pub turns_so_far : (old new : Played) (a b : Option (List ℕ)) → Wrote (λ printed. (count : ℕ) × Turns count old printed new) a b → Wrote (Ran old.view new.view) a b
-turns_so_far old new a b h = wrote_as (λ printed. (count : ℕ) × Turns count old printed new) (Ran old.view new.view) a b (λ printed f. turns_ran f.0 old new printed f.1) h
+-- to the end, and no line is left
+into_all : (text : Option (List ℕ)) (old : WorldView) (printed : List Line) (h : IsOfScript text old printed) → IsDoneInto text old h.new.view printed
+into_all text old printed h =
+    into_none text (Some []) (length h.texts) old h.new printed (record { texts = h.texts; first = passes_whole text h.texts h.whole; counted = refl; few = h.few; does = h.does })
+
+-- nothing at all
+into_nothing : (text : Option (List ℕ)) (old : WorldView) → IsDoneInto text old old []
+into_nothing text old =
+    into_none text text 0 old (played old []) [] (record { texts = []; first = passes_none text; counted = refl; few = omega arith; does = (refl, refl) })
+
+into_ran : (text : Option (List ℕ)) (old new : WorldView) (printed : List Line) → IsDoneInto text old new printed → Ran old new printed
+into_ran text old new printed h =
+    subst (λ xs. Ran old new xs) (sym h.tells) (ran_then old h.mid.view new h.front h.back (part_ran text h.rest h.count old h.front h.mid h.before) (next_ran h.rest h.mid (played new h.marks) h.back h.next))
+
+parts_into : (text after : Option (List ℕ)) (count : ℕ) (old : WorldView) (new : Played) (a b : Option (List ℕ)) → Wrote (λ printed. IsOfPart text after count old printed new) a b → Wrote (IsDoneInto text old new.view) a b
+parts_into text after count old new a b h =
+    wrote_as (λ printed. IsOfPart text after count old printed new) (IsDoneInto text old new.view) a b (λ printed f. into_none text after count old new printed f) h
+
+-- ---- a part of a line
+
+-- turns so far, and no more
+pub turns_so_far : (up : Bool) (old new : Played) (a b : Option (List ℕ)) → up ≡ is_some old.view.world.master → up ≡ true → Wrote (λ printed. (count : ℕ) × Turns count old printed new) a b → Wrote (λ printed. SettlesSome old printed new) a b
+turns_so_far up old new a b is on h =
+    wrote_as (λ printed. (count : ℕ) × Turns count old printed new) (λ printed. SettlesSome old printed new) a b
+    (λ printed f. subst (λ up. SettlesSomeBy up old printed new) (sym on ∙ is) (record { count = f.0; mid = new; here = printed; later = []; first = f.1; last = inl (refl, refl); tells = sym (append-nil printed) })) h
+
+turn_by : (over : Bool) (old new : Played) (printed : List Line) → PlaysMade old (turn_step old) new printed → (is_idle old && not (is_waiting new)) ≡ over → (more : Bool) × TakesTurn more old printed new
+turn_by true old new printed made e = (false, inl (record { made = made; ends = e }))
+turn_by false old new printed made e = (true, record { made = made; ends = e })
+
+-- a turn that was made, whichever
+pub turn_made : (old new : Played) (printed : List Line) → PlaysMade old (turn_step old) new printed → (more : Bool) × TakesTurn more old printed new
+turn_made old new printed made = turn_by (is_idle old && not (is_waiting new)) old new printed made refl
+
+pub turn_unmade : (old new : Played) (printed : List Line) → PlaysRefused old (turn_step old) new printed → (more : Bool) × TakesTurn more old printed new
+turn_unmade old new printed refused = (false, inr refused)
 
 -- what a step printed, or its refusal
-pub step_ran : (old new : Played) (step : Step) (r : Result (List Line) Fault) → IfOk r (λ printed. PlaysMade old step new printed) → IfErr r (λ e. PlaysRefused old step new (lines.Refused e ∷ [])) → Ran old.view new.view (told r)
-step_ran old new step (Ok printed) made refused = made_ran old new step printed made
-step_ran old new step (Err fault) made refused = refused_ran old new step (lines.Refused fault ∷ []) refused
+step_done : (old new : Played) (step : Step) (r : Result (List Line) Fault) → IfOk r (λ printed. PlaysMade old step new printed) → IfErr r (λ e. PlaysRefused old step new (lines.Refused e ∷ [])) → DoesParsed old (parsed.Step step) (told r) new
+step_done old new step (Ok printed) made refused = inl made
+step_done old new step (Err fault) made refused = inr refused
+
+pub step_begun : (meant : Parsed) (old new : Played) (step : Step) (r : Result (List Line) Fault) → meant ≡ parsed.Step step → IfOk r (λ printed. PlaysMade old step new printed) → IfErr r (λ e. PlaysRefused old step new (lines.Refused e ∷ []))
+    → Begins old meant (told r) new
+step_begun meant old new step r is made refused = subst (λ m. Begins old m (told r) new) (sym is) (step_done old new step r made refused)
+
+pub refusal_begun : (meant : Parsed) (w : Played) (fault : Fault) → meant ≡ parsed.Refused fault → Begins w meant (lines.Refused fault ∷ []) w
+refusal_begun meant w fault is = subst (λ m. Begins w m (lines.Refused fault ∷ []) w) (sym is) (refl, refl)
 
 module _ {Y : Type 0} (P : Y → List Line → Type 0) (Q : ScriptStop → List Line → Type 0) (a c : Option (List ℕ)) where
   unwritten : (stop : ScriptStop) (printed : List Line) → stop ≡ Unwritten → Q Unwritten printed → AppendsFront a c (lines_text printed) → (let r : Result Y ScriptStop = Err stop in EndsAs r P Q a c)
@@ -213,18 +275,22 @@ module _ {Y : Type 0} (P : Y → List Line → Type 0) (Q : ScriptStop → List 
   exit_unwritten (Ok y) stop printed exit is h = let none = exit.0 in cc
   exit_unwritten (Err e) stop printed exit is h = unwritten e printed (exit.1 ∙ is.0) h is.1
 
--- what was done and written before, and then what breaks off so
-module _ {X Y : Type 0} (O : X → List Line → Type 0) (P : Y → List Line → Type 0) (old mid new : WorldView) (a b c : Option (List ℕ)) where
-  broken_then : (stop : ScriptStop) → Wrote (Ran old mid) a b → (let q : Result X ScriptStop = Err stop in EndsAs q O (Breaks mid new) b c) → (let r : Result Y ScriptStop = Err stop in EndsAs r P (Breaks old new) a c)
-  broken_then Unwritten h k = front_then (Ran old mid) (Ran mid new) (Ran old new) a b c (λ front back f g. ran_then old mid new front back f g) h k
-  broken_then NoMemory h k = wrote_then (Ran old mid) (Ran mid new) (Ran old new) a b c (λ front back f g. ran_then old mid new front back f g) h k
-  broken_then (BadStep line) h k = absurd k.1
-  broken_then (Unread line) h k = absurd k.1
+-- turns were made and their lines written, and then another whose lines can't be written
+module _ {X Y : Type 0} (O : X → List Line → Type 0) (P : Y → List Line → Type 0) (up : Bool) (old mid new : Played) (a b c : Option (List ℕ)) where
+  broken_turn : (stop : ScriptStop) → up ≡ is_some old.view.world.master → up ≡ true → Wrote (λ printed. (count : ℕ) × Turns count old printed mid) a b → (let q : Result X ScriptStop = Err stop in EndsAs q O (BreaksTurn mid new) b c)
+      → (let r : Result Y ScriptStop = Err stop in EndsAs r P (Breaks parsed.Settle old new) a c)
+  broken_turn Unwritten is on h k =
+      front_then (λ printed. (count : ℕ) × Turns count old printed mid) (λ printed. (more : Bool) × TakesTurn more mid printed new) (λ printed. SettlesSome old printed new) a b c
+      (λ front back f g. subst (λ up. SettlesSomeBy up old (front ++ back) new) (sym on ∙ is) (record { count = f.0; mid = mid; here = front; later = back; first = f.1; last = inr g; tells = refl })) h k
+  broken_turn NoMemory is on h k = absurd k.1
+  broken_turn (BadStep line) is on h k = absurd k.1
+  broken_turn (Unread line) is on h k = absurd k.1
 
-  pub exit_then : (r : Result Y ScriptStop) (stop : ScriptStop) → IsErr r × IsErrAnd r (λ e. e ≡ stop) → Wrote (Ran old mid) a b → (let q : Result X ScriptStop = Err stop in EndsAs q O (Breaks mid new) b c) → EndsAs r P (Breaks old new) a c
-  exit_then (Ok y) stop exit h k = let none = exit.0 in cc
-  exit_then (Err e) stop exit h k =
-      broken_then e h (subst (λ s. (let q : Result X ScriptStop = Err s in EndsAs q O (Breaks mid new) b c)) (sym exit.1) k)
+  pub exit_turn : (r : Result Y ScriptStop) (stop : ScriptStop) → IsErr r × IsErrAnd r (λ e. e ≡ stop) → up ≡ is_some old.view.world.master → up ≡ true → Wrote (λ printed. (count : ℕ) × Turns count old printed mid) a b
+      → (let q : Result X ScriptStop = Err stop in EndsAs q O (BreaksTurn mid new) b c) → EndsAs r P (Breaks parsed.Settle old new) a c
+  exit_turn (Ok y) stop exit is on h k = let none = exit.0 in cc
+  exit_turn (Err e) stop exit is on h k =
+      broken_turn e is on h (subst (λ s. (let q : Result X ScriptStop = Err s in EndsAs q O (BreaksTurn mid new) b c)) (sym exit.1) k)
 
 -- what breaks off a part breaks off the whole
 module _ {X Y : Type 0} (O : X → List Line → Type 0) (P : Y → List Line → Type 0) (Q : ScriptStop → List Line → Type 0) (a b : Option (List ℕ)) where
@@ -238,11 +304,16 @@ module _ {X Y : Type 0} (O : X → List Line → Type 0) (P : Y → List Line �
   exit_same (Ok y) stop exit h = let none = exit.0 in cc
   exit_same (Err e) stop exit h = same_break e (subst (λ s. (let q : Result X ScriptStop = Err s in EndsAs q O Q a b)) (sym exit.1) h)
 
+-- and so a line that is a settle
+pub exit_settle : {X Y : Type 0} (O : X → List Line → Type 0) (P : Y → List Line → Type 0) (meant : Parsed) (old new : Played) (a b : Option (List ℕ)) (r : Result Y ScriptStop) (stop : ScriptStop) → meant ≡ parsed.Settle → IsErr r × IsErrAnd r (λ e. e ≡ stop)
+    → (let q : Result X ScriptStop = Err stop in EndsAs q O (Breaks parsed.Settle old new) a b) → EndsAs r P (Breaks meant old new) a b
+exit_settle O P meant old new a b r stop is exit h = subst (λ m. EndsAs r P (Breaks m old new) a b) (sym is) (exit_same O P (Breaks parsed.Settle old new) a b r stop exit h)
+
 -- without a master nothing is settled
-pub settles_down : (w : Played) (up : Bool) (a b : Option (List ℕ)) (r : Result (Unit {0}) ScriptStop) → up ≡ is_some w.view.world.master → up ≡ false → Writes r (lines.Refused MasterDown ∷ []) a b → EndsAs r (λ _ printed. Settles w printed w) (Breaks w.view w.view) a b
+pub settles_down : (w : Played) (up : Bool) (a b : Option (List ℕ)) (r : Result (Unit {0}) ScriptStop) → up ≡ is_some w.view.world.master → up ≡ false → Writes r (lines.Refused MasterDown ∷ []) a b → EndsAs r (λ _ printed. Settles w printed w) (Breaks parsed.Settle w w) a b
 settles_down w up a b (Ok x) is down h = (lines.Refused MasterDown ∷ [], subst (λ up. SettlesBy up w (lines.Refused MasterDown ∷ []) w) (sym down ∙ is) (refl, refl), h)
 settles_down w up a b (Err e) is down h =
-    unwritten (λ (x : Unit {0}) printed. Settles w printed w) (Breaks w.view w.view) a b e (lines.Refused MasterDown ∷ []) h.0 (refusal_ran w.view w.view MasterDown (lines.Refused MasterDown ∷ []) refl refl) h.1
+    unwritten (λ (x : Unit {0}) printed. Settles w printed w) (Breaks parsed.Settle w w) a b e (lines.Refused MasterDown ∷ []) h.0 (subst (λ up. SettlesSomeBy up w (lines.Refused MasterDown ∷ []) w) (sym down ∙ is) (refl, refl)) h.1
 
 -- ---- lines
 
@@ -258,20 +329,28 @@ disobeyed done number at line text old new meant a b is same this read h =
     (k.0, (same, bad, k.1.1, k.1.2), k.2)
 
 -- no memory to read a line's words
-pub line_unread : (line : List ℕ) (number : ℕ) (w : Played) (a : Option (List ℕ)) → Wrote (BreaksLine line number w w NoMemory) a a
-line_unread line number w a = wrote_none (Ran w.view w.view) a (ran_none w.view)
+line_unread : (line : List ℕ) (number : ℕ) (w : Played) (a : Option (List ℕ)) → Wrote (BreaksLine line number w w NoMemory) a a
+line_unread line number w a = wrote_none (BreaksLine line number w w NoMemory) a (inl (refl, refl))
+
+pub exit_unparsed : (P : Unit {0} → List Line → Type 0) (line : List ℕ) (number : ℕ) (w : Played) (a : Option (List ℕ)) (r : Result (Unit {0}) ScriptStop) → IsErr r × IsErrAnd r (λ e. e ≡ NoMemory) → EndsAs r P (BreaksLine line number w w) a a
+exit_unparsed P line number w a (Ok y) exit = let none = exit.0 in cc
+exit_unparsed P line number w a (Err e) exit = subst (λ s. (let r : Result (Unit {0}) ScriptStop = Err s in EndsAs r P (BreaksLine line number w w) a a)) (sym exit.1) (line_unread line number w a)
 
 -- what breaks off a step breaks off its line
-module _ {X : Type 0} (O : X → List Line → Type 0) (P : Unit {0} → List Line → Type 0) (line : List ℕ) (number : ℕ) (old new : Played) (a b : Option (List ℕ)) where
-  line_breaks : (stop : ScriptStop) → (let q : Result X ScriptStop = Err stop in EndsAs q O (Breaks old.view new.view) a b) → (let r : Result (Unit {0}) ScriptStop = Err stop in EndsAs r P (BreaksLine line number old new) a b)
-  line_breaks Unwritten h = h
-  line_breaks NoMemory h = h
-  line_breaks (BadStep at) h = absurd h.1
-  line_breaks (Unread at) h = absurd h.1
+module _ {X : Type 0} (O : X → List Line → Type 0) (P : Unit {0} → List Line → Type 0) (line text : List ℕ) (number : ℕ) (meant : Parsed) (old new : Played) (a b : Option (List ℕ)) where
+  line_begun : text ≡ line → length line ≤ 1048576 → IsParsed (utf8_lossy text) meant → (printed : List Line) → Begins old meant printed new → ((printed ≡ []) × (new ≡ old)) ⊎ BeginsLine old line printed new
+  line_begun same fits is printed f = inr (fits, (meant, subst (λ t. IsParsed (utf8_lossy t) meant) same is, f))
 
-  pub exit_line : (r : Result (Unit {0}) ScriptStop) (stop : ScriptStop) → IsErr r × IsErrAnd r (λ e. e ≡ stop) → (let q : Result X ScriptStop = Err stop in EndsAs q O (Breaks old.view new.view) a b) → EndsAs r P (BreaksLine line number old new) a b
-  exit_line (Ok y) stop exit h = let none = exit.0 in cc
-  exit_line (Err e) stop exit h = line_breaks e (subst (λ s. (let q : Result X ScriptStop = Err s in EndsAs q O (Breaks old.view new.view) a b)) (sym exit.1) h)
+  line_breaks : (stop : ScriptStop) → text ≡ line → length line ≤ 1048576 → IsParsed (utf8_lossy text) meant → (let q : Result X ScriptStop = Err stop in EndsAs q O (Breaks meant old new) a b) → (let r : Result (Unit {0}) ScriptStop = Err stop in EndsAs r P (BreaksLine line number old new) a b)
+  line_breaks Unwritten same fits is h = front_as (λ printed. Begins old meant printed new) (BreaksLine line number old new Unwritten) a b (line_begun same fits is) h
+  line_breaks NoMemory same fits is h = wrote_as (λ printed. Begins old meant printed new) (BreaksLine line number old new NoMemory) a b (line_begun same fits is) h
+  line_breaks (BadStep at) same fits is h = absurd h.1
+  line_breaks (Unread at) same fits is h = absurd h.1
+
+  pub exit_line : (r : Result (Unit {0}) ScriptStop) (stop : ScriptStop) → IsErr r × IsErrAnd r (λ e. e ≡ stop) → text ≡ line → length line ≤ 1048576 → IsParsed (utf8_lossy text) meant → (let q : Result X ScriptStop = Err stop in EndsAs q O (Breaks meant old new) a b)
+      → EndsAs r P (BreaksLine line number old new) a b
+  exit_line (Ok y) stop exit same fits is h = let none = exit.0 in cc
+  exit_line (Err e) stop exit same fits is h = line_breaks e same fits is (subst (λ s. (let q : Result X ScriptStop = Err s in EndsAs q O (Breaks meant old new) a b)) (sym exit.1) h)
 
 -- ---- the whole script
 
@@ -284,8 +363,8 @@ next_line at number count is next few = grind arith
 
 module _ (text rest : Option (List ℕ)) (count : ℕ) (old : WorldView) (new : Played) (a b : Option (List ℕ)) where
   unread_by : (stop : ScriptStop) → (count ≤ 1000000 → StopsReading rest count stop) → Wrote (λ printed. IsOfPart text rest count old printed new) a b → (let r : Result (Unit {0}) ScriptStop = Err stop in EndsIn r (Ends text old new.view r) a b)
-  unread_by Unwritten h k = front_of (Ran old new.view) a b (parts_ran text rest count old new a b k)
-  unread_by NoMemory h k = parts_ran text rest count old new a b k
+  unread_by Unwritten h k = front_of (IsDoneInto text old new.view) a b (parts_into text rest count old new a b k)
+  unread_by NoMemory h k = parts_into text rest count old new a b k
   unread_by (BadStep at) h k =
       wrote_as (λ printed. IsOfPart text rest count old printed new) (Ends text old new.view (Err (BadStep at))) a b
       (λ printed f. let s = h f.few in (done_before text rest count at old new printed s.0 f, s.1)) k
@@ -311,11 +390,16 @@ module _ (text : Option (List ℕ)) (mid after : Reading) (old : WorldView) (w n
       let stands : IsOfPart text mid.rest mid.number old (front ++ back) new = subst (IsOfPart text mid.rest mid.number old (front ++ back)) (sym g.3) (subst (λ xs. IsOfPart text mid.rest mid.number old xs w) same f) in
       (done_before text mid.rest mid.number at old new (front ++ back) (g.0 ∙ next.1.0) stands, (after.line, after.rest, next.0, inl g.1))
 
+  into_line : (front back : List Line) → Advances true mid after → IsOfPart text mid.rest mid.number old front w → ((back ≡ []) × (new ≡ w)) ⊎ BeginsLine w after.line back new → IsDoneInto text old new.view (front ++ back)
+  into_line front back next f g =
+      let begun : BeginsNext mid.rest w back new = elim g [ inl none ↦ inl none | inr some ↦ inr (after.line, after.rest, next.0, some) ] in
+      record { rest = mid.rest; count = mid.number; mid = w; marks = new.delivered; front = front; back = back; before = f; next = begun; tells = refl }
+
   broken : (stop : ScriptStop) → Advances true mid after → Wrote (λ printed. IsOfPart text mid.rest mid.number old printed w) a b → (let q : Result (Unit {0}) ScriptStop = Err stop in EndsAs q (λ _ printed. DoesLine w after.line printed new) (BreaksLine after.line after.number w new) b c) → (let r : Result (Unit {0}) ScriptStop = Err stop in EndsIn r (Ends text old new.view r) a c)
   broken Unwritten next h k =
-      front_then (Ran old w.view) (Ran w.view new.view) (Ran old new.view) a b c (λ front back f g. ran_then old w.view new.view front back f g) (parts_ran text mid.rest mid.number old w a b h) k
+      front_then (λ p. IsOfPart text mid.rest mid.number old p w) (BreaksLine after.line after.number w new Unwritten) (IsDoneInto text old new.view) a b c (λ front back f g. into_line front back next f g) h k
   broken NoMemory next h k =
-      wrote_then (Ran old w.view) (Ran w.view new.view) (Ran old new.view) a b c (λ front back f g. ran_then old w.view new.view front back f g) (parts_ran text mid.rest mid.number old w a b h) k
+      wrote_then (λ p. IsOfPart text mid.rest mid.number old p w) (BreaksLine after.line after.number w new NoMemory) (IsDoneInto text old new.view) a b c (λ front back f g. into_line front back next f g) h k
   broken (BadStep at) next h k =
       wrote_then (λ p. IsOfPart text mid.rest mid.number old p w) (BreaksLine after.line after.number w new (BadStep at)) (Ends text old new.view (Err (BadStep at))) a b c (λ front back f g. bad_line at front back next f g) h k
   broken (Unread at) next h k = absurd k.1
@@ -332,26 +416,33 @@ module _ (text : Option (List ℕ)) (old new : WorldView) where
   ends_ran (Ok x) printed h = subst (λ w. Ran old w printed) h.1 (lines_ran (played old []) h.0.new h.0.texts printed h.0.does)
   ends_ran (Err (BadStep at)) printed h = part_ran text h.0.rest h.0.count old printed (played new h.0.marks) h.0.before
   ends_ran (Err (Unread at)) printed h = part_ran text h.rest h.count old printed (played new h.marks) h.before
-  ends_ran (Err NoMemory) printed h = h
-  ends_ran (Err Unwritten) printed h = h
+  ends_ran (Err NoMemory) printed h = into_ran text old new printed h
+  ends_ran (Err Unwritten) printed h = into_ran text old new printed h
+
+  ends_into : (r : Result (Unit {0}) ScriptStop) (printed : List Line) → Ends text old new r printed → IsDoneInto text old new printed
+  ends_into (Ok x) printed h = subst (λ w. IsDoneInto text old w printed) h.1 (into_all text old printed h.0)
+  ends_into (Err (BadStep at)) printed h = into_none text h.0.rest h.0.count old (played new h.0.marks) printed h.0.before
+  ends_into (Err (Unread at)) printed h = into_none text h.rest h.count old (played new h.marks) printed h.before
+  ends_into (Err NoMemory) printed h = h
+  ends_into (Err Unwritten) printed h = h
 
   -- there is no memory for a line
   pub exit_unbegun : (a : Option (List ℕ)) (r : Result (Unit {0}) ScriptStop) (stop : ScriptStop) → new ≡ old → IsErr r × IsErrAnd r (λ e. e ≡ stop) → stop ≡ NoMemory → EndsIn r (Ends text old new r) a a
   exit_unbegun a (Ok x) stop same exit is = let none = exit.0 in cc
   exit_unbegun a (Err e) stop same exit is =
       subst (λ s. (let r : Result (Unit {0}) ScriptStop = Err s in EndsIn r (Ends text old new r) a a)) (sym (exit.1 ∙ is))
-      (wrote_none (Ran old new) a (subst (λ w. Ran old w []) (sym same) (ran_none old)))
+      (wrote_none (IsDoneInto text old new) a (subst (λ w. IsDoneInto text old w []) (sym same) (into_nothing text old)))
 
-  all_front : (a b c : Option (List ℕ)) (r : Result (Unit {0}) ScriptStop) → Wrote (Ends text old new r) a b → Keeps b c → WroteFront (Ran old new) a c
-  all_front a b c r h k = front_of (Ran old new) a c (wrote_kept (Ran old new) a b c (wrote_as (Ends text old new r) (Ran old new) a b (ends_ran r) h) k)
+  all_front : (a b c : Option (List ℕ)) (r : Result (Unit {0}) ScriptStop) → Wrote (Ends text old new r) a b → Keeps b c → WroteFront (IsDoneInto text old new) a c
+  all_front a b c r h k = front_of (IsDoneInto text old new) a c (wrote_kept (IsDoneInto text old new) a b c (wrote_as (Ends text old new r) (IsDoneInto text old new) a b (ends_into r) h) k)
 
-  -- a front of it is written, where the writer can't be flushed
-  some_front : (a b c : Option (List ℕ)) (r : Result (Unit {0}) ScriptStop) → EndsIn r (Ends text old new r) a b → Keeps b c → WroteFront (Ran old new) a c
+  -- a front of it is written, if the writer can't be flushed
+  some_front : (a b c : Option (List ℕ)) (r : Result (Unit {0}) ScriptStop) → EndsIn r (Ends text old new r) a b → Keeps b c → WroteFront (IsDoneInto text old new) a c
   some_front a b c (Ok x) h k = all_front a b c (Ok x) h k
   some_front a b c (Err (BadStep at)) h k = all_front a b c (Err (BadStep at)) h k
   some_front a b c (Err (Unread at)) h k = all_front a b c (Err (Unread at)) h k
   some_front a b c (Err NoMemory) h k = all_front a b c (Err NoMemory) h k
-  some_front a b c (Err Unwritten) h k = front_kept (Ran old new) a b c h k
+  some_front a b c (Err Unwritten) h k = front_kept (IsDoneInto text old new) a b c h k
 
   -- what was written stays written
   pub ends_kept : (a b c : Option (List ℕ)) (r : Result (Unit {0}) ScriptStop) → EndsIn r (Ends text old new r) a b → Keeps b c → EndsIn r (Ends text old new r) a c
@@ -382,10 +473,11 @@ module _ (text : Option (List ℕ)) (old new : WorldView) where
   all_written a b h = wrote_as (Ends text old new (Ok tt)) (IsOfScript text old) a b (λ printed f. f.0) h
 
 -- the last lines can't be written
-pub exit_unflushed : (text other : Option (List ℕ)) (old new : WorldView) (a b c : Option (List ℕ)) (ended r : Result (Unit {0}) ScriptStop) → IsErr r × IsErrAnd r (λ e. e ≡ Unwritten) → EndsIn ended (Ends other old new ended) a b → Keeps b c → EndsIn r (Ends text old new r) a c
-exit_unflushed text other old new a b c ended (Ok x) exit h k = let none = exit.0 in cc
-exit_unflushed text other old new a b c ended (Err e) exit h k =
-    subst (λ s. (let r : Result (Unit {0}) ScriptStop = Err s in EndsIn r (Ends text old new r) a c)) (sym exit.1) (some_front other old new a b c ended h k)
+pub exit_unflushed : (text other : Option (List ℕ)) (old new : WorldView) (a b c : Option (List ℕ)) (ended r : Result (Unit {0}) ScriptStop) → other ≡ text → IsErr r × IsErrAnd r (λ e. e ≡ Unwritten) → EndsIn ended (Ends other old new ended) a b → Keeps b c
+    → EndsIn r (Ends text old new r) a c
+exit_unflushed text other old new a b c ended (Ok x) same exit h k = let none = exit.0 in cc
+exit_unflushed text other old new a b c ended (Err e) same exit h k =
+    subst (λ s. (let r : Result (Unit {0}) ScriptStop = Err s in EndsIn r (Ends text old new r) a c)) (sym exit.1) (subst (λ t. WroteFront (IsDoneInto t old new) a c) same (some_front other old new a b c ended h k))
 
 -- ---- where nothing is in doubt
 

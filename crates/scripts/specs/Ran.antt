@@ -1,5 +1,5 @@
 -- What a script ran, however it ended.
-use Rattle.std.specs.Prelude.{◌≡◌, ◌⊎◌, ⊤, ℕ, ◌+◌, ◌≤◌, ◌<◌, Bool, true, false, List, [], ◌∷◌, length, Option, Some, Result, Ok, Err}
+use Rattle.std.specs.Prelude.{◌≡◌, ◌⊎◌, ⊤, ℕ, ◌+◌, ◌≤◌, ◌<◌, Bool, true, false, List, [], ◌∷◌, ◌++◌, length, Option, Some, Result, Ok, Err}
 use Rattle.std.specs.Str.Lossy.{utf8_lossy}
 use Rattle.node_core.specs.declared.refusals.Fault.{Fault}
 use Rattle.node_core.specs.declared.lines.Line.{Line}
@@ -14,7 +14,7 @@ use Rattle.world_cell.specs.Served.{ServesPresentByThen}
 use Rattle.world_cell.specs.RunLaws.{HoldsOfRun}
 use Rattle.scripts.specs.declared.stops.ScriptStop.{ScriptStop}
 use Rattle.scripts.specs.declared.stops.ScriptStop.TheVariants.{BadStep, Unread, NoMemory, Unwritten}
-use Rattle.scripts.specs.Settling.{Played, played}
+use Rattle.scripts.specs.Settling.{Played, played, TakesTurn, SettlesSome}
 use Rattle.scripts.specs.Scripts.{lines_text, DoesParsed, IsOfPart, IsOfScript, Wrote, WroteFront}
 use Rattle.scripts.specs.declared.steps.Parsed.{Parsed}
 use Rattle.scripts.specs.declared.steps.Parsed.TheVariants as parsed
@@ -79,14 +79,40 @@ pub record IsDoneBefore (text : Option (List ℕ)) (number : ℕ) (old new : Wor
   pub next : number ≡ count + 1
   pub before : IsOfPart text rest count old printed (played new marks)
 
--- what was done of a text where a script ended so: all its lines; those before the one that is no step or can't be read;
--- or steps
+-- what a line asks for was done whole; or of a settle some turns
+abbrev pub Begins : Played → Parsed → List Line → Played → Type 0
+Begins old parsed.Settle printed new = SettlesSome old printed new
+Begins old meant printed new = DoesParsed old meant printed new
+
+-- the same of a line of at most 1,048,576 bytes, without its LF
+abbrev pub BeginsLine : Played → List ℕ → List Line → Played → Type 0
+BeginsLine old line printed new = (length line ≤ 1048576) × ((meant : Parsed) × IsParsed (utf8_lossy line) meant × Begins old meant printed new)
+
+-- of the next line of a text nothing was done, or all of it, or some turns of its settle
+abbrev pub BeginsNext : Option (List ℕ) → Played → List Line → Played → Type 0
+BeginsNext rest old printed new =
+    ((printed ≡ []) × (new ≡ old)) ⊎ ((line : List ℕ) × (after : Option (List ℕ)) × Passes rest (line ∷ []) after × BeginsLine old line printed new)
+
+-- lines were done, each of them whole, and of the next one no more than that
+pub record IsDoneInto (text : Option (List ℕ)) (old new : WorldView) (printed : List Line) : Type 0 where
+  pub rest : Option (List ℕ)
+  pub count : ℕ
+  pub mid : Played
+  pub marks : List Bool
+  pub front : List Line
+  pub back : List Line
+  pub before : IsOfPart text rest count old front mid
+  pub next : BeginsNext rest mid back (played new marks)
+  pub tells : printed ≡ front ++ back
+
+-- what was done of a text if a script ended so: all its lines; those before the one that is no step or can't be read; or, for
+-- want of memory or as lines can't be written, those before one, and of that one nothing, or all, or some turns of its settle
 abbrev pub Ends : Option (List ℕ) → WorldView → WorldView → Result (Unit {0}) ScriptStop → List Line → Type 0
 Ends text old new (Ok x) printed = (all : IsOfScript text old printed) × (all.new.view ≡ new)
 Ends text old new (Err (BadStep number)) printed = (done : IsDoneBefore text number old new printed) × IsNoStep done.rest number
 Ends text old new (Err (Unread number)) printed = IsDoneBefore text number old new printed
-Ends text old new (Err NoMemory) printed = Ran old new printed
-Ends text old new (Err Unwritten) printed = Ran old new printed
+Ends text old new (Err NoMemory) printed = IsDoneInto text old new printed
+Ends text old new (Err Unwritten) printed = IsDoneInto text old new printed
 
 -- that, and the laws of the run that it is
 abbrev pub EndsWell : Option (List ℕ) → WorldView → WorldView → Result (Unit {0}) ScriptStop → List Line → Type 0
@@ -112,16 +138,22 @@ EndsAs (Ok x) P Q before after = Wrote (P x) before after
 EndsAs (Err Unwritten) P Q before after = WroteFront (Q Unwritten) before after
 EndsAs (Err stop) P Q before after = Wrote (Q stop) before after
 
--- a line that is a step stops for want of memory, or as its lines can't be written, and leaves steps
-abbrev pub Breaks : WorldView → WorldView → ScriptStop → List Line → Type 0
-Breaks old new NoMemory printed = Ran old new printed
-Breaks old new Unwritten printed = Ran old new printed
-Breaks old new stop printed = ⊥
+-- a turn was made, and its lines can't be written
+abbrev pub BreaksTurn : Played → Played → ScriptStop → List Line → Type 0
+BreaksTurn old new Unwritten printed = (more : Bool) × TakesTurn more old printed new
+BreaksTurn old new stop printed = ⊥
 
--- a line stops so too, or it is no step, and does nothing
+-- a line that is a step stops for want of memory, or as its lines can't be written
+abbrev pub Breaks : Parsed → Played → Played → ScriptStop → List Line → Type 0
+Breaks meant old new NoMemory printed = Begins old meant printed new
+Breaks meant old new Unwritten printed = Begins old meant printed new
+Breaks meant old new stop printed = ⊥
+
+-- a line stops so too, or before anything is done of it; or it is no step, and does nothing
 abbrev pub BreaksLine : List ℕ → ℕ → Played → Played → ScriptStop → List Line → Type 0
 BreaksLine line number old new (BadStep at) printed = (at ≡ number) × IsParsed (utf8_lossy line) parsed.Bad × (printed ≡ []) × (new ≡ old)
-BreaksLine line number old new stop printed = Breaks old.view new.view stop printed
+BreaksLine line number old new (Unread at) printed = ⊥
+BreaksLine line number old new stop printed = ((printed ≡ []) × (new ≡ old)) ⊎ BeginsLine old line printed new
 
 -- lines are written whole; or they can't be, and a front of them is
 abbrev pub Writes : {X : Type 0} → Result X ScriptStop → List Line → Option (List ℕ) → Option (List ℕ) → Type 0

@@ -118,6 +118,24 @@ pub record AreTurns (old : Played) (printed : List Line) (new : Played) : Type 0
   pub last : TakesTurn false mid later new
   pub tells : printed ≡ here ++ later
 
+-- turns so far: so many, each with others after it, and perhaps one more, of either kind
+pub record SomeTurns (old : Played) (printed : List Line) (new : Played) : Type 0 where
+  pub count : ℕ
+  pub mid : Played
+  pub here : List Line
+  pub later : List Line
+  pub first : Turns count old here mid
+  pub last : ((later ≡ []) × (new ≡ mid)) ⊎ ((more : Bool) × TakesTurn more mid later new)
+  pub tells : printed ≡ here ++ later
+
+abbrev pub SettlesSomeBy : Bool → Played → List Line → Played → Type 0
+SettlesSomeBy true old printed new = SomeTurns old printed new
+SettlesSomeBy false old printed new = (printed ≡ lines.Refused MasterDown ∷ []) × (new ≡ old)
+
+-- some turns of a settle; without a master it is refused
+abbrev pub SettlesSome : Played → List Line → Played → Type 0
+SettlesSome old printed new = SettlesSomeBy (is_some old.view.world.master) old printed new
+
 abbrev pub SettlesBy : Bool → Played → List Line → Played → Type 0
 SettlesBy true old printed new = AreTurns old printed new
 SettlesBy false old printed new = (printed ≡ lines.Refused MasterDown ∷ []) × (new ≡ old)

@@ -3,7 +3,7 @@ ghost use Rattle.std.specs.Prelude.{◌≡◌, ◌≤◌, ◌∷◌, [], Some, l
 ghost use Rattle.std.specs.Io.KnownBytes.{Keeps};
 ghost use Rattle.rows_cell.specs.Settings.{terms_of};
 ghost use Rattle.world_steps.specs.World.{WorldView, IsUndoubted, opened};
-ghost use Rattle.scripts.specs.Ran.{Ends, EndsWell, EndsSurely, EndsIn, EndsAs, EndsWith, IsNeverInDoubt, RunsSurely, Breaks, BreaksLine, StopsReading, Writes, Obeys};
+ghost use Rattle.scripts.specs.Ran.{Ends, EndsWell, EndsSurely, EndsIn, EndsAs, EndsWith, IsNeverInDoubt, RunsSurely, Breaks, BreaksTurn, BreaksLine, StopsReading, Writes, Obeys};
 ghost use Rattle.scripts.specs.Scripts.{Wrote, IsOfScript, DoesLine, told};
 ghost use Rattle.scripts.specs.Settling.{played, Settles, TakesTurn, PlaysMade, PlaysRefused, turn_step, is_waiting, is_idle};
 ghost use Rattle.scripts.specs.Stops.{IsStatus};
@@ -63,7 +63,8 @@ pub fn script_on<R: Records + Drop, I: Read + Drop, W: Write>(
     ensures written { result ≡ 0 → Wrote (IsOfScript (I.remaining reader) world.old) (W.contents writer.old) (W.contents writer.new) }
     // Whatever the end: what was done are steps of the world, one behind the other, and their lines were written, with
     // refusals of lines that are no steps between them; so the laws of runs hold of them, and each `served` line shows the
-    // map of its moment. Where line N is no step or can't be read, these are the steps of the lines before it.
+    // map of its moment. If line N is no step or can't be read, these are the steps of the lines before it. For want of memory, or
+    // if lines can't be written, they are those of lines, each whole, and of the next one nothing, or all, or some turns of its settle.
     ensures ran { EndsWith result (EndsWell (I.remaining reader) world.old world.new) (W.contents writer.old) (W.contents writer.new) }
     // Where nothing is in doubt behind it, nothing was before, and all these laws hold.
     ensures sure { IsUndoubted world.new → IsUndoubted world.old × EndsWith result (EndsSurely (I.remaining reader) world.old world.new) (W.contents writer.old) (W.contents writer.new) }
@@ -172,7 +173,7 @@ fn obey<R: Records + Drop, W: Write>(
     delivered: &mut Deliveries,
     output: &mut W,
 ) -> Result<bool, ScriptStop>
-    ensures { EndsAs result (λ done printed. Obeys done (played world.old delivered.old) parsed.now printed (played world.new delivered.new)) (Breaks world.old world.new) (W.contents output.old) (W.contents output.new) }
+    ensures { EndsAs result (λ done printed. Obeys done (played world.old delivered.old) parsed.now printed (played world.new delivered.new)) (Breaks parsed.now (played world.old delivered.old) (played world.new delivered.new)) (W.contents output.old) (W.contents output.new) }
 {
     match parsed {
         Parsed::Nothing => {}
@@ -191,7 +192,7 @@ fn settle<R: Records + Drop, W: Write>(
     delivered: &mut Deliveries,
     output: &mut W,
 ) -> Result<(), ScriptStop>
-    ensures { EndsAs result (λ _ printed. Settles (played world.old delivered.old) printed (played world.new delivered.new)) (Breaks world.old world.new) (W.contents output.old) (W.contents output.new) }
+    ensures { EndsAs result (λ _ printed. Settles (played world.old delivered.old) printed (played world.new delivered.new)) (Breaks Parsed.Settle (played world.old delivered.old) (played world.new delivered.new)) (W.contents output.old) (W.contents output.new) }
 {
     if !world.is_up() {
         return write_refusal(output, Fault::MasterDown);
@@ -211,7 +212,7 @@ fn settle_on<R: Records + Drop, W: Write>(
     delivered: &mut Deliveries,
     output: &mut W,
 ) -> Result<bool, ScriptStop>
-    ensures { EndsAs result (λ more printed. TakesTurn more (played world.old delivered.old) printed (played world.new delivered.new)) (Breaks world.old world.new) (W.contents output.old) (W.contents output.new) }
+    ensures { EndsAs result (λ more printed. TakesTurn more (played world.old delivered.old) printed (played world.new delivered.new)) (BreaksTurn (played world.old delivered.old) (played world.new delivered.new)) (W.contents output.old) (W.contents output.new) }
 {
     match settle_turn(world, delivered) {
         Ok(turn) => {
