@@ -281,7 +281,7 @@ func FencingNumber(sequencer []byte) (*big.Int, error) {
 
 // ---- what a server sends
 
-// fields takes fields from the left of a block. Where one isn't there, all that follow are empty, and wrong says so.
+// fields takes fields from the left of a block. If one isn't there, all that follow are empty, and wrong says so.
 type fields struct {
 	block []byte
 	wrong bool

@@ -94,7 +94,7 @@ impl Blocks {
         }
     }
 
-    /// As `next`, of a stream that is waited for. Where that is given up nothing is lost.
+    /// As `next`, of a stream that is waited for. If that is given up nothing is lost.
     ///
     /// # Errors
     ///
@@ -110,7 +110,7 @@ impl Blocks {
         }
     }
 
-    /// Waits for one read of the stream, for `take`; whether the stream goes on. Where that is given up nothing is lost.
+    /// Waits for one read of the stream, for `take`; whether the stream goes on. If that is given up nothing is lost.
     ///
     /// # Errors
     ///
@@ -133,7 +133,7 @@ impl Blocks {
         }
     }
 
-    /// As `length`, of a stream that is waited for; None at its end. Where that is given up nothing is lost.
+    /// As `length`, of a stream that is waited for; None at its end. If that is given up nothing is lost.
     ///
     /// # Errors
     ///

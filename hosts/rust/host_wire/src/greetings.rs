@@ -190,7 +190,7 @@ impl Welcome {
     ///
     /// # Errors
     ///
-    /// Where they are neither.
+    /// If they are neither.
     pub fn read(bytes: &[u8]) -> Result<Result<Welcome, TurnedAway>, Malformed> {
         Welcome::fields(bytes).ok_or(Malformed)
     }

@@ -75,7 +75,7 @@ pub enum Until {
     Own,
 }
 
-/// Runs the command to its end, and passes the signals on to it; without a command, waits for a signal. Gives the status. Where it may
+/// Runs the command to its end, and passes the signals on to it; without a command, waits for a signal. Gives the status. If it may
 /// run no longer it is ended.
 pub fn run(client: &Client, command: &Command<'_>, watch: &Watch, signals: &mut Signals) -> Result<u8, Fault> {
     let mut held = Held { client, watch, until: command.until, is_told: false };
@@ -185,7 +185,7 @@ impl Held<'_> {
     }
 }
 
-/// A command that runs. Where the standard input is no terminal it has a group of processes of its own: all that it started gets the
+/// A command that runs. If the standard input is no terminal it has a group of processes of its own: all that it started gets the
 /// signals. At a terminal it stays in this program's group, which the terminal's keys reach; it gets the signals alone.
 struct Running {
     child: Child,

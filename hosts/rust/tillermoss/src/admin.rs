@@ -58,7 +58,7 @@ impl Admin {
     ///
     /// # Errors
     ///
-    /// Where that is no such address. Nothing is connected yet.
+    /// If that is no such address. Nothing is connected yet.
     pub fn new(address: &str) -> Result<Admin, Error> {
         match address.parse() {
             Ok(address) => Ok(Admin { address, token: None, connector: None }),
@@ -79,7 +79,7 @@ impl Admin {
     ///
     /// # Errors
     ///
-    /// Where a file can't be read, or doesn't have what it is named for.
+    /// If a file can't be read, or doesn't have what it is named for.
     pub fn with_certificates(self, authority: &Path, own: Option<(&Path, &Path)>) -> Result<Admin, Error> {
         Ok(Admin { connector: Some(connector(authority, own)?), ..self })
     }
@@ -109,7 +109,7 @@ impl Admin {
     ///
     /// # Errors
     ///
-    /// Where it can't be reached, or doesn't let this operator in.
+    /// If it can't be reached, or doesn't let this operator in.
     pub fn status(&self) -> Result<Status, Error> {
         self.get("/status")
     }
@@ -203,7 +203,7 @@ impl Admin {
     ///
     /// # Errors
     ///
-    /// Where the file is there, or can't be written, or the server doesn't give a copy. Then there is no file.
+    /// If the file is there, or can't be written, or the server doesn't give a copy. Then there is no file.
     pub fn backup(&self, file: &Path) -> Result<u64, Error> {
         let mut out = File::options().write(true).create_new(true).mode(0o600).open(file)?;
         let taken = self.run(async {
@@ -240,7 +240,7 @@ impl Admin {
     ///
     /// # Errors
     ///
-    /// Where there is no such client, or the server ends none.
+    /// If there is no such client, or the server ends none.
     pub fn end(&self, client: u64) -> Result<Vec<u64>, Error> {
         self.post(&format!("/end/client/{client}"))
     }

@@ -43,7 +43,7 @@ pub struct Connection {
     pub welcome: Welcome,
 }
 
-/// Connects to the server that is tried now, and greets it. Where it can't be reached or turns the client away, another is tried next:
+/// Connects to the server that is tried now, and greets it. If it can't be reached or turns the client away, another is tried next:
 /// the master, where it is told. That a number was given to another client counts once all servers have said so.
 pub async fn greet(reach: &Reach, hello: &Hello) -> Result<Connection, Error> {
     let mut master = None;

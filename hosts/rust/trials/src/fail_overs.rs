@@ -97,7 +97,7 @@ pub(crate) fn come_by(options: &Options, clients: usize) -> Result<Vec<CachingCl
 ///
 /// # Errors
 ///
-/// Where the server can't be started, or a client is refused.
+/// If the server can't be started, or a client is refused.
 pub fn fail_over(clients: usize, one_way: Duration, looked_at: Duration) -> Result<Noticed, Error> {
     let folder = folder("fail-over");
     let mut server = Start::new(&folder.join("store.db")).start()?;
@@ -164,7 +164,7 @@ fn wait_for_master(etcd: &Etcd, server: &Server, since: Instant) -> io::Result<D
 ///
 /// # Errors
 ///
-/// Where etcd or a server can't be started, or a client is refused.
+/// If etcd or a server can't be started, or a client is refused.
 pub fn fail_over_to_one_that_stands_by(files: u64, clients: usize, going: Going, looked_at: Duration) -> Result<Noticed, Error> {
     let etcd = Etcd::with_cell(&[])?;
     etcd.put_files(files)?;

@@ -55,7 +55,7 @@ impl Relay {
     ///
     /// # Errors
     ///
-    /// Where it can't listen.
+    /// If it can't listen.
     pub fn start(service: SocketAddr) -> io::Result<Relay> {
         let listener = TcpListener::bind("127.0.0.1:0")?;
         let gate = Arc::new(Gate { passing: Mutex::new(Passing::All), changed: Condvar::new() });

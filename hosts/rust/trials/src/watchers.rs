@@ -71,7 +71,7 @@ async fn all_told(told: &mut UnboundedReceiver<Told>, generation: u64, count: us
 ///
 /// # Errors
 ///
-/// Where one of them isn't told of a set within a minute, or the file can't be set.
+/// If one of them isn't told of a set within a minute, or the file can't be set.
 pub fn tell_watchers(
     gateways: &[&GatewayProcess],
     name: &str,

@@ -70,7 +70,7 @@ fn next_page(pairs: &[Pair]) -> usize {
 }
 
 impl Found {
-    /// All that stands there now, page by page at one revision. Where no member answers it is tried again for as long as the check
+    /// All that stands there now, page by page at one revision. If no member answers it is tried again for as long as the check
     /// holds.
     pub fn read(gateway: &Members, prefix: &str, check: impl Fn() -> Result<()>) -> Result<Found> {
         let mut found = Found::default();

@@ -153,7 +153,7 @@ struct Raised {
     next: Option<u64>,
 }
 
-// Opens a keeper. (Where etcd has no room it is opened later.)
+// Opens a keeper. (If etcd has no room it is opened later.)
 async fn keep(rows: Rows) -> Result<(Rows, MasterPipes)> {
     let gateway = rows.gateway.clone();
     match spawn_blocking(move || rows.keep().map(|kept| (rows, kept))).await? {

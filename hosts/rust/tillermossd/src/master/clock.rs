@@ -94,7 +94,7 @@ impl Probe {
         Ok(Probe { stream, due: tokio::time::Instant::now(), is_out: false })
     }
 
-    /// Waits until the next byte is back. Where that is given up nothing is lost.
+    /// Waits until the next byte is back. If that is given up nothing is lost.
     pub async fn is_back(&mut self) -> io::Result<()> {
         sleep_until(self.due).await;
         if !self.is_out {

@@ -46,7 +46,7 @@ pub fn is_there(store: &Path) -> Result<bool> {
 }
 
 /// Makes the file of a store that isn't there: a database of small pages without tables, which its master makes. A commit writes each
-/// page that it changes whole into the log, and sums it up twice: by small ones that is less. Where there is a file, also an empty one,
+/// page that it changes whole into the log, and sums it up twice: by small ones that is less. If there is a file, also an empty one,
 /// or a link, or a log that was left, it makes none.
 pub fn prepare(store: &Path) -> Result<()> {
     if fs::symlink_metadata(store).is_ok() || beside(store, LOG).exists() {

@@ -328,7 +328,7 @@ impl Cell {
     }
 
     // Holds back what the keeper of the present server writes, until another master takes the place of its master, and lets it through
-    // then. (Where a slow machine ends the mastership first it is tried again with the next server.)
+    // then. (If a slow machine ends the mastership first it is tried again with the next server.)
     fn hold_back(&self) -> Tried<()> {
         for _ in 0..TRIES {
             let at = self.master()?;
