@@ -549,7 +549,7 @@ type Refusal struct {
 	Argument    uint64
 	// Word is the argument of those that have a word: the kind of the node, the right that is missing, the mode of the lock.
 	Word string
-	// Limit says which limit of the server stands behind it, where that is so.
+	// Limit says which limit of the server was met, if one was.
 	Limit string
 }
 

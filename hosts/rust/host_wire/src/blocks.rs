@@ -75,7 +75,7 @@ impl Blocks {
     ///
     /// # Errors
     ///
-    /// What a read answers: behind `WouldBlock` and `TimedOut` nothing is lost. `InvalidData` for a block above the limit,
+    /// What a read answers: after `WouldBlock` and `TimedOut` nothing is lost. `InvalidData` for a block above the limit,
     /// `UnexpectedEof` where the stream ends within one.
     pub fn next(&mut self, stream: &mut impl Read) -> io::Result<Option<Vec<u8>>> {
         loop {

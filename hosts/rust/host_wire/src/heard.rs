@@ -75,7 +75,7 @@ pub enum Printed<'a> {
     Gone(&'a str),
     /// A right of this number, for a client to cache a name.
     Granted(u64, u64, &'a str),
-    /// A right ended, since its client let go.
+    /// A right ended, because its client let go.
     Acked(u64),
     /// A right ended with its session.
     Expired(u64),

@@ -59,7 +59,7 @@ pub fn free() -> SocketAddr {
     TcpListener::bind("127.0.0.1:0").and_then(|listener| listener.local_addr()).expect("a port is free")
 }
 
-/// A program of this workspace: cargo builds it, since its package has a test of it.
+/// A program of this workspace: cargo builds it, because its package has a test of it.
 ///
 /// # Panics
 ///
@@ -228,7 +228,7 @@ impl Start {
         self.start_until("standing by")
     }
 
-    // Starts it, and waits until it has printed this; into a file, since it may print more later.
+    // Starts it, and waits until it has printed this; into a file, because it may print more later.
     fn start_until(&self, wanted: &str) -> io::Result<Server> {
         let log = File::options().create(true).append(true).open(&self.log)?;
         let told = self.log.with_extension("out");

@@ -121,7 +121,7 @@ fn follow(mut running: Running, held: &mut Held<'_>, signals: &mut Signals) -> R
         if let Some(over) = held.over() {
             say(&format!("{}: the command gets SIGTERM, and SIGKILL in {} s", over.reason(), held.grace().as_secs()));
             running.end(held.grace())?;
-            say(&format!("{}: the command was ended, since what it held may be another's", over.reason()));
+            say(&format!("{}: the command was ended, because what it held may be another's", over.reason()));
             return Err(Ended::Cell(over));
         }
         thread::sleep(LOOK);

@@ -48,7 +48,7 @@ fn io_error(error: hyper::Error) -> Error {
 }
 
 impl Admin {
-    /// The one at this address, `unix:PATH`, `tls:HOST:PORT` or `tcp:HOST:PORT`, as `tillermossd` prints it behind `admin`.
+    /// The one at this address, `unix:PATH`, `tls:HOST:PORT` or `tcp:HOST:PORT`, as `tillermossd` prints it after `admin`.
     ///
     /// ```
     /// # use tillermoss::Admin;

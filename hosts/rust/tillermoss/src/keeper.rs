@@ -146,7 +146,7 @@ impl Schedule {
     }
 
     // One is sent now, under a lease until that moment. An answer to it counts only until the next one is sent: so that goes when an
-    // answer has come, else when the lease has ended; and once in the middle, where the master keeps a Beat for long, since what a clock
+    // answer has come, else when the lease has ended; and once in the middle, where the master keeps a Beat for long, because what a clock
     // may lose meanwhile is taken off the lease.
     fn sent(&self, now: u64, (number, leased_until): (Option<u64>, u64)) -> Schedule {
         let (first, until, pause) =

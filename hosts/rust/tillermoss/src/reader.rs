@@ -124,7 +124,7 @@ struct KeptName {
 /// the library: so long [`hit`](Reader::hit) takes no lock of the client's. A step is counted before its message goes out: so no change
 /// is made while a hit still answers what was there before.
 ///
-/// A name stays open for 10 s at most: who may no longer read it is refused within that time. An ephemeral node isn't kept open, since
+/// A name stays open for 10 s at most: who may no longer read it is refused within that time. An ephemeral node isn't kept open, because
 /// that would keep it there: each read of it asks the master.
 ///
 /// ```

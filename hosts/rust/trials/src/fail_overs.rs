@@ -197,7 +197,7 @@ pub fn fail_over_to_one_that_stands_by(files: u64, clients: usize, going: Going,
 /// # Errors
 ///
 /// As `fail_over`.
-pub fn start_behind_clients_that_left(clients: usize) -> Result<Duration, Error> {
+pub fn start_after_clients_that_left(clients: usize) -> Result<Duration, Error> {
     let folder = folder("left");
     let mut server = Start::new(&folder.join("store.db")).start()?;
     for guest in come(&server.address, clients)? {
@@ -284,7 +284,7 @@ pub fn write_beside_one_that_starts(lease: u64) -> Result<Duration, Error> {
 ///
 /// As `fail_over`.
 pub fn write_beside_one_that_stays_behind(lease: u64) -> Result<Duration, Error> {
-    let folder = folder("behind");
+    let folder = folder("late");
     let start = Start::new(&folder.join("store.db")).settings(&format!("lease = {lease}\n"));
     let mut server = start.start()?;
     let writer = Client::connect(&Options { patience: PATIENCE, ..Options::new(&server.address, "ann") })?;

@@ -63,7 +63,7 @@ fn key_of(text: &str) -> Option<LockRowKey> {
     }
 }
 
-// How many pairs the next page has, by the longest of the last one; at most twice as many, since longer ones may come.
+// How many pairs the next page has, by the longest of the last one; at most twice as many, because longer ones may come.
 fn next_page(pairs: &[Pair]) -> usize {
     let longest = pairs.iter().map(|pair| pair.key.len() + pair.value.len()).max().unwrap_or(0);
     (BYTES / longest.max(1)).clamp(FIRST_PAGE / 4, LONGEST_PAGE).min(2 * pairs.len())

@@ -76,7 +76,7 @@ pub enum MasterEnd {
     Asked(ExitStatus),
     /// It is gone by itself, or doesn't answer.
     Gone(String),
-    /// It is gone, since the store refused what a group of frames changed. Nobody was told of that group.
+    /// It is gone, because the store refused what a group of frames changed. Nobody was told of that group.
     Refused(String),
     /// The store isn't the same file any more.
     StoreGone(String),

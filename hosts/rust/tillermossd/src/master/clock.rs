@@ -1,5 +1,5 @@
 //! The clock that a master is told. It counts no time in which the server read nothing: a server that was stopped hands on what came
-//! meanwhile before a session may end for want of it. Every promise allows that, since a master's clock may be the slower one.
+//! meanwhile before a session may end for want of it. Every promise allows that, because a master's clock may be the slower one.
 
 use std::io;
 use std::time::{Duration, Instant};

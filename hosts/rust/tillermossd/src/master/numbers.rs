@@ -39,7 +39,7 @@ pub struct Epochs {
 impl Epochs {
     /// Those by which a store of this epoch is an older copy: it was moved elsewhere.
     #[must_use]
-    pub fn behind(epoch: u64) -> Epochs {
+    pub fn after(epoch: u64) -> Epochs {
         Epochs { last: epoch + 1, coming: epoch + 2 }
     }
 }

@@ -386,7 +386,7 @@ impl Cell {
         if !sound.starts_with("sound ") || run(&master_program(), &["check", &second])? != sound {
             return Err(format!("the rows: {sound}").into());
         }
-        Ok(format!("{sound}; {} rows are the same behind a copy into a file and back", there.len()))
+        Ok(format!("{sound}; {} rows are the same after a copy into a file and back", there.len()))
     }
 
     // The rows of a cell but for the numbers of its commits and what stands beside them.
