@@ -44,7 +44,7 @@ pub struct Limits {
     pub bytes: u64,
     /// Locks that one session holds or waits for; where nothing is said, it hangs on where the rows stand.
     pub locks: Option<u64>,
-    /// Bytes of the contents that a principal wrote, since the server began.
+    /// Bytes of the contents that a principal wrote since the server began.
     pub bytes_of_a_principal: u64,
 }
 

@@ -2,7 +2,7 @@
 //!
 //! Each write of a file has a value of its own. A value was there from a moment between the beginning and the end of its write up to
 //! such a moment of the next write. So each read returns what was there at some moment between its beginning and its end exactly
-//! where the writes have such an order; and by Gibbons and Korach (1997, "Testing shared memories", section 4) that can be seen
+//! if the writes have such an order; and by Gibbons and Korach (1997, "Testing shared memories", section 4) that can be seen
 //! from the zones. The zone of a value lies between the earliest end and the latest beginning of all that wrote and read it. It is a
 //! forward zone where that end is before that beginning: then the value was there all the time between. Else it is a backward
 //! zone: the value was there at some moment in it. There is such an order exactly if no read ends before the write of its value
