@@ -60,7 +60,7 @@ impl Blocks {
         Blocks { limit, least: READ_SIZES.0, bytes: Vec::new(), begin: 0, end: 0 }
     }
 
-    /// The same of a stream that carries much: as many bytes are read at once as may be, and room for these is kept.
+    /// As `new`, for a stream that carries much: as many bytes are read at once as may be, and room for these is kept.
     #[must_use]
     pub fn wide(limit: usize) -> Blocks {
         Blocks { least: READ_SIZES.1, ..Blocks::new(limit) }

@@ -138,7 +138,7 @@ impl Start {
         self.tls_at("tls:0", certificates)
     }
 
-    /// The same at this address.
+    /// At this address by TLS, with certificates of this folder.
     #[must_use]
     pub fn tls_at(self, address: &str, certificates: &Path) -> Start {
         let file = |name: &str| certificates.join(name).display().to_string();
@@ -302,7 +302,7 @@ impl Server {
         Start::new(store).start()
     }
 
-    /// The same, with the settings of a file.
+    /// As `start`, with the settings of a file.
     ///
     /// # Errors
     ///

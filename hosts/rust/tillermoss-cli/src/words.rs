@@ -115,7 +115,7 @@ impl Target {
         self.admin.clone().or_else(|| is_open().then(|| format!("unix:{OPERATORS}")))
     }
 
-    /// The same, as what it is asked by; None where it isn't known.
+    /// What the operators' address is asked by; None where it isn't known.
     pub fn operators(&self) -> Result<Option<Admin>, Fault> {
         let Some(address) = self.admin() else {
             return Ok(None);

@@ -92,7 +92,7 @@ impl HttpSession {
         self.with(|client| if client.is_lost() { Err(Refusal::SessionExpired.into()) } else { Ok(client.lease_left()) })
     }
 
-    // The same on a thread that may wait for the master.
+    // Asks on a thread that may wait for the master.
     async fn ask<T: Send + 'static>(
         self: &Arc<Self>,
         desk: &Desk,

@@ -66,7 +66,7 @@ impl Admin {
         }
     }
 
-    /// The same at `tls:`, where the server's certificate is signed by one of the authorities of this file; and with the files of a
+    /// This one for `tls:`, where the server's certificate is signed by one of the authorities of this file; and with the files of a
     /// certificate and its key, by which this end shows who it is (`tillermossd --operator`). All are in PEM.
     ///
     /// ```no_run
@@ -84,7 +84,7 @@ impl Admin {
         Ok(Admin { connector: Some(connector(authority, own)?), ..self })
     }
 
-    /// The same, which shows this token: a server beyond this machine wants it (`tillermossd --admin-token`).
+    /// This one, which shows this token: a server beyond this machine wants it (`tillermossd --admin-token`).
     ///
     /// ```
     /// # use tillermoss::Admin;
@@ -168,7 +168,7 @@ impl Admin {
         self.get("/all")
     }
 
-    /// The same of names, principals and clients in which a text stands, of the characters that names have: of a cell that has more than
+    /// All of the names, principals and clients in which a text stands, of the characters that names have: of a cell that has more than
     /// a page shows.
     ///
     /// ```
@@ -245,7 +245,7 @@ impl Admin {
         self.post(&format!("/end/client/{client}"))
     }
 
-    /// The same of all clients of a principal; which these are.
+    /// Ends all clients of a principal; which these are.
     ///
     /// ```
     /// # let server = programs::server_of_its_own();

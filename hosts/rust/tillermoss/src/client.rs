@@ -480,7 +480,7 @@ impl Client {
         Ok(Watch { handle, events: told })
     }
 
-    // The same, for a task that waits for the events.
+    // As `watch_with`, for a task that waits for the events.
     pub(crate) fn watch_from_task(&self, opening: &Opening) -> Result<(Handle, UnboundedReceiver<Event>), Error> {
         let (watcher, told) = unbounded_channel();
         let handle = self.open_for(opening, Some(&Teller::Task(watcher)))?;

@@ -61,7 +61,7 @@ pub async fn greet(reach: &Reach, hello: &Hello) -> Result<Connection, Error> {
     greeted
 }
 
-/// The same, of several servers until one is master, or so long; also of one that stands by.
+/// As `greet`, of several servers until one is master, or so long; also of one that stands by.
 pub async fn greet_any(reach: &Reach, hello: &Hello, patience: Duration) -> Result<Connection, Error> {
     let begun = Instant::now();
     let mut pause = PAUSES.0;

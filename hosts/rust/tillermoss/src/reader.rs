@@ -402,7 +402,7 @@ impl KeptName {
         last.page.as_ref().filter(|_| holds).map(|page| Sight { page: page.clone(), lease_left: last.mark.left(now) })
     }
 
-    // The same, after a step of the client after which its cache still holds the name.
+    // What was published last, after a step of the client after which its cache still holds the name.
     fn confirmed(&self, client: &Client, open: &Open) -> Option<Sight> {
         let (mark, now) = client.holds(open.handle).filter(|(_, now)| *now < open.until)?;
         let mut last = self.last.write().unwrap_or_else(PoisonError::into_inner);

@@ -132,7 +132,7 @@ impl Etcd {
         Start::new(&self.path(name)).rows(&rows(address)).with(&[&format!("tcp:{}", free())])
     }
 
-    /// The same, which reaches all members where they are found.
+    /// As `server`, which reaches all members where they are found.
     #[must_use]
     pub fn server_of_all(&self, name: &str) -> Start {
         Start::new(&self.path(name)).rows(&rows_of(&self.addresses)).with(&[&format!("tcp:{}", free())])

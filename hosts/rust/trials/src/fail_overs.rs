@@ -263,7 +263,7 @@ pub fn write_beside_one_that_keeps(lease: u64) -> Result<Duration, Error> {
     write_beside_one_that_cached(lease, Ok)
 }
 
-/// The same for one that doesn't beat, and sends Starts of its session, which lives.
+/// As `write_beside_one_that_keeps`, for one that doesn't beat, and sends Starts of its session, which lives.
 ///
 /// # Errors
 ///

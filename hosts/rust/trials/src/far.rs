@@ -54,7 +54,7 @@ pub fn far_from(server: SocketAddr, one_way: Duration) -> io::Result<SocketAddr>
     over(server, Network { one_way, rate: None })
 }
 
-/// The same over a network that also has a rate.
+/// As `far_from`, over a network that also has a rate.
 ///
 /// # Errors
 ///

@@ -106,7 +106,7 @@ impl Shared {
     }
 }
 
-// The same request.
+// This request once more.
 fn again(request: &Request<()>) -> Carried<Request<()>> {
     let mut same = Request::post(request.uri().clone()).body(())?;
     same.headers_mut().clone_from(request.headers());

@@ -162,7 +162,7 @@ impl Talker {
         self.told(message).map(|(answer, _)| answer)
     }
 
-    // The same, with the handle that was opened.
+    // As `ask`, with the handle that was opened.
     fn told(&mut self, message: Option<Vec<u8>>) -> Option<(MasterAnswer, Option<u64>)> {
         let message = message?;
         let number = Asked::read(&message)?.number();

@@ -287,7 +287,7 @@ impl Operation {
     }
 }
 
-// The same deeds, of which etcd does all or none, in transactions within transactions where they are many.
+// These deeds, of which etcd does all or none, in transactions within transactions where they are many.
 fn nested(mut deeds: Vec<TransactionDeed>) -> Vec<TransactionDeed> {
     while deeds.len() > WIDTH {
         let mut parts = Vec::with_capacity(deeds.len() / WIDTH + 1);
@@ -309,13 +309,13 @@ impl Members {
         Ok(Members { channels, last: Arc::default(), user, health: Arc::new(Health::new()), is_ended: Arc::default(), by: None })
     }
 
-    /// The same members, of which none is asked any more once this is set; but a question that is out has its time.
+    /// These members, of which none is asked any more once this is set; but a question that is out has its time.
     #[must_use]
     pub fn until(&self, is_ended: &Arc<AtomicBool>) -> Members {
         Members { is_ended: is_ended.clone(), ..self.clone() }
     }
 
-    /// The same members, of which none is asked any more after this moment, and no answer is waited for.
+    /// These members, of which none is asked any more after this moment, and no answer is waited for.
     #[must_use]
     pub fn by(&self, moment: Instant) -> Members {
         Members { by: Some(self.by.map_or(moment, |by| by.min(moment))), ..self.clone() }

@@ -88,7 +88,7 @@ pub fn copy(store: &Path) -> io::Result<TempDir> {
     copy_into(store, store)
 }
 
-/// The same, into a folder beside another path.
+/// As `copy`, into a folder beside another path.
 pub fn copy_into(store: &Path, near: &Path) -> io::Result<TempDir> {
     let folder = tempfile::Builder::new().prefix(&prefix(near)).tempdir_in(above(near))?;
     let copy = copied(&folder);
