@@ -190,7 +190,7 @@ static void tells(void) {
     expect_heard("a name", block, (struct cell_server_heard){.what = CELL_SERVER_TOUCHES}, "/ls/c/f", NULL);
 }
 
-/* A frame with its number in front, and what stands behind its kind. */
+/* A frame with its number in front, and what stands after its kind. */
 static void expect_frame(const char *what, uint32_t code, const uint8_t *room, size_t length, int kind, struct bytes rest) {
     struct bytes wanted = {{0}, 0};
     put(&wanted, rest.count + 2, 4);

@@ -13,7 +13,7 @@
  *
  * One call at a time on one client. A client may go from thread to thread.
  *
- * A call never ends the program. It answers one of the codes below. Where it answers NO_MEMORY, EXHAUSTED, or one of the codes
+ * A call never ends the program. It answers one of the codes below. If it answers NO_MEMORY, EXHAUSTED, or one of the codes
  * for bytes (81 to 88), nothing has changed: the client, its message, lines and content are as they were. A step that answers
  * anything else has noted the time, and has a message, lines and a content of its own, in the place of those of the step before.
  */
@@ -56,9 +56,9 @@ struct cell_client_opening {
 #define CELL_CLIENT_LOCK 4u
 #define CELL_CLIENT_CONFLICT 8u
 #define CELL_CLIENT_MAKES_NOTHING 0u
-/* Where a node of the name is there, it is opened. */
+/* If a node of the name is there, it is opened. */
 #define CELL_CLIENT_MAY_MAKE 1u
-/* Where a node of the name is there, the call is refused. */
+/* If a node of the name is there, the call is refused. */
 #define CELL_CLIENT_MUST_MAKE 2u
 #define CELL_CLIENT_A_FILE 0u
 #define CELL_CLIENT_A_DIRECTORY 1u
@@ -292,7 +292,7 @@ uint32_t cell_client_leave(struct client_exports *client, uint64_t now);
  * and STALE_INSTANCE out of the cache, all others as above.
  *
  * A Leave ends the session. From then on the cache is empty and off, and each other call is NO_SESSION; go on beating. After "done C N ok"
- * the session is over, and the cell waits for the client no more. Where that was refused, ask again.
+ * the session is over, and the cell waits for the client no more. If that was refused, ask again.
  */
 uint32_t cell_client_ask(struct client_exports *client, uint64_t now, const uint8_t *call, size_t call_length);
 

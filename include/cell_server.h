@@ -8,7 +8,7 @@
  * where the length beside it is 0. Room that is written to overlaps nothing else that is passed. A struct that is written to has been
  * initialized.
  *
- * A call answers one of the codes below. Where it doesn't answer DONE nothing was written. Bytes go to the front of their room where
+ * A call answers one of the codes below. If it doesn't answer DONE nothing was written. Bytes go to the front of their room where
  * they fit; where they don't the room stays, and how many they are is told nevertheless: the call is made again with more room.
  */
 #ifndef CELL_SERVER_H

@@ -1,4 +1,4 @@
-// What the three build scripts have in common: each takes this file in, since a build script has no crate of its own to put it into.
+// What the three build scripts have in common: each takes this file in, because a build script has no crate of its own to put it into.
 
 use std::path::{Path, PathBuf};
 use std::process::Command;

@@ -368,7 +368,7 @@ func (it *Client) CloseHandle(ctx context.Context, handle *Handle) error {
 	return it.change(ctx, nil, onHandle(callClose, handle.content))
 }
 
-// Acquire waits until the node's lock is held. Where the context ends before that, the call stays under way and the client's other calls
+// Acquire waits until the node's lock is held. If the context ends before that, the call stays under way and the client's other calls
 // wait for it; the lock is given back once it comes. Use a client of its own for each lock that may have to be waited for.
 func (it *Client) Acquire(ctx context.Context, handle *Handle, mode LockMode) error {
 	return it.acquire(ctx, handle, mode, callAcquire)

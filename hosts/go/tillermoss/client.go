@@ -132,7 +132,7 @@ func Connect(ctx context.Context, servers, principal string, options Options) (*
 }
 
 // Close ends the session, and waits for that for 2 seconds at most: its locks are free then, its ephemeral nodes go, and nothing waits for
-// its cache. Where no master answers by then, or another call is under way for so long, the session ends with its lease.
+// its cache. If no master answers by then, or another call is under way for so long, the session ends with its lease.
 func (it *Client) Close() {
 	ctx, cancel := context.WithTimeout(context.Background(), parting)
 	defer cancel()

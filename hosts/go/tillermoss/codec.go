@@ -281,7 +281,7 @@ func FencingNumber(sequencer []byte) (*big.Int, error) {
 
 // ---- what a server sends
 
-// fields takes fields from the left of a block. Where one isn't there, all that follow are empty, and wrong says so.
+// fields takes fields from the left of a block. If one isn't there, all that follow are empty, and wrong says so.
 type fields struct {
 	block []byte
 	wrong bool
@@ -549,7 +549,7 @@ type Refusal struct {
 	Argument    uint64
 	// Word is the argument of those that have a word: the kind of the node, the right that is missing, the mode of the lock.
 	Word string
-	// Limit says which limit of the server stands behind it, where that is so.
+	// Limit says which limit of the server was met, if one was.
 	Limit string
 }
 

@@ -97,7 +97,7 @@ func dial(ctx context.Context, server string, trust *tls.Config) (net.Conn, erro
 	return (&tls.Dialer{Config: trust}).DialContext(ctx, "tcp", net.JoinHostPort(host, port))
 }
 
-// send has a block written, and waits for nothing. Where the server takes nothing any more the connection ends.
+// send has a block written, and waits for nothing. If the server takes nothing any more the connection ends.
 func (it *connection) send(block []byte) {
 	select {
 	case it.toSend <- block:

@@ -399,7 +399,7 @@ func TestSessionsHandlesAndLocksOutliveAServer(test *testing.T) {
 	for _, how := range []syscall.Signal{syscall.SIGTERM, syscall.SIGKILL} {
 		server.stop(how)
 		server.start()
-		content := fmt.Sprint("behind ", how)
+		content := fmt.Sprint("after ", how)
 		err := client.Set(ctx, file, []byte(content))
 		if IsRefused(err, Unknown) {
 			err = client.Set(ctx, file, []byte(content))

@@ -21,7 +21,7 @@ def blocks_to_server(page: str) -> list:
             if not more.startswith(" " * 14):
                 break
             parts.append(more.strip())
-        # (what stands behind two spaces is said of the bytes)
+        # (what stands after two spaces is said of the bytes)
         parts = [re.split(r" {2,}", part)[0] for part in parts]
         block = "".join(part for part in parts if re.fullmatch(r"[0-9a-f ]+", part))
         block = bytes.fromhex(block.replace(" ", ""))

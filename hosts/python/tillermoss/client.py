@@ -134,7 +134,7 @@ class Client:
 
     def close(self) -> None:
         """Ends its session, and waits for that for 2 seconds at most: its locks are free then, its ephemeral nodes go, and nothing waits
-        for its cache. Where no master answers by then, or another call is under way for so long, the session ends with its lease."""
+        for its cache. If no master answers by then, or another call is under way for so long, the session ends with its lease."""
         ends = time.monotonic() + PARTING
         if self.calling.acquire(timeout=PARTING):
             try:

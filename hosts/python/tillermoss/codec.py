@@ -173,7 +173,7 @@ class Fields:
 
     def end(self) -> None:
         if self.at != len(self.block):
-            raise Malformed("bytes behind the last field")
+            raise Malformed("bytes after the last field")
 
 
 # ---- what a client sends

@@ -136,7 +136,7 @@ public final class Client implements AutoCloseable {
 
     /**
      * Ends the session, and waits for that for 2 seconds at most: its locks are free then, its ephemeral nodes go, and nothing waits for
-     * its cache. Where no master answers by then, or another call is under way for so long, the session ends with its lease.
+     * its cache. If no master answers by then, or another call is under way for so long, the session ends with its lease.
      */
     @Override
     public void close() {

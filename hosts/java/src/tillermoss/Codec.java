@@ -206,7 +206,7 @@ final class Codec {
 
         void end() throws Malformed {
             if (left.hasRemaining()) {
-                throw new Malformed("bytes behind the last field");
+                throw new Malformed("bytes after the last field");
             }
         }
     }

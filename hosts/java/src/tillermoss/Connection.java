@@ -90,7 +90,7 @@ final class Connection {
         }
     }
 
-    /** Has a block written, and waits for nothing. Where the server takes nothing any more the connection ends. */
+    /** Has a block written, and waits for nothing. If the server takes nothing any more the connection ends. */
     void send(byte[] block) {
         if (!toSend.offer(block)) {
             end();

@@ -35,7 +35,7 @@ public final class Lock {
         return Client.fencingNumber(sequencer);
     }
 
-    /** Whether it is certain at this moment that the lock is held. Where the lease has ended once, it never is again. */
+    /** Whether it is certain at this moment that the lock is held. If the lease has ended once, it never is again. */
     public boolean isHeld() {
         isOver = isOver || safety < 0 || client.safety() != safety;
         return !isOver;

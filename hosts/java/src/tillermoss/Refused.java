@@ -73,7 +73,7 @@ public final class Refused extends RuntimeException {
         return refusal.word();
     }
 
-    /** Which limit of the server stands behind it, or null. */
+    /** Which limit of the server was met, or null. */
     public String limit() {
         return limit;
     }

@@ -56,7 +56,7 @@ impl fmt::Display for Address {
 }
 
 impl Address {
-    /// The same at the place where a socket listens: its port is known then.
+    /// This address with the place where a socket listens: its port is known then.
     #[must_use]
     pub fn at(&self, place: SocketAddr) -> Address {
         match self {

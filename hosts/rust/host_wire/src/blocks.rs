@@ -60,7 +60,7 @@ impl Blocks {
         Blocks { limit, least: READ_SIZES.0, bytes: Vec::new(), begin: 0, end: 0 }
     }
 
-    /// The same of a stream that carries much: as many bytes are read at once as may be, and room for these is kept.
+    /// As `new`, for a stream that carries much: as many bytes are read at once as may be, and room for these is kept.
     #[must_use]
     pub fn wide(limit: usize) -> Blocks {
         Blocks { least: READ_SIZES.1, ..Blocks::new(limit) }
@@ -75,7 +75,7 @@ impl Blocks {
     ///
     /// # Errors
     ///
-    /// What a read answers: behind `WouldBlock` and `TimedOut` nothing is lost. `InvalidData` for a block above the limit,
+    /// What a read answers: after `WouldBlock` and `TimedOut` nothing is lost. `InvalidData` for a block above the limit,
     /// `UnexpectedEof` where the stream ends within one.
     pub fn next(&mut self, stream: &mut impl Read) -> io::Result<Option<Vec<u8>>> {
         loop {
@@ -94,7 +94,7 @@ impl Blocks {
         }
     }
 
-    /// As `next`, of a stream that is waited for. Where that is given up nothing is lost.
+    /// As `next`, of a stream that is waited for. If that is given up nothing is lost.
     ///
     /// # Errors
     ///
@@ -110,7 +110,7 @@ impl Blocks {
         }
     }
 
-    /// Waits for one read of the stream, for `take`; whether the stream goes on. Where that is given up nothing is lost.
+    /// Waits for one read of the stream, for `take`; whether the stream goes on. If that is given up nothing is lost.
     ///
     /// # Errors
     ///
@@ -133,7 +133,7 @@ impl Blocks {
         }
     }
 
-    /// As `length`, of a stream that is waited for; None at its end. Where that is given up nothing is lost.
+    /// As `length`, of a stream that is waited for; None at its end. If that is given up nothing is lost.
     ///
     /// # Errors
     ///

@@ -50,7 +50,7 @@ impl<'a> Fields<'a> {
         Some(u32::from_be_bytes(*now) as usize)
     }
 
-    /// Nothing stands behind what was read.
+    /// Nothing stands after what was read.
     #[must_use]
     pub fn is_done(&self) -> bool {
         self.0.is_empty()

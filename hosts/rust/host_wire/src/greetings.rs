@@ -4,7 +4,7 @@
 //! hello     = version 00 principal                    a new client, for this principal
 //!           | version 01 principal client token       the client of this number, as its welcome named it
 //! welcome   = version 00 client token                 the connection is bound to this number
-//!           | version 01 reason address               it isn't bound, and is closed; the address, as bytes, stands behind 7 alone
+//!           | version 01 reason address               it isn't bound, and is closed; the address, as bytes, stands after 7 alone
 //! version   = 01
 //! ```
 //!
@@ -78,7 +78,7 @@ pub enum TurnedAway {
     /// As many clients of this principal are connected as the server takes of one.
     #[error("too many clients of this principal")]
     FullForPrincipal = 6,
-    /// The server isn't master: it stands by. The address of the one that is stands behind the reason, where it is known.
+    /// The server isn't master: it stands by. The address of the one that is stands after the reason, if it is known.
     #[error("the server isn't master")]
     NotMaster = 7,
 }
@@ -190,7 +190,7 @@ impl Welcome {
     ///
     /// # Errors
     ///
-    /// Where they are neither.
+    /// If they are neither.
     pub fn read(bytes: &[u8]) -> Result<Result<Welcome, TurnedAway>, Malformed> {
         Welcome::fields(bytes).ok_or(Malformed)
     }

@@ -38,7 +38,7 @@ pub struct Trusted<'a> {
 ///
 /// # Errors
 ///
-/// Where a file can't be read, or doesn't have what it is named for.
+/// If a file can't be read, or doesn't have what it is named for.
 pub fn server_config(certificate: &Path, own_key: &Path, clients: Option<Trusted>) -> io::Result<SslContext> {
     let mut acceptor = SslAcceptor::mozilla_intermediate_v5(SslMethod::tls_server())?;
     show_by(&mut acceptor, certificate, own_key)?;
@@ -73,7 +73,7 @@ impl Certificates {
     ///
     /// # Errors
     ///
-    /// Where no threads can be started.
+    /// If no threads can be started.
     pub fn new(context: SslContext) -> io::Result<Certificates> {
         Ok(Certificates { context: RwLock::new(context), handshakes: Handshakes::new()? })
     }
@@ -87,7 +87,7 @@ impl Certificates {
     ///
     /// # Errors
     ///
-    /// Where the other end goes, or isn't let in.
+    /// If the other end goes, or isn't let in.
     pub async fn greet(&self, stream: TcpStream) -> io::Result<(SslStream<TcpStream>, Option<String>)> {
         stream.set_nodelay(true)?;
         let context = self.context.read().unwrap_or_else(PoisonError::into_inner).clone();
@@ -106,17 +106,17 @@ impl Handshakes {
     ///
     /// # Errors
     ///
-    /// Where they can't be started.
+    /// If they can't be started.
     pub fn new() -> io::Result<Handshakes> {
         let threads = Builder::new_multi_thread().worker_threads(THREADS).thread_name("handshakes").build()?;
         Ok(Handshakes(Some(threads)))
     }
 
-    /// Makes one with who has connected. Where that isn't waited for any longer it is given up.
+    /// Makes one with who has connected. If that isn't waited for any longer it is given up.
     ///
     /// # Errors
     ///
-    /// Where the other end goes, or isn't let in.
+    /// If the other end goes, or isn't let in.
     pub async fn make(&self, context: &SslContext, stream: TcpStream) -> io::Result<SslStream<TcpStream>> {
         let threads = self.0.as_ref().ok_or_else(|| io::Error::other("no handshakes are made any more"))?;
         let mut stream = SslStream::new(Ssl::new(context)?, stream)?;

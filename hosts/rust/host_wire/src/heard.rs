@@ -42,7 +42,7 @@ pub struct Heard<'a> {
     name: Name,
 }
 
-/// The same, as far as a server follows it.
+/// What a block tells, as far as a server follows it.
 #[derive(Clone, Debug, PartialEq, Eq)]
 pub enum Told<'a> {
     /// A line that a step printed.
@@ -75,7 +75,7 @@ pub enum Printed<'a> {
     Gone(&'a str),
     /// A right of this number, for a client to cache a name.
     Granted(u64, u64, &'a str),
-    /// A right ended, since its client let go.
+    /// A right ended, because its client let go.
     Acked(u64),
     /// A right ended with its session.
     Expired(u64),
@@ -140,7 +140,7 @@ impl<'a> Heard<'a> {
         heard(block).map(|(parts, name)| Heard { block, parts, name })
     }
 
-    /// The same, as far as a server follows it.
+    /// What the block tells, as far as a server follows it.
     #[must_use]
     pub fn told(&self) -> Told<'_> {
         let HeardParts { what, fault, is_timed, client, moment, said, .. } = self.parts;

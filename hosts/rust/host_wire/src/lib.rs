@@ -41,5 +41,5 @@ pub use shown::{LockShown, NodeShown, RecoveryShown, SessionShown, Shown, Status
 pub const REQUEST_LIMIT: usize = 1_048_576 - 10;
 
 /// The longest block that a client takes from its server, and a server from its master, in bytes: as many as a length can say,
-/// since a listing grows with its directory. Memory is taken for what came.
+/// because a listing grows with its directory. Memory is taken for what came.
 pub const ANSWER_LIMIT: usize = u32::MAX as usize;

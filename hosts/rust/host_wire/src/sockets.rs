@@ -37,7 +37,7 @@ pub fn not_listening(address: &str, error: &io::Error) -> io::Error {
 ///
 /// # Errors
 ///
-/// Where it can't be made.
+/// If it can't be made.
 pub fn listen_unix(path: &Path, mode: u32) -> io::Result<UnixListener> {
     let at = |error: io::Error| not_listening(&format!("unix:{}", path.display()), &error);
     let is_socket = fs::symlink_metadata(path).is_ok_and(|file| file.file_type().is_socket());
@@ -53,7 +53,7 @@ pub fn listen_unix(path: &Path, mode: u32) -> io::Result<UnixListener> {
 ///
 /// # Errors
 ///
-/// Where the system can't be asked.
+/// If the system can't be asked.
 pub async fn user_name(user: u32) -> io::Result<String> {
     let turn = LOOKUPS.acquire().await.map_err(io::Error::other)?;
     let found = spawn_blocking(move || {

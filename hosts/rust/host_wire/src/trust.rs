@@ -40,7 +40,7 @@ fn read(path: &Path, what: &str) -> io::Result<Vec<u8>> {
 ///
 /// # Errors
 ///
-/// Where it can't be read, or has none.
+/// If it can't be read, or has none.
 pub fn certificates(path: &Path) -> io::Result<Vec<X509>> {
     let found = X509::stack_from_pem(&read(path, "a certificate")?).map_err(|error| fault(format!("{}: {error}", path.display())))?;
     if found.is_empty() { Err(fault(format!("{} has no certificate in PEM", path.display()))) } else { Ok(found) }
@@ -50,7 +50,7 @@ pub fn certificates(path: &Path) -> io::Result<Vec<X509>> {
 ///
 /// # Errors
 ///
-/// Where a file can't be read, or the key isn't that of the certificate.
+/// If a file can't be read, or the key isn't that of the certificate.
 pub fn show_by(context: &mut SslContextBuilder, certificate: &Path, key: &Path) -> io::Result<()> {
     let mut chain = certificates(certificate)?.into_iter();
     // (a key that wants a word is none: nobody is there to be asked for it)
@@ -71,7 +71,7 @@ pub fn show_by(context: &mut SslContextBuilder, certificate: &Path, key: &Path) 
 ///
 /// # Errors
 ///
-/// Where a file can't be read, or has no certificate, or no list.
+/// If a file can't be read, or has no certificate, or no list.
 pub fn trust(context: &mut SslContextBuilder, authorities: &Path, revoked: Option<&Path>) -> io::Result<()> {
     let mut store = X509StoreBuilder::new()?;
     for authority in certificates(authorities)? {

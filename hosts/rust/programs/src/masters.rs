@@ -29,7 +29,7 @@ impl Master {
     ///
     /// # Errors
     ///
-    /// Where it can't be started.
+    /// If it can't be started.
     pub fn start() -> io::Result<Master> {
         let folder = tempfile::tempdir()?;
         let settings = folder.path().join("settings.toml");
@@ -59,7 +59,7 @@ impl Master {
     ///
     /// # Errors
     ///
-    /// Where it is gone.
+    /// If it is gone.
     pub fn again(&mut self) -> io::Result<()> {
         self.say(Frame::Down)?;
         self.say(Frame::Up(NOW))?;
@@ -86,7 +86,7 @@ impl Master {
     ///
     /// # Errors
     ///
-    /// Where they are no message, or it is gone.
+    /// If they are no message, or it is gone.
     pub fn ask(&mut self, now: u64, message: &[u8]) -> io::Result<Vec<(u64, Vec<u8>)>> {
         self.say(Frame::Message(now, message))
     }
@@ -95,7 +95,7 @@ impl Master {
     ///
     /// # Errors
     ///
-    /// Where it is gone.
+    /// If it is gone.
     pub fn tick(&mut self, now: u64) -> io::Result<Vec<(u64, Vec<u8>)>> {
         self.say(Frame::Tick(now))
     }

@@ -53,17 +53,17 @@ pub struct Start {
 ///
 /// # Panics
 ///
-/// Where there is none.
+/// If there is none.
 #[must_use]
 pub fn free() -> SocketAddr {
     TcpListener::bind("127.0.0.1:0").and_then(|listener| listener.local_addr()).expect("a port is free")
 }
 
-/// A program of this workspace: cargo builds it, since its package has a test of it.
+/// A program of this workspace: cargo builds it, because its package has a test of it.
 ///
 /// # Panics
 ///
-/// Where the tests' own program has no folder.
+/// If the tests' own program has no folder.
 #[must_use]
 pub fn program(name: &str) -> PathBuf {
     let own = std::env::current_exe().expect("this program has a path");
@@ -86,7 +86,7 @@ pub fn master_program() -> PathBuf {
 ///
 /// # Panics
 ///
-/// Where it can't be made.
+/// If it can't be made.
 #[must_use]
 pub fn folder(test: &str) -> PathBuf {
     let made = tempfile::Builder::new().prefix(&format!("tillermoss-{test}-")).tempdir();
@@ -97,7 +97,7 @@ pub fn folder(test: &str) -> PathBuf {
 ///
 /// # Panics
 ///
-/// Where they can't be made.
+/// If they can't be made.
 #[must_use]
 pub fn certificates(folder: &Path, principals: &[&str]) -> PathBuf {
     let made = folder.join("certificates");
@@ -111,7 +111,7 @@ pub fn certificates(folder: &Path, principals: &[&str]) -> PathBuf {
 ///
 /// # Panics
 ///
-/// Where it can't be written.
+/// If it can't be written.
 pub fn revoke(certificates: &Path, principals: &[&str]) {
     let script = Path::new(env!("CARGO_MANIFEST_DIR")).join("../../certificates");
     let status = Command::new(script).arg(certificates).arg("--revoke").args(principals).status();
@@ -125,7 +125,7 @@ impl Start {
         Start { words: Vec::new(), store: store.to_owned(), rows: None, log: store.with_added_extension("log"), megabytes: None }
     }
 
-    /// With these words more. Where an address is among them it listens there alone.
+    /// With these words more. If an address is among them it listens there alone.
     #[must_use]
     pub fn with(mut self, words: &[&str]) -> Start {
         self.words.extend(words.iter().map(|word| (*word).to_owned()));
@@ -138,7 +138,7 @@ impl Start {
         self.tls_at("tls:0", certificates)
     }
 
-    /// The same at this address.
+    /// At this address by TLS, with certificates of this folder.
     #[must_use]
     pub fn tls_at(self, address: &str, certificates: &Path) -> Start {
         let file = |name: &str| certificates.join(name).display().to_string();
@@ -157,7 +157,7 @@ impl Start {
     ///
     /// # Panics
     ///
-    /// Where they can't be written beside the store.
+    /// If they can't be written beside the store.
     #[must_use]
     pub fn settings(self, text: &str) -> Start {
         let path = self.store.with_added_extension("toml");
@@ -223,12 +223,12 @@ impl Start {
     ///
     /// # Errors
     ///
-    /// Where it can't be started, or ends first.
+    /// If it can't be started, or ends first.
     pub fn stand_by(&self) -> io::Result<Server> {
         self.start_until("standing by")
     }
 
-    // Starts it, and waits until it has printed this; into a file, since it may print more later.
+    // Starts it, and waits until it has printed this; into a file, because it may print more later.
     fn start_until(&self, wanted: &str) -> io::Result<Server> {
         let log = File::options().create(true).append(true).open(&self.log)?;
         let told = self.log.with_extension("out");
@@ -254,7 +254,7 @@ impl Start {
     ///
     /// # Errors
     ///
-    /// Where it can't be started, or ends first: then what it logged is told.
+    /// If it can't be started, or ends first: then what it logged is told.
     pub fn start(&self) -> io::Result<Server> {
         if self.rows.is_some() {
             return self.start_until("listening ");
@@ -297,12 +297,12 @@ impl Server {
     ///
     /// # Errors
     ///
-    /// Where it can't be started, or ends first.
+    /// If it can't be started, or ends first.
     pub fn start(store: &Path) -> io::Result<Server> {
         Start::new(store).start()
     }
 
-    /// The same, with the settings of a file.
+    /// As `start`, with the settings of a file.
     ///
     /// # Errors
     ///
@@ -316,7 +316,7 @@ impl Server {
     ///
     /// # Panics
     ///
-    /// Where it listens at another.
+    /// If it listens at another.
     #[must_use]
     pub fn place(&self) -> &str {
         self.address.split_once(':').expect("an address has a kind").1
@@ -332,7 +332,7 @@ impl Server {
     ///
     /// # Panics
     ///
-    /// Where that can't be read.
+    /// If that can't be read.
     #[must_use]
     pub fn logged(&self) -> String {
         fs::read_to_string(&self.log).expect("the log can be read")
@@ -354,7 +354,7 @@ impl Server {
     ///
     /// # Errors
     ///
-    /// Where it has none.
+    /// If it has none.
     pub fn fill_disk(&self) -> io::Result<PathBuf> {
         let disk = self.disk.as_ref().ok_or_else(|| io::Error::other("the server has no disk of its own"))?;
         let filler = PathBuf::from(format!("/proc/{}/root{}/filler", self.child.id(), disk.display()));
@@ -380,7 +380,7 @@ impl Server {
     ///
     /// # Errors
     ///
-    /// Where it can't be waited for.
+    /// If it can't be waited for.
     pub fn wait(&mut self) -> io::Result<ExitStatus> {
         self.child.wait()
     }
@@ -389,7 +389,7 @@ impl Server {
     ///
     /// # Errors
     ///
-    /// Where that can't be said.
+    /// If that can't be said.
     pub fn has_ended(&mut self) -> io::Result<Option<ExitStatus>> {
         self.child.try_wait()
     }
@@ -398,7 +398,7 @@ impl Server {
     ///
     /// # Errors
     ///
-    /// Where it can't be killed.
+    /// If it can't be killed.
     pub fn kill(&mut self, kill: Kill) -> io::Result<ExitStatus> {
         match kill {
             Kill::Server => self.child.kill()?,
@@ -411,7 +411,7 @@ impl Server {
     ///
     /// # Errors
     ///
-    /// Where it has none.
+    /// If it has none.
     pub fn kill_master(&self) -> io::Result<()> {
         send(self.master()?, Signal::SIGKILL)
     }
@@ -420,7 +420,7 @@ impl Server {
     ///
     /// # Errors
     ///
-    /// Where it has none.
+    /// If it has none.
     pub fn signal_master(&self, signal: Signal) -> io::Result<()> {
         send(self.master()?, signal)
     }
@@ -429,7 +429,7 @@ impl Server {
     ///
     /// # Errors
     ///
-    /// Where it is gone.
+    /// If it is gone.
     pub fn signal(&self, signal: Signal) -> io::Result<()> {
         send(self.child.id(), signal)
     }
@@ -438,7 +438,7 @@ impl Server {
     ///
     /// # Errors
     ///
-    /// Where it has none.
+    /// If it has none.
     pub fn master(&self) -> io::Result<u32> {
         match masters(self.child.id())[..] {
             [master] => Ok(master),
@@ -450,7 +450,7 @@ impl Server {
     ///
     /// # Errors
     ///
-    /// Where it has none.
+    /// If it has none.
     pub fn kill_guard(&self) -> io::Result<()> {
         match guards(self.child.id())[..] {
             [guard] => send(guard, Signal::SIGKILL),
@@ -500,7 +500,7 @@ impl Drop for Server {
 ///
 /// # Panics
 ///
-/// Where it can't be started.
+/// If it can't be started.
 #[must_use]
 pub fn server_of_its_own() -> Server {
     let folder = tempfile::tempdir().expect("a folder can be made").into_path();

@@ -35,7 +35,7 @@ impl Asker<'_> {
         Waiting::begin(self.reach, &format!("{verb}{names}"))
     }
 
-    /// The same for what this client asks.
+    /// As `wait`, for what this client asks.
     pub fn wait_by(&self, client: &Client) -> Waiting {
         let waiting = self.wait();
         waiting.by(client);

@@ -97,7 +97,7 @@ pub fn tell(words: &Words, name: Option<&str>, fault: &Fault) {
 }
 
 impl Fault {
-    /// The same, met at the operators' address.
+    /// This fault, met at the operators' address.
     pub fn at_operators(self) -> Fault {
         match self {
             Fault::Cell(error) => Fault::Operators(error),

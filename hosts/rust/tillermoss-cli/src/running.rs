@@ -75,7 +75,7 @@ pub enum Until {
     Own,
 }
 
-/// Runs the command to its end, and passes the signals on to it; without a command, waits for a signal. Gives the status. Where it may
+/// Runs the command to its end, and passes the signals on to it; without a command, waits for a signal. Gives the status. If it may
 /// run no longer it is ended.
 pub fn run(client: &Client, command: &Command<'_>, watch: &Watch, signals: &mut Signals) -> Result<u8, Fault> {
     let mut held = Held { client, watch, until: command.until, is_told: false };
@@ -121,7 +121,7 @@ fn follow(mut running: Running, held: &mut Held<'_>, signals: &mut Signals) -> R
         if let Some(over) = held.over() {
             say(&format!("{}: the command gets SIGTERM, and SIGKILL in {} s", over.reason(), held.grace().as_secs()));
             running.end(held.grace())?;
-            say(&format!("{}: the command was ended, since what it held may be another's", over.reason()));
+            say(&format!("{}: the command was ended, because what it held may be another's", over.reason()));
             return Err(Ended::Cell(over));
         }
         thread::sleep(LOOK);
@@ -185,7 +185,7 @@ impl Held<'_> {
     }
 }
 
-/// A command that runs. Where the standard input is no terminal it has a group of processes of its own: all that it started gets the
+/// A command that runs. If the standard input is no terminal it has a group of processes of its own: all that it started gets the
 /// signals. At a terminal it stays in this program's group, which the terminal's keys reach; it gets the signals alone.
 struct Running {
     child: Child,

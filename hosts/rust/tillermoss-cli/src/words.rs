@@ -9,7 +9,7 @@ use std::path::{Path, PathBuf};
 use std::time::Duration;
 use tillermoss::{Admin, Options, own_principal};
 
-/// What stands behind the options and the commands.
+/// What stands after the options and the commands.
 const STATUSES: &str = "\
 A name that begins with / is whole; another is one of the cell: motd is /ls/CELL/motd.
 
@@ -24,7 +24,7 @@ Exit status:
   141  what reads the output has closed it
 A command that ran under lock, elect or register ends with the command's status, 128 and its number where a signal ended it.";
 
-/// What stands behind the options of lock.
+/// What stands after the options of lock.
 const LOCKING: &str = "\
 Where there is no file it is made, and stays. The command has in its environment
   TILLERMOSS_SEQUENCER        the sequencer in hexadecimal, by which others test that the lock is held (tillermoss check)
@@ -115,7 +115,7 @@ impl Target {
         self.admin.clone().or_else(|| is_open().then(|| format!("unix:{OPERATORS}")))
     }
 
-    /// The same, as what it is asked by; None where it isn't known.
+    /// What the operators' address is asked by; None where it isn't known.
     pub fn operators(&self) -> Result<Option<Admin>, Fault> {
         let Some(address) = self.admin() else {
             return Ok(None);
@@ -180,7 +180,7 @@ generation that the content has from then on.")]
     Put(PutWords),
     /// Lists the children of a directory, one a line
     Ls {
-        /// The directory; without it the cell's root. Of several each stands behind its name and a colon
+        /// The directory; without it the cell's root. Of several each stands after its name and a colon
         names: Vec<String>,
         /// Lists what stands in its directories too, by their names from it on
         #[arg(short, long)]

@@ -1,4 +1,4 @@
-//! What a request asks for, by its method, its path and what stands behind a `?`.
+//! What a request asks for, by its method, its path and what stands after a `?`.
 
 use crate::faults::HttpFault;
 use host_wire::is_name;
@@ -100,7 +100,7 @@ fn unescaped(text: &str) -> Result<String, HttpFault> {
     String::from_utf8(bytes).map_err(|_| Refusal::BadName.into())
 }
 
-/// What stands behind the `?` of a request: words, each with a value or without.
+/// What stands after the `?` of a request: words, each with a value or without.
 #[derive(Clone, Debug, Default, PartialEq, Eq)]
 pub struct Query(Vec<(String, Option<String>)>);
 
@@ -112,7 +112,7 @@ impl Query {
         for part in parts {
             let (word, value) = part.split_once('=').map_or((part, None), |(word, value)| (word, Some(value)));
             if !known.contains(&word) || words.iter().any(|(other, _)| other == word) {
-                return Err(HttpFault::BadRequest(format!("{word}: there is no such word behind the ?, or twice")));
+                return Err(HttpFault::BadRequest(format!("{word}: there is no such word after the ?, or twice")));
             }
             words.push((word.to_owned(), value.map(unescaped).transpose()?));
         }

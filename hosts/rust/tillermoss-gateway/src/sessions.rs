@@ -92,7 +92,7 @@ impl HttpSession {
         self.with(|client| if client.is_lost() { Err(Refusal::SessionExpired.into()) } else { Ok(client.lease_left()) })
     }
 
-    // The same on a thread that may wait for the master.
+    // Asks on a thread that may wait for the master.
     async fn ask<T: Send + 'static>(
         self: &Arc<Self>,
         desk: &Desk,
@@ -107,7 +107,7 @@ impl HttpSession {
     }
 
     /// Takes a lock, and waits for it where that is asked for; the bytes of its sequencer. One that it holds so already it goes on
-    /// holding. (Where nobody waits for the answer any more, what is open then is found by the next request for the lock.)
+    /// holding. (If nobody waits for the answer any more, what is open then is found by the next request for the lock.)
     pub async fn acquire(self: &Arc<Self>, desk: &Desk, wanted: &Wanted) -> Result<Vec<u8>, HttpFault> {
         let mut locks = self.turn()?;
         if let Some(found) = locks.get(&wanted.name).copied() {

@@ -93,7 +93,7 @@ impl Watches {
         self.all().get(name).map(|told| (told.clone(), told.subscribe()))
     }
 
-    // Where nobody watches the name any more it is forgotten.
+    // If nobody watches the name any more it is forgotten.
     fn forget(&self, name: &str, told: &Arc<watch::Sender<LastTold>>, is_over: bool) -> bool {
         let mut all = self.all();
         let is_left = is_over || told.receiver_count() == 0;

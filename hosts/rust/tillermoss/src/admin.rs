@@ -48,7 +48,7 @@ fn io_error(error: hyper::Error) -> Error {
 }
 
 impl Admin {
-    /// The one at this address, `unix:PATH`, `tls:HOST:PORT` or `tcp:HOST:PORT`, as `tillermossd` prints it behind `admin`.
+    /// The one at this address, `unix:PATH`, `tls:HOST:PORT` or `tcp:HOST:PORT`, as `tillermossd` prints it after `admin`.
     ///
     /// ```
     /// # use tillermoss::Admin;
@@ -58,7 +58,7 @@ impl Admin {
     ///
     /// # Errors
     ///
-    /// Where that is no such address. Nothing is connected yet.
+    /// If that is no such address. Nothing is connected yet.
     pub fn new(address: &str) -> Result<Admin, Error> {
         match address.parse() {
             Ok(address) => Ok(Admin { address, token: None, connector: None }),
@@ -66,7 +66,7 @@ impl Admin {
         }
     }
 
-    /// The same at `tls:`, where the server's certificate is signed by one of the authorities of this file; and with the files of a
+    /// This one for `tls:`, where the server's certificate is signed by one of the authorities of this file; and with the files of a
     /// certificate and its key, by which this end shows who it is (`tillermossd --operator`). All are in PEM.
     ///
     /// ```no_run
@@ -79,12 +79,12 @@ impl Admin {
     ///
     /// # Errors
     ///
-    /// Where a file can't be read, or doesn't have what it is named for.
+    /// If a file can't be read, or doesn't have what it is named for.
     pub fn with_certificates(self, authority: &Path, own: Option<(&Path, &Path)>) -> Result<Admin, Error> {
         Ok(Admin { connector: Some(connector(authority, own)?), ..self })
     }
 
-    /// The same, which shows this token: a server beyond this machine wants it (`tillermossd --admin-token`).
+    /// This one, which shows this token: a server beyond this machine wants it (`tillermossd --admin-token`).
     ///
     /// ```
     /// # use tillermoss::Admin;
@@ -109,7 +109,7 @@ impl Admin {
     ///
     /// # Errors
     ///
-    /// Where it can't be reached, or doesn't let this operator in.
+    /// If it can't be reached, or doesn't let this operator in.
     pub fn status(&self) -> Result<Status, Error> {
         self.get("/status")
     }
@@ -168,7 +168,7 @@ impl Admin {
         self.get("/all")
     }
 
-    /// The same of names, principals and clients in which a text stands, of the characters that names have: of a cell that has more than
+    /// All of the names, principals and clients in which a text stands, of the characters that names have: of a cell that has more than
     /// a page shows.
     ///
     /// ```
@@ -203,7 +203,7 @@ impl Admin {
     ///
     /// # Errors
     ///
-    /// Where the file is there, or can't be written, or the server doesn't give a copy. Then there is no file.
+    /// If the file is there, or can't be written, or the server doesn't give a copy. Then there is no file.
     pub fn backup(&self, file: &Path) -> Result<u64, Error> {
         let mut out = File::options().write(true).create_new(true).mode(0o600).open(file)?;
         let taken = self.run(async {
@@ -240,12 +240,12 @@ impl Admin {
     ///
     /// # Errors
     ///
-    /// Where there is no such client, or the server ends none.
+    /// If there is no such client, or the server ends none.
     pub fn end(&self, client: u64) -> Result<Vec<u64>, Error> {
         self.post(&format!("/end/client/{client}"))
     }
 
-    /// The same of all clients of a principal; which these are.
+    /// Ends all clients of a principal; which these are.
     ///
     /// ```
     /// # let server = programs::server_of_its_own();

@@ -30,7 +30,7 @@ impl Bare {
     ///
     /// # Errors
     ///
-    /// Where no client has such a number, or the text is no principal.
+    /// If no client has such a number, or the text is no principal.
     pub fn new(number: u64, principal: &str) -> Result<Bare, Error> {
         match Library::open(number, principal) {
             Ok(library) => Ok(Bare { number, library }),

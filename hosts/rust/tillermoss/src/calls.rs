@@ -116,7 +116,7 @@ impl Opening {
         self.create.as_ref().and_then(|create| create.acl.as_ref())
     }
 
-    // The same of a node that is there.
+    // This opening without what is made: of a node that is there.
     pub(crate) fn plain(&self) -> Opening {
         Opening { lock_delay: self.lock_delay, events: self.events, ..Opening::new(&self.name, self.mode) }
     }

@@ -111,7 +111,7 @@ pub struct Watch {
 /// A client of a cell (Burrows 2006, section 2): a session that a thread keeps, and a cache that answers what the master would.
 ///
 /// One call at a time waits for the master, others after it; what the cache answers doesn't wait. A client that is dropped ends its
-/// session as [`leave`](Client::leave) does, and waits for that for 2 s at most. Where no master answers within them, or one of its
+/// session as [`leave`](Client::leave) does, and waits for that for 2 s at most. If no master answers within them, or one of its
 /// calls that was poisoned waits still, the session ends when its lease has run out, as that of a program that is killed.
 ///
 /// ```
@@ -149,7 +149,7 @@ impl Client {
     ///
     /// # Errors
     ///
-    /// Where the server can't be reached, turns the client away or gives it no session, and where none began in time.
+    /// If the server can't be reached, turns the client away or gives it no session, or if none began in time.
     pub fn connect(options: &Options) -> Result<Client, Error> {
         let principal = options.principal.clone();
         let reach = Reach::new(&options.server, options.certificate.as_ref(), options.key.as_ref(), options.authority.as_ref())?;
@@ -284,7 +284,7 @@ impl Client {
         }
     }
 
-    // None where the session is over; or the refusal after which that may be asked for again. Where the reply got lost the next answer
+    // None where the session is over; or the refusal after which that may be asked for again. If the reply got lost the next answer
     // is that there is no session.
     fn parted(&self, reply: &Receiver<Result<Reply, Error>>, until: Instant) -> Result<Option<Refusal>, Error> {
         match reply.recv_timeout(until.saturating_duration_since(Instant::now())) {
@@ -379,7 +379,7 @@ impl Client {
         }
     }
 
-    /// Opens a node, as it is asked for. Where it may be made it is opened plainly first, so that one which is there waits for nobody's
+    /// Opens a node, as it is asked for. If it may be made it is opened plainly first, so that one which is there waits for nobody's
     /// cache.
     ///
     /// ```
@@ -480,7 +480,7 @@ impl Client {
         Ok(Watch { handle, events: told })
     }
 
-    // The same, for a task that waits for the events.
+    // As `watch_with`, for a task that waits for the events.
     pub(crate) fn watch_from_task(&self, opening: &Opening) -> Result<(Handle, UnboundedReceiver<Event>), Error> {
         let (watcher, told) = unbounded_channel();
         let handle = self.open_for(opening, Some(&Teller::Task(watcher)))?;

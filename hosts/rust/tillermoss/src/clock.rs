@@ -3,7 +3,7 @@
 use nix::time::{ClockId, clock_gettime};
 
 /// The present moment, in milliseconds since the machine was started, by the clock that goes on while the machine sleeps: by one
-/// that stands still then a client would trust a lease that has ended. Where there is no such clock it is the end of all moments,
+/// that stands still then a client would trust a lease that has ended. If there is no such clock it is the end of all moments,
 /// at which no lease runs.
 pub fn now() -> u64 {
     let Ok(time) = clock_gettime(ClockId::CLOCK_BOOTTIME) else {

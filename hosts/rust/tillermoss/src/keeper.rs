@@ -43,7 +43,7 @@ pub struct Connection {
     pub welcome: Welcome,
 }
 
-/// Connects to the server that is tried now, and greets it. Where it can't be reached or turns the client away, another is tried next:
+/// Connects to the server that is tried now, and greets it. If it can't be reached or turns the client away, another is tried next:
 /// the master, where it is told. That a number was given to another client counts once all servers have said so.
 pub async fn greet(reach: &Reach, hello: &Hello) -> Result<Connection, Error> {
     let mut master = None;
@@ -61,7 +61,7 @@ pub async fn greet(reach: &Reach, hello: &Hello) -> Result<Connection, Error> {
     greeted
 }
 
-/// The same, of several servers until one is master, or so long; also of one that stands by.
+/// As `greet`, of several servers until one is master, or so long; also of one that stands by.
 pub async fn greet_any(reach: &Reach, hello: &Hello, patience: Duration) -> Result<Connection, Error> {
     let begun = Instant::now();
     let mut pause = PAUSES.0;
@@ -146,7 +146,7 @@ impl Schedule {
     }
 
     // One is sent now, under a lease until that moment. An answer to it counts only until the next one is sent: so that goes when an
-    // answer has come, else when the lease has ended; and once in the middle, where the master keeps a Beat for long, since what a clock
+    // answer has come, else when the lease has ended; and once in the middle, where the master keeps a Beat for long, because what a clock
     // may lose meanwhile is taken off the lease.
     fn sent(&self, now: u64, (number, leased_until): (Option<u64>, u64)) -> Schedule {
         let (first, until, pause) =

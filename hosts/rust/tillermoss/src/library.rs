@@ -47,7 +47,7 @@ pub struct LineNumbers {
     pub event: u64,
 }
 
-/// The same, with what belongs to it; what doesn't is empty.
+/// A line of the last step, with what belongs to it; what doesn't is empty.
 #[derive(Clone, Debug, Default)]
 pub struct ToldLine {
     pub numbers: LineNumbers,
@@ -497,7 +497,7 @@ mod tests {
         Opening { create: Some(create), ..Opening::new(name, BOTH.and(Mode::CHANGE)) }
     }
 
-    // The same with handle 1 on /ls/c/f.
+    // A master and a client with handle 1 on /ls/c/f.
     fn opened() -> (Master, Library) {
         let (mut master, mut library) = started();
         let told = call(&mut master, &mut library, CLIENT, &Call::Open(&making("/ls/c/f", file(b"hello"))));
@@ -505,7 +505,7 @@ mod tests {
         (master, library)
     }
 
-    // The same, and its content cached.
+    // A master and a client with handle 1 on /ls/c/f, and its content cached.
     fn cached() -> (Master, Library) {
         let (mut master, mut library) = opened();
         assert_eq!(library.read(1100, 1, &mut Vec::new()), StepStatus::Send);

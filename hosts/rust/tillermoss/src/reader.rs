@@ -124,7 +124,7 @@ struct KeptName {
 /// the library: so long [`hit`](Reader::hit) takes no lock of the client's. A step is counted before its message goes out: so no change
 /// is made while a hit still answers what was there before.
 ///
-/// A name stays open for 10 s at most: who may no longer read it is refused within that time. An ephemeral node isn't kept open, since
+/// A name stays open for 10 s at most: who may no longer read it is refused within that time. An ephemeral node isn't kept open, because
 /// that would keep it there: each read of it asks the master.
 ///
 /// ```
@@ -402,7 +402,7 @@ impl KeptName {
         last.page.as_ref().filter(|_| holds).map(|page| Sight { page: page.clone(), lease_left: last.mark.left(now) })
     }
 
-    // The same, after a step of the client after which its cache still holds the name.
+    // What was published last, after a step of the client after which its cache still holds the name.
     fn confirmed(&self, client: &Client, open: &Open) -> Option<Sight> {
         let (mark, now) = client.holds(open.handle).filter(|(_, now)| *now < open.until)?;
         let mut last = self.last.write().unwrap_or_else(PoisonError::into_inner);

@@ -86,7 +86,7 @@ fn is_there(words: &[OsString], name: &str) -> bool {
     words.iter().any(|word| of_option(word, name).is_some())
 }
 
-// What stands behind the `=` of an option of this name; empty where nothing does.
+// What stands after the `=` of an option of this name; empty if nothing does.
 fn of_option<'a>(word: &'a OsStr, name: &str) -> Option<&'a str> {
     let rest = word.to_str()?.strip_prefix("--")?.strip_prefix(name)?;
     if rest.is_empty() { Some(rest) } else { rest.strip_prefix('=') }
@@ -186,7 +186,7 @@ mod tests {
         for key in arguments().map(|arg| arg.get_id().as_str().to_owned()).filter(|key| key != "help" && key != "version") {
             assert!(lines.iter().any(|line| line.starts_with(&format!("{key} = "))), "{key}");
         }
-        // (each key that stands behind a # is one, by its table)
+        // (each key that stands after a # is one, by its table)
         let (mut table, mut whole) = (String::new(), String::new());
         for line in lines {
             let is_table = line.starts_with('[');

@@ -121,7 +121,7 @@ fn limits(settings: &Settings) -> Limits {
     limits
 }
 
-// Stands by until it is master, and serves then. Where the mastership has ended it stands by anew, as a new process.
+// Stands by until it is master, and serves then. If the mastership has ended it stands by anew, as a new process.
 fn serve_rows(place: Place, options: ServerOptions) -> Result<()> {
     // (so who stands by for nothing learns it at once)
     Settings::read(options.settings.as_deref(), true)?;

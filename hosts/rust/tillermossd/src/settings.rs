@@ -44,7 +44,7 @@ pub struct Limits {
     pub bytes: u64,
     /// Locks that one session holds or waits for; where nothing is said, it hangs on where the rows stand.
     pub locks: Option<u64>,
-    /// Bytes of the contents that a principal wrote, since the server began.
+    /// Bytes of the contents that a principal wrote since the server began.
     pub bytes_of_a_principal: u64,
 }
 
@@ -87,7 +87,7 @@ struct OfTheCell {
 const OTHERS: usize = 128;
 
 impl Limits {
-    /// The same, in a process that may have so many descriptors: each connection is one. Few of them are kept for greetings.
+    /// These limits in a process that may have so many descriptors: each connection is one. Few of them are kept for greetings.
     #[must_use]
     pub fn within(self, descriptors: u64) -> Limits {
         let descriptors = usize::try_from(descriptors).unwrap_or(usize::MAX).saturating_sub(OTHERS);
@@ -95,7 +95,7 @@ impl Limits {
         Limits { greetings, connections: self.connections.min(descriptors - greetings), ..self }
     }
 
-    /// The same, with the limits of the cell that its master was started with; and whether these were others.
+    /// These limits, with those of the cell that its master was started with; and whether these were others.
     #[must_use]
     pub fn beside(self, present: &Limits) -> (Limits, bool) {
         let of_the_cell = |limits: &Limits| (limits.nodes, limits.bytes, limits.locks);
@@ -187,7 +187,7 @@ impl Settings {
         settings.with_context(|| format!("the settings of {}", path.display()))
     }
 
-    // The same, where they fit to where the rows stand.
+    // These settings, if they fit to where the rows stand.
     fn fitting(self, is_over_etcd: bool) -> Result<Settings> {
         let (locks, most) = (self.limits.locks(is_over_etcd), MOST_LOCKS_OVER_ETCD);
         if is_over_etcd && locks > most {
@@ -231,7 +231,7 @@ impl Settings {
         Ok(principals.into_iter().filter(|principal| !present.contains(&principal.as_str())).collect())
     }
 
-    /// The same with a secret of 32 random bytes, where none is said.
+    /// These settings, with a secret of 32 random bytes if none is said.
     #[must_use]
     pub fn with_secret(mut self) -> Settings {
         self.cell.entry(SECRET).or_insert_with(|| hex::encode(rand::random::<[u8; 32]>()).into());

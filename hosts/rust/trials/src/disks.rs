@@ -69,7 +69,7 @@ fn write_again(guests: &[CachingClient], begun: Instant) -> Result<Duration, Err
 ///
 /// # Errors
 ///
-/// Where the server can't be started, the disk can't be filled, or a client is refused.
+/// If the server can't be started, the disk can't be filled, or a client is refused.
 pub fn fill(megabytes: u32, lasting: Duration, clients: usize, writers: usize) -> Result<Filled, Error> {
     let folder = folder("filled");
     let disk = folder.join("disk");

@@ -58,7 +58,7 @@ impl Etcd {
     ///
     /// # Errors
     ///
-    /// Where it can't be started: Debian's package is etcd-server.
+    /// If it can't be started: Debian's package is etcd-server.
     pub fn start(options: &[&str]) -> io::Result<Etcd> {
         Etcd::of(&[Places::new(None)?], options)
     }
@@ -132,7 +132,7 @@ impl Etcd {
         Start::new(&self.path(name)).rows(&rows(address)).with(&[&format!("tcp:{}", free())])
     }
 
-    /// The same, which reaches all members where they are found.
+    /// As `server`, which reaches all members where they are found.
     #[must_use]
     pub fn server_of_all(&self, name: &str) -> Start {
         Start::new(&self.path(name)).rows(&rows_of(&self.addresses)).with(&[&format!("tcp:{}", free())])
@@ -142,7 +142,7 @@ impl Etcd {
     ///
     /// # Errors
     ///
-    /// Where it isn't reached, or refuses.
+    /// If it isn't reached, or refuses.
     pub fn ask(&self, path: &str, asked: &Value) -> io::Result<Value> {
         let told = ureq::post(&format!("http://{}/v3/{path}", self.address)).timeout(ANSWERING).send_string(&asked.to_string());
         Ok(serde_json::from_str(&told.map_err(io::Error::other)?.into_string()?)?)
@@ -152,7 +152,7 @@ impl Etcd {
     ///
     /// # Errors
     ///
-    /// Where it isn't reached.
+    /// If it isn't reached.
     pub fn get(&self, key: &str) -> io::Result<Option<String>> {
         let told = self.ask("kv/range", &json!({ "key": base64::encode(key) }))?;
         let value = told.pointer("/kvs/0/value").and_then(Value::as_str).map(base64::decode).transpose().map_err(io::Error::other)?;
@@ -163,7 +163,7 @@ impl Etcd {
     ///
     /// # Errors
     ///
-    /// Where one is gone.
+    /// If one is gone.
     pub fn signal(&self, signal: Signal) -> io::Result<()> {
         self.members.iter().try_for_each(|member| Ok(kill(Pid::from_raw(member.id().cast_signed()), signal)?))
     }
@@ -172,7 +172,7 @@ impl Etcd {
     ///
     /// # Errors
     ///
-    /// Where it refuses them.
+    /// If it refuses them.
     pub fn put_files(&self, count: u64) -> io::Result<()> {
         let meta = self.get("c/meta")?.ok_or_else(|| io::Error::other("there is no cell"))?;
         let mut meta: Value = serde_json::from_str(&meta)?;

@@ -97,7 +97,7 @@ pub(crate) fn come_by(options: &Options, clients: usize) -> Result<Vec<CachingCl
 ///
 /// # Errors
 ///
-/// Where the server can't be started, or a client is refused.
+/// If the server can't be started, or a client is refused.
 pub fn fail_over(clients: usize, one_way: Duration, looked_at: Duration) -> Result<Noticed, Error> {
     let folder = folder("fail-over");
     let mut server = Start::new(&folder.join("store.db")).start()?;
@@ -164,7 +164,7 @@ fn wait_for_master(etcd: &Etcd, server: &Server, since: Instant) -> io::Result<D
 ///
 /// # Errors
 ///
-/// Where etcd or a server can't be started, or a client is refused.
+/// If etcd or a server can't be started, or a client is refused.
 pub fn fail_over_to_one_that_stands_by(files: u64, clients: usize, going: Going, looked_at: Duration) -> Result<Noticed, Error> {
     let etcd = Etcd::with_cell(&[])?;
     etcd.put_files(files)?;
@@ -197,7 +197,7 @@ pub fn fail_over_to_one_that_stands_by(files: u64, clients: usize, going: Going,
 /// # Errors
 ///
 /// As `fail_over`.
-pub fn start_behind_clients_that_left(clients: usize) -> Result<Duration, Error> {
+pub fn start_after_clients_that_left(clients: usize) -> Result<Duration, Error> {
     let folder = folder("left");
     let mut server = Start::new(&folder.join("store.db")).start()?;
     for guest in come(&server.address, clients)? {
@@ -263,7 +263,7 @@ pub fn write_beside_one_that_keeps(lease: u64) -> Result<Duration, Error> {
     write_beside_one_that_cached(lease, Ok)
 }
 
-/// The same for one that doesn't beat, and sends Starts of its session, which lives.
+/// As `write_beside_one_that_keeps`, for one that doesn't beat, and sends Starts of its session, which lives.
 ///
 /// # Errors
 ///
@@ -284,7 +284,7 @@ pub fn write_beside_one_that_starts(lease: u64) -> Result<Duration, Error> {
 ///
 /// As `fail_over`.
 pub fn write_beside_one_that_stays_behind(lease: u64) -> Result<Duration, Error> {
-    let folder = folder("behind");
+    let folder = folder("late");
     let start = Start::new(&folder.join("store.db")).settings(&format!("lease = {lease}\n"));
     let mut server = start.start()?;
     let writer = Client::connect(&Options { patience: PATIENCE, ..Options::new(&server.address, "ann") })?;

@@ -49,16 +49,16 @@ impl Lane {
 ///
 /// # Errors
 ///
-/// Where it can't listen.
+/// If it can't listen.
 pub fn far_from(server: SocketAddr, one_way: Duration) -> io::Result<SocketAddr> {
     over(server, Network { one_way, rate: None })
 }
 
-/// The same over a network that also has a rate.
+/// As `far_from`, over a network that also has a rate.
 ///
 /// # Errors
 ///
-/// Where it can't listen.
+/// If it can't listen.
 pub fn over(server: SocketAddr, network: Network) -> io::Result<SocketAddr> {
     let listener = TcpListener::bind("127.0.0.1:0")?;
     let address = listener.local_addr()?;

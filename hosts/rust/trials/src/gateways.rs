@@ -33,7 +33,7 @@ impl GatewayProcess {
     ///
     /// # Errors
     ///
-    /// Where it can't be started, or ends first: then what it logged is told.
+    /// If it can't be started, or ends first: then what it logged is told.
     pub fn start(folder: &Path, words: &[&str]) -> io::Result<GatewayProcess> {
         let log = folder.join("gateway.log");
         let out = File::options().create(true).append(true).open(&log)?;
@@ -53,7 +53,7 @@ impl GatewayProcess {
     ///
     /// # Panics
     ///
-    /// Where it has no kind.
+    /// If it has no kind.
     #[must_use]
     pub fn place(&self) -> &str {
         self.address.split_once(':').expect("an address has a kind").1
@@ -63,7 +63,7 @@ impl GatewayProcess {
     ///
     /// # Panics
     ///
-    /// Where that can't be read.
+    /// If that can't be read.
     #[must_use]
     pub fn logged(&self) -> String {
         fs::read_to_string(&self.log).expect("the log can be read")
@@ -73,7 +73,7 @@ impl GatewayProcess {
     ///
     /// # Errors
     ///
-    /// Where it is gone.
+    /// If it is gone.
     pub fn signal(&self, signal: Signal) -> io::Result<()> {
         Ok(kill(Pid::from_raw(self.child.id().cast_signed()), signal)?)
     }
@@ -82,7 +82,7 @@ impl GatewayProcess {
     ///
     /// # Errors
     ///
-    /// Where it is gone.
+    /// If it is gone.
     pub fn end(&mut self) -> io::Result<ExitStatus> {
         self.signal(Signal::SIGTERM)?;
         self.child.wait()
@@ -101,7 +101,7 @@ impl Drop for GatewayProcess {
 ///
 /// # Panics
 ///
-/// Where there is no curl.
+/// If there is no curl.
 #[must_use]
 pub fn curl(words: &[&str]) -> Answered {
     let told = Command::new("curl").args(["-s", "-i", "--max-time", "30"]).args(words).output().expect("curl is there");

@@ -2,10 +2,10 @@
 //!
 //! Each write of a file has a value of its own. A value was there from a moment between the beginning and the end of its write up to
 //! such a moment of the next write. So each read returns what was there at some moment between its beginning and its end exactly
-//! where the writes have such an order; and by Gibbons and Korach (1997, "Testing shared memories", section 4) that can be seen
+//! if the writes have such an order; and by Gibbons and Korach (1997, "Testing shared memories", section 4) that can be seen
 //! from the zones. The zone of a value lies between the earliest end and the latest beginning of all that wrote and read it. It is a
 //! forward zone where that end is before that beginning: then the value was there all the time between. Else it is a backward
-//! zone: the value was there at some moment in it. There is such an order exactly where no read ends before the write of its value
+//! zone: the value was there at some moment in it. There is such an order exactly if no read ends before the write of its value
 //! begins, no two forward zones overlap, and no backward zone lies within a forward one.
 
 use std::collections::BTreeMap;
@@ -152,7 +152,7 @@ mod tests {
             ("first the old, then the new", &two, &[read(1, 11, 12), read(2, 13, 14)], true),
             ("first the new, then the old", &two, &[read(2, 11, 12), read(1, 13, 14)], false),
             ("both in two reads that overlap", &two, &[read(2, 11, 14), read(1, 12, 15)], true),
-            ("the old value behind the write", &two, &[read(1, 21, 22)], false),
+            ("the old value after the write", &two, &[read(1, 21, 22)], false),
             ("the new value before the write", &two, &[read(2, 2, 9)], false),
             ("a value that nobody wrote", &two, &[read(3, 2, 3)], false),
             ("a lost write that was done", &[write(1, 0, 1), lost(2, 10)], &[read(1, 11, 12), read(2, 99, 100)], true),

@@ -106,7 +106,7 @@ impl Shared {
     }
 }
 
-// The same request.
+// This request once more.
 fn again(request: &Request<()>) -> Carried<Request<()>> {
     let mut same = Request::post(request.uri().clone()).body(())?;
     same.headers_mut().clone_from(request.headers());
@@ -122,7 +122,7 @@ impl Holder {
     ///
     /// # Errors
     ///
-    /// Where it can't listen.
+    /// If it can't listen.
     pub fn start(service: SocketAddr, key: &str) -> io::Result<Holder> {
         let listener = StdTcpListener::bind("127.0.0.1:0")?;
         listener.set_nonblocking(true)?;
@@ -166,7 +166,7 @@ impl Holder {
     ///
     /// # Errors
     ///
-    /// Where it holds none, or etcd isn't reached.
+    /// If it holds none, or etcd isn't reached.
     pub fn let_through(&self) -> io::Result<bool> {
         let State { first, waiting, .. } = std::mem::take(&mut *self.shared.state());
         let (request, message) = first.ok_or_else(|| io::Error::other("nothing is held"))?;

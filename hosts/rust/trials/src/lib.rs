@@ -26,7 +26,7 @@ use programs as servers;
 pub use disks::{Filled, fill};
 pub use etcd::{Etcd, rows};
 pub use fail_overs::{
-    Going, Noticed, fail_over, fail_over_to_one_that_stands_by, start_behind_clients_that_left, write_beside_one_that_keeps,
+    Going, Noticed, fail_over, fail_over_to_one_that_stands_by, start_after_clients_that_left, write_beside_one_that_keeps,
     write_beside_one_that_starts, write_beside_one_that_stays_behind,
 };
 pub use far::{Network, far_from};

@@ -23,7 +23,7 @@ fn serve(master: &mut Master, client: &mut Bare, message: Option<Vec<u8>>) -> io
 ///
 /// # Errors
 ///
-/// Where there is no such client, or the master is gone.
+/// If there is no such client, or the master is gone.
 pub fn client_of(master: &mut Master, number: u64, principal: &str) -> Result<Bare, Error> {
     let mut client = Bare::new(number, principal)?;
     let start = client.beat(NOW);

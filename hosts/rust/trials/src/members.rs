@@ -36,7 +36,7 @@ impl Member {
     ///
     /// # Errors
     ///
-    /// Where the program `etcd` isn't there, or doesn't come up.
+    /// If the program `etcd` isn't there, or doesn't come up.
     pub fn start(folder: &Path) -> io::Result<Member> {
         let (place, peer) = (free(), free());
         let (client, peer) = (format!("http://{place}"), format!("http://{peer}"));
@@ -72,7 +72,7 @@ impl Member {
     ///
     /// # Errors
     ///
-    /// Where that fails, as where there is one.
+    /// If that fails, as where there is one.
     pub fn make(&self, cell: &str) -> io::Result<()> {
         let store = self.folder.join(format!("{cell}.db")).display().to_string();
         run(&master_program(), &["run", "--store", &store])?;
@@ -89,7 +89,7 @@ impl Member {
     ///
     /// # Errors
     ///
-    /// Where it is gone.
+    /// If it is gone.
     pub fn hang<T>(&self, during: impl FnOnce() -> T) -> io::Result<T> {
         let process = Pid::from_raw(self.child.id().cast_signed());
         kill(process, Signal::SIGSTOP)?;

@@ -20,7 +20,7 @@ impl Plain {
     ///
     /// # Errors
     ///
-    /// Where it can't be connected.
+    /// If it can't be connected.
     pub fn connect(place: &str) -> io::Result<Plain> {
         let stream = TcpStream::connect(place)?;
         stream.set_read_timeout(Some(Duration::from_secs(20)))?;
@@ -43,7 +43,7 @@ impl Plain {
     ///
     /// # Errors
     ///
-    /// Where it can't be connected, or the server answers nothing.
+    /// If it can't be connected, or the server answers nothing.
     pub fn greet(place: &str, hello: &Hello) -> io::Result<(Plain, Result<Welcome, TurnedAway>)> {
         let mut connection = Plain::new(place, &hello.write())?;
         let answer = connection.next_block().ok_or_else(|| io::Error::from(io::ErrorKind::UnexpectedEof))?;
@@ -73,7 +73,7 @@ impl Plain {
     ///
     /// # Errors
     ///
-    /// Where the connection is gone.
+    /// If the connection is gone.
     pub fn send(&mut self, block: &[u8]) -> io::Result<()> {
         write_block(&mut self.stream, block)
     }
@@ -82,7 +82,7 @@ impl Plain {
     ///
     /// # Errors
     ///
-    /// Where the connection is gone.
+    /// If the connection is gone.
     pub fn send_bytes(&mut self, bytes: &[u8]) -> io::Result<()> {
         self.stream.write_all(bytes)
     }
@@ -162,7 +162,7 @@ impl Talker {
         self.told(message).map(|(answer, _)| answer)
     }
 
-    // The same, with the handle that was opened.
+    // As `ask`, with the handle that was opened.
     fn told(&mut self, message: Option<Vec<u8>>) -> Option<(MasterAnswer, Option<u64>)> {
         let message = message?;
         let number = Asked::read(&message)?.number();
@@ -207,7 +207,7 @@ pub fn answer(connection: &mut Plain) -> Option<MasterAnswer> {
 ///
 /// # Panics
 ///
-/// Where there is no such client.
+/// If there is no such client.
 #[must_use]
 pub fn start(client: u64, principal: &str) -> Vec<u8> {
     Bare::new(client, principal).ok().and_then(|mut client| client.beat(NOW)).expect("a client begins by a Start")

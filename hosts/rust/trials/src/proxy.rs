@@ -54,7 +54,7 @@ impl Proxy {
     ///
     /// # Errors
     ///
-    /// Where it can't listen.
+    /// If it can't listen.
     pub fn start(server: SocketAddr, seed: u64) -> io::Result<Proxy> {
         let listener = TcpListener::bind("127.0.0.1:0")?;
         let shared = Arc::new(Shared { server: Mutex::new(server), counts: Counts::default(), seed });

@@ -7,7 +7,7 @@ use std::thread;
 use std::time::Duration;
 
 /// How long after what was held back the end of its connection comes: what was asked is done by then.
-const BEHIND: Duration = Duration::from_millis(500);
+const END_AFTER: Duration = Duration::from_millis(500);
 
 /// What gets through.
 #[derive(Clone, Copy, Debug, PartialEq, Eq)]
@@ -55,7 +55,7 @@ impl Relay {
     ///
     /// # Errors
     ///
-    /// Where it can't listen.
+    /// If it can't listen.
     pub fn start(service: SocketAddr) -> io::Result<Relay> {
         let listener = TcpListener::bind("127.0.0.1:0")?;
         let gate = Arc::new(Gate { passing: Mutex::new(Passing::All), changed: Condvar::new() });
@@ -107,7 +107,7 @@ fn pump(mut from: &TcpStream, mut to: &TcpStream, is_question: bool, gate: &Gate
         has_waited |= gate.pass(is_question);
         if count == 0 {
             if has_waited {
-                thread::sleep(BEHIND);
+                thread::sleep(END_AFTER);
             }
             return Ok(());
         }

@@ -95,7 +95,7 @@ fn start(folder: &Path, name: &str, certificates: Option<&Path>) -> Start {
 ///
 /// # Errors
 ///
-/// Where the cell doesn't come up, or a client isn't let in.
+/// If the cell doesn't come up, or a client isn't let in.
 pub fn stop_for(kind: Kind, member: Option<&Member>, what: Stopped, lasting: Duration) -> Result<Noticed, Error> {
     let name = format!("{what:?}-{}", lasting.as_secs()).to_lowercase();
     let cell = Cell::start(kind, member, &name)?;

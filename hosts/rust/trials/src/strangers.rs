@@ -22,7 +22,7 @@ use std::time::Duration;
 ///
 /// # Errors
 ///
-/// Where the authority can't be read, OpenSSL makes no such certificate, or it can't be written.
+/// If the authority can't be read, OpenSSL makes no such certificate, or it can't be written.
 pub fn expired(certificates: &Path, subject: &str) -> io::Result<()> {
     let above = X509::from_pem(&fs::read(certificates.join("ca.pem"))?)?;
     let (by, own) = (PKey::private_key_from_pem(&fs::read(certificates.join("ca.key"))?)?, key()?);
@@ -85,7 +85,7 @@ impl Stranger {
     ///
     /// # Errors
     ///
-    /// Where OpenSSL makes no such certificates.
+    /// If OpenSSL makes no such certificates.
     pub fn new(subject: &str, authority: &str, count: usize) -> Result<Stranger, ErrorStack> {
         let above = name(authority)?;
         let keys = (0..count).map(|_| key()).collect::<Result<Vec<_>, _>>()?;
@@ -99,7 +99,7 @@ impl Stranger {
     ///
     /// # Errors
     ///
-    /// Where the authority can't be read, or OpenSSL makes no such certificates.
+    /// If the authority can't be read, or OpenSSL makes no such certificates.
     pub fn below(certificates: &Path, subject: &str, count: usize) -> io::Result<Stranger> {
         let mut above = X509::from_pem(&fs::read(certificates.join("ca.pem"))?)?;
         let mut by = PKey::private_key_from_pem(&fs::read(certificates.join("ca.key"))?)?;
@@ -119,7 +119,7 @@ impl Stranger {
     ///
     /// # Errors
     ///
-    /// Where it can't be connected, or the server says nothing for a minute.
+    /// If it can't be connected, or the server says nothing for a minute.
     pub fn show(&self, place: &str) -> io::Result<bool> {
         let mut connector = SslConnector::builder(SslMethod::tls_client())?;
         connector.set_verify(SslVerifyMode::NONE);

@@ -21,7 +21,7 @@ const REST: Duration = Duration::from_millis(500);
 /// When all were told of one set.
 #[derive(Clone, Copy, Debug, PartialEq, Eq)]
 pub struct TellingTime {
-    /// The set was done, since it was asked for.
+    /// From the asking for the set: until it was done.
     pub done: Duration,
     /// Half of them were told.
     pub half: Duration,
@@ -71,7 +71,7 @@ async fn all_told(told: &mut UnboundedReceiver<Told>, generation: u64, count: us
 ///
 /// # Errors
 ///
-/// Where one of them isn't told of a set within a minute, or the file can't be set.
+/// If one of them isn't told of a set within a minute, or the file can't be set.
 pub fn tell_watchers(
     gateways: &[&GatewayProcess],
     name: &str,

@@ -57,7 +57,7 @@ impl Worker {
     ///
     /// # Errors
     ///
-    /// Where no session begins, or a file can't be opened.
+    /// If no session begins, or a file can't be opened.
     pub fn new(options: &Options, seed: u64, begun: Instant) -> Result<Worker, Error> {
         let (client, files, lock) = come(options)?;
         let random = StdRng::seed_from_u64(seed);
@@ -72,7 +72,7 @@ impl Worker {
     ///
     /// # Errors
     ///
-    /// Where something is refused that it may do.
+    /// If something is refused that it may do.
     pub fn work(mut self, rules: &Rules) -> Result<Deeds, Error> {
         while !rules.is_over.load(Ordering::Relaxed) {
             let deeds = if rules.is_quiet.load(Ordering::Relaxed) { 16 } else { 20 };
@@ -120,7 +120,7 @@ impl Worker {
     ///
     /// # Errors
     ///
-    /// Where that is refused.
+    /// If that is refused.
     pub fn read_all(&mut self) -> Result<(), Error> {
         (0..FILES).try_for_each(|file| self.read(file))
     }

@@ -1,4 +1,4 @@
-//! What the server has to bear: a table of attacks, each with what is refused, and with what stands behind it: a client that had
+//! What the server has to bear: a table of attacks, each with what is refused, and with what stands after it: a client that had
 //! come before still has its session and its handle, its file what it wrote, and a new client gets in.
 
 use host_wire::{Asked, Blocks, MasterAnswer, REQUEST_LIMIT, Said, TurnedAway, write_block};
@@ -534,7 +534,7 @@ fn too_many_connections(stage: &mut Stage) -> String {
             (connection, Ok(_)) => held.push(connection),
             (_, Err(reason)) => {
                 stage.check("too many connections");
-                return format!("{reason:?} behind {}", held.len());
+                return format!("{reason:?} after {}", held.len());
             }
         }
     }
@@ -631,7 +631,7 @@ fn attacks_are_refused_and_the_cell_stands() {
         ("floods of Beats", "slowed down", flood),
         ("large blocks", "they wait for each other", large_blocks),
         ("idle connections of operators", "200", idle_operators),
-        ("too many connections", "FullForPrincipal behind 250", too_many_connections),
+        ("too many connections", "FullForPrincipal after 250", too_many_connections),
         ("too many nodes", "NoRoom 20: this limit of the cell leaves no room", too_many_nodes),
         ("too many bytes", "NoRoom 1200000: this limit of the cell leaves no room", too_many_bytes),
         ("too many bytes of one", "the limit bytes_of_a_principal = 1000000 leaves no room for 250000 more", too_many_bytes_of_one),
@@ -657,7 +657,7 @@ fn attacks_are_refused_and_the_cell_stands() {
         let refused = attack(&mut stage);
         assert_eq!(refused, *wanted, "{what}; the log: {}", tail(&stage.server.logged()));
         stage.check(what);
-        println!("attack: {what}: {refused}; behind it a session, its file and a new client stand");
+        println!("attack: {what}: {refused}; after it a session, its file and a new client stand");
     }
 }
 

@@ -319,7 +319,7 @@ fn a_lock_is_held_by_one_command() {
     fs::remove_dir_all(folder).unwrap();
 }
 
-// (its session is ended by a tick alone, since nobody says anything meanwhile but who waits for the lock)
+// (its session is ended by a tick alone, because nobody says anything meanwhile but who waits for the lock)
 #[test]
 fn a_lock_of_one_that_is_killed_goes_to_the_next() {
     let folder = folder("killed");
@@ -524,7 +524,7 @@ fn a_command_that_is_cut_off_ends_before_its_successor_begins() {
     ];
     for (words, script) in rows {
         let (last, began, status) = cut_off(words, script);
-        println!("commands: cut off, {} {script:?} did something last behind {last} ms; the next began behind {began} ms", words[0]);
+        println!("commands: cut off, {} {script:?} did something last after {last} ms; the next began after {began} ms", words[0]);
         assert!(last < began, "{words:?} {script}: {last} {began}");
         assert_eq!(status, Some(5), "{words:?} {script}");
     }

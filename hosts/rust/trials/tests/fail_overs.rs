@@ -1,7 +1,7 @@
 //! What clients notice where their server goes and another comes, and how long one is waited for that never acknowledges.
 
 use std::time::Duration;
-use trials::{fail_over, fill, start_behind_clients_that_left, write_beside_one_that_keeps, write_beside_one_that_starts};
+use trials::{fail_over, fill, start_after_clients_that_left, write_beside_one_that_keeps, write_beside_one_that_starts};
 
 /// How long an answer may take after the start of the next server.
 const SOON: Duration = Duration::from_secs(3);
@@ -37,8 +37,8 @@ fn twenty_clients_far_away_notice_no_fail_over() {
 // (a session that didn't end would be waited for, up to 60 s)
 #[test]
 fn clients_that_left_are_not_waited_for() {
-    let answered = start_behind_clients_that_left(5).unwrap();
-    println!("fail-over: behind 5 clients that all left: the first call was answered within {} ms of the start", answered.as_millis());
+    let answered = start_after_clients_that_left(5).unwrap();
+    println!("fail-over: after 5 clients that all left: the first call was answered within {} ms of the start", answered.as_millis());
     assert!(answered < Duration::from_secs(1), "{answered:?}");
 }
 

@@ -407,7 +407,7 @@ fn an_operator_by_certificate_sees_and_changes_nothing() {
     fs::remove_dir_all(folder).unwrap();
 }
 
-// Where nobody's name is said a token is what lets somebody in, and it is encrypted.
+// If nobody's name is said a token is what lets somebody in, and it is encrypted.
 #[test]
 fn a_token_is_shown_by_tls_too() {
     let folder = folder("encrypted");

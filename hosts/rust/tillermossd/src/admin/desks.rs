@@ -166,7 +166,7 @@ impl AdminDoor {
             Address::Tls(_) => bail!("--admin {address}: wants --operator, or --admin-token: else nobody is let in"),
             Address::Tcp(place) if address.is_local() || operators.has_token() => place,
             Address::Tcp(_) => bail!(
-                "--admin {address}: only unix:PATH, tls:, or tcp: on loopback; elsewhere with --admin-token, since nothing there is encrypted"
+                "--admin {address}: only unix:PATH, tls:, or tcp: on loopback; elsewhere with --admin-token, because nothing there is encrypted"
             ),
         };
         let listener = listen_tcp(place).await.map_err(|error| not_listening(&address.to_string(), &error))?;

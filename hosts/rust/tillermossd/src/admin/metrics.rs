@@ -230,7 +230,7 @@ impl Metrics {
         self.starts_let_go.inc();
     }
 
-    /// A change was kept, since its principal has its whole share at the master.
+    /// A change was kept, because its principal has its whole share at the master.
     pub fn kept(&self) {
         self.changes_kept.inc();
     }

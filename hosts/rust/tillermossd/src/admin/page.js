@@ -9,7 +9,7 @@ function made(kind, text, name) {
   return element;
 }
 
-// What was typed, and which directories are folded; a token that stands behind the # of the address.
+// What was typed, and which directories are folded; a token that stands after the # of the address.
 const folded = new Set();
 const token = new URLSearchParams(location.hash.slice(1)).get('token');
 let last = null;

@@ -27,13 +27,13 @@ pub fn copy(from: &CopyEnd, to: &CopyEnd, trust: &Trust, program: &Path) -> Resu
             let found = of_file(path)?;
             put(&HeldMastership::take(place, trust)?, &found)?;
             let mut numbers = Numbers::open(&beside(path, "numbers"), true, Some(found.first_client()))?;
-            numbers.note(Epochs::behind(found.epoch()))
+            numbers.note(Epochs::after(found.epoch()))
         }
         (CopyEnd::Etcd(place), CopyEnd::File(path)) => {
             let held = HeldMastership::take(place, trust)?;
             let found = Found::read(&held.0.gateway, &held.0.prefix, || held.0.mastership.check())?;
             make(path, &found, program)?;
-            Numbers::beside(&held.0, found.first_client())?.note(Epochs::behind(found.epoch()))
+            Numbers::beside(&held.0, found.first_client())?.note(Epochs::after(found.epoch()))
         }
         _ => bail!("--from and --to are a file and an etcd, in either order; an etcd is etcd://HOST:PORT,HOST:PORT/CELL"),
     }

@@ -63,14 +63,14 @@ fn key_of(text: &str) -> Option<LockRowKey> {
     }
 }
 
-// How many pairs the next page has, by the longest of the last one; at most twice as many, since longer ones may come.
+// How many pairs the next page has, by the longest of the last one; at most twice as many, because longer ones may come.
 fn next_page(pairs: &[Pair]) -> usize {
     let longest = pairs.iter().map(|pair| pair.key.len() + pair.value.len()).max().unwrap_or(0);
     (BYTES / longest.max(1)).clamp(FIRST_PAGE / 4, LONGEST_PAGE).min(2 * pairs.len())
 }
 
 impl Found {
-    /// All that stands there now, page by page at one revision. Where no member answers it is tried again for as long as the check
+    /// All that stands there now, page by page at one revision. If no member answers it is tried again for as long as the check
     /// holds.
     pub fn read(gateway: &Members, prefix: &str, check: impl Fn() -> Result<()>) -> Result<Found> {
         let mut found = Found::default();

@@ -247,8 +247,8 @@ impl From<Lost> for Error {
     }
 }
 
-// What stands behind all keys that begin so.
-fn behind(prefix: &str) -> Vec<u8> {
+// What stands after all keys that begin so.
+fn end_after(prefix: &str) -> Vec<u8> {
     let mut end = prefix.as_bytes().to_vec();
     if let Some(last) = end.last_mut() {
         *last += 1;
@@ -281,13 +281,13 @@ impl Operation {
             Operation::Put(key, value) => put(key, value, 0),
             Operation::Lend(key, value, lease) => put(key, value, *lease),
             Operation::Delete(key) => DeedKind::Delete(DeleteRange { key: key.as_bytes().to_vec(), end: Vec::new() }),
-            Operation::DeleteAll(prefix) => DeedKind::Delete(DeleteRange { key: prefix.as_bytes().to_vec(), end: behind(prefix) }),
+            Operation::DeleteAll(prefix) => DeedKind::Delete(DeleteRange { key: prefix.as_bytes().to_vec(), end: end_after(prefix) }),
         };
         TransactionDeed { kind: Some(kind) }
     }
 }
 
-// The same deeds, of which etcd does all or none, in transactions within transactions where they are many.
+// These deeds, of which etcd does all or none, in transactions within transactions where they are many.
 fn nested(mut deeds: Vec<TransactionDeed>) -> Vec<TransactionDeed> {
     while deeds.len() > WIDTH {
         let mut parts = Vec::with_capacity(deeds.len() / WIDTH + 1);
@@ -309,13 +309,13 @@ impl Members {
         Ok(Members { channels, last: Arc::default(), user, health: Arc::new(Health::new()), is_ended: Arc::default(), by: None })
     }
 
-    /// The same members, of which none is asked any more once this is set; but a question that is out has its time.
+    /// These members, of which none is asked any more once this is set; but a question that is out has its time.
     #[must_use]
     pub fn until(&self, is_ended: &Arc<AtomicBool>) -> Members {
         Members { is_ended: is_ended.clone(), ..self.clone() }
     }
 
-    /// The same members, of which none is asked any more after this moment, and no answer is waited for.
+    /// These members, of which none is asked any more after this moment, and no answer is waited for.
     #[must_use]
     pub fn by(&self, moment: Instant) -> Members {
         Members { by: Some(self.by.map_or(moment, |by| by.min(moment))), ..self.clone() }
@@ -397,7 +397,7 @@ impl Members {
     /// long as something of it comes.
     pub fn page(&self, prefix: &str, from: &str, at: i64, count: usize) -> Result<(Vec<Pair>, i64), Lost> {
         let limit = i64::try_from(count).unwrap_or(i64::MAX);
-        let asked = Range { key: from.as_bytes().to_vec(), end: behind(prefix), limit, revision: at, counts: false };
+        let asked = Range { key: from.as_bytes().to_vec(), end: end_after(prefix), limit, revision: at, counts: false };
         let answer = self.ask_within(&asked, None)?;
         let pairs: Option<Vec<Pair>> = answer.pairs.into_iter().map(Pair::of).collect();
         let revision = if at == 0 { revision(answer.header).map_err(Lost::Unknown)? } else { at };
@@ -414,7 +414,7 @@ impl Members {
     /// done at one revision is told together. It isn't called by what a runtime drives.
     pub fn follow(&self, prefix: &str, from: i64, mut tell: impl FnMut(Followed) -> bool) -> Result<()> {
         let at = self.last.load(Ordering::Relaxed) % self.channels.count();
-        let wanted = WatchWanted { key: prefix.as_bytes().to_vec(), end: behind(prefix), from };
+        let wanted = WatchWanted { key: prefix.as_bytes().to_vec(), end: end_after(prefix), from };
         let token = self.user.as_ref().and_then(|user| user.token());
         let asked = ChannelQuestion::new(WatchOfKeys::METHOD, &WatchOfKeys { wanted: Some(wanted) }, token);
         self.channels.follow(at, asked, SILENCE, |told| Ok(Followed::of(Watched::decode(told)?)?.is_none_or(&mut tell)))
@@ -481,7 +481,7 @@ mod tests {
 
     #[test]
     fn a_prefix_ends_before_its_next() {
-        assert_eq!(behind("c/nodes/"), b"c/nodes0");
+        assert_eq!(end_after("c/nodes/"), b"c/nodes0");
     }
 
     #[test]

@@ -43,7 +43,7 @@ pub fn begin(place: &Place, trust: &Trust, mastership: &Mastership) -> Result<Ch
     Ok(pipe)
 }
 
-/// Waits until the server is gone, and gives its mastership back, which began by this revision. Where it has ended nothing is done.
+/// Waits until the server is gone, and gives its mastership back, which began by this revision. If it has ended nothing is done.
 pub fn guard(place: &Place, trust: &Trust, revision: i64) -> Result<()> {
     // (whoever ends the server by a signal may send it to all its processes)
     SigSet::all().thread_block()?;

@@ -287,7 +287,7 @@ impl RowsKeeper {
     }
 
     // What became of the commit of this turn, whose answer got lost: by which revision it stands; None where it doesn't, and never will.
-    // (Where it isn't done the cell's own row is written as it was, in the next turn: so it can't be done later.)
+    // (If it isn't done the cell's own row is written as it was, in the next turn: so it can't be done later.)
     fn settle(&mut self, commit: Turn) -> Result<Option<i64>> {
         let end = Turn { turn: commit.turn + 1, ..commit };
         loop {

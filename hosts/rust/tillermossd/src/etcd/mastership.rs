@@ -25,7 +25,7 @@ const GIVING_BACK: Duration = Duration::from_secs(4);
 /// How many renewals in a span.
 const RENEWALS: u64 = 4;
 
-/// The present moment by the clock that goes on while the machine sleeps, in milliseconds. Where there is none it is the end of all
+/// The present moment by the clock that goes on while the machine sleeps, in milliseconds. If there is none it is the end of all
 /// moments, at which nobody is master.
 #[must_use]
 pub fn now() -> u64 {
@@ -223,7 +223,7 @@ impl Mastership {
         Ok(end_of(sent, seconds))
     }
 
-    // Where etcd has no room it makes no lease: the one that there is is kept alive. That is done by whichever member thinks that it
+    // If etcd has no room it makes no lease: the one that there is is kept alive. That is done by whichever member thinks that it
     // leads; so it counts only where most members then still follow the same one.
     fn renew_in_place(&self, lease: i64) -> Result<u64> {
         let sent = now();

@@ -49,7 +49,7 @@ impl MasterPipes {
         self.has_ended.load(Ordering::SeqCst)
     }
 
-    /// Whether that is so since etcd had no room: this master goes on without commits until there is some.
+    /// Whether that is so because etcd had no room: this master goes on without commits until there is some.
     #[must_use]
     pub fn waits_for_room(&self) -> bool {
         self.waits_for_room.load(Ordering::SeqCst)

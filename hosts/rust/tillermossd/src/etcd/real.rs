@@ -52,7 +52,7 @@ impl Drop for Real {
     }
 }
 
-// The same members, once they answer.
+// These members, once they answer.
 fn up(members: Members) -> Members {
     let begun = Instant::now();
     while let Err(lost) = members.get("c/meta") {

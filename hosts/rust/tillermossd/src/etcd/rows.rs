@@ -7,9 +7,9 @@ use serde::{Deserialize, Serialize};
 
 /// The words of choices, each at its place.
 pub const KINDS: [&str; 2] = ["file", "dir"];
-/// The same of lives.
+/// The words of lives, each at its place.
 pub const LIVES: [&str; 2] = ["permanent", "ephemeral"];
-/// The same of locks.
+/// The words of locks, each at its place.
 pub const STATES: [&str; 3] = ["lapsed", "exclusive", "shared"];
 
 /// A content: a text where it is one that can be read, else in hexadecimal.

@@ -28,7 +28,7 @@ pub struct Others {
     pub last: String,
 }
 
-/// The same, for all who ask for it.
+/// Who is master and who was, for all who ask for it.
 pub type KnownMaster = Arc<Mutex<Others>>;
 
 impl Others {

@@ -1,4 +1,4 @@
-//! What a server that is master does for its etcd beside commits: it has it forget what stood there before, since each commit leaves
+//! What a server that is master does for its etcd beside commits: it has it forget what stood there before, because each commit leaves
 //! old revisions that take room, and looks whether it has room left.
 
 use crate::etcd::Rows;

@@ -76,7 +76,7 @@ pub enum MasterEnd {
     Asked(ExitStatus),
     /// It is gone by itself, or doesn't answer.
     Gone(String),
-    /// It is gone, since the store refused what a group of frames changed. Nobody was told of that group.
+    /// It is gone, because the store refused what a group of frames changed. Nobody was told of that group.
     Refused(String),
     /// The store isn't the same file any more.
     StoreGone(String),
@@ -153,7 +153,7 @@ struct Raised {
     next: Option<u64>,
 }
 
-// Opens a keeper. (Where etcd has no room it is opened later.)
+// Opens a keeper. (If etcd has no room it is opened later.)
 async fn keep(rows: Rows) -> Result<(Rows, MasterPipes)> {
     let gateway = rows.gateway.clone();
     match spawn_blocking(move || rows.keep().map(|kept| (rows, kept))).await? {

@@ -1,5 +1,5 @@
 //! The clock that a master is told. It counts no time in which the server read nothing: a server that was stopped hands on what came
-//! meanwhile before a session may end for want of it. Every promise allows that, since a master's clock may be the slower one.
+//! meanwhile before a session may end for want of it. Every promise allows that, because a master's clock may be the slower one.
 
 use std::io;
 use std::time::{Duration, Instant};
@@ -94,7 +94,7 @@ impl Probe {
         Ok(Probe { stream, due: tokio::time::Instant::now(), is_out: false })
     }
 
-    /// Waits until the next byte is back. Where that is given up nothing is lost.
+    /// Waits until the next byte is back. If that is given up nothing is lost.
     pub async fn is_back(&mut self) -> io::Result<()> {
         sleep_until(self.due).await;
         if !self.is_out {

@@ -82,7 +82,7 @@ impl LinesState {
 }
 
 // Puts a message after those of its client. A Beat takes the place of one that waits: that tells of less, and its answer would give no
-// lease, since a later one is out. A call that waits isn't done twice.
+// lease, because a later one is out. A call that waits isn't done twice.
 fn put(waiting: &mut VecDeque<Message>, message: Message) {
     let same = waiting.iter_mut().find(|other| !message.is_call || other.bytes == message.bytes);
     match same {

@@ -39,7 +39,7 @@ pub struct Epochs {
 impl Epochs {
     /// Those by which a store of this epoch is an older copy: it was moved elsewhere.
     #[must_use]
-    pub fn behind(epoch: u64) -> Epochs {
+    pub fn after(epoch: u64) -> Epochs {
         Epochs { last: epoch + 1, coming: epoch + 2 }
     }
 }
@@ -283,7 +283,7 @@ impl Beside {
         numbers.map(Some).with_context(|| format!("{} has no numbers", self.key))
     }
 
-    // Takes numbers over those that stand there as they were read last, by compare and swap. Where the outcome got lost they are read
+    // Takes numbers over those that stand there as they were read last, by compare and swap. If the outcome got lost they are read
     // again, and others are taken: what a lost write took, sooner or later, isn't given.
     fn write(&mut self, numbers: &mut Numbers, more: u64, epochs: Epochs) -> Result<Taken> {
         for _ in 0..TRIES {

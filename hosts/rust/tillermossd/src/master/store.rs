@@ -46,7 +46,7 @@ pub fn is_there(store: &Path) -> Result<bool> {
 }
 
 /// Makes the file of a store that isn't there: a database of small pages without tables, which its master makes. A commit writes each
-/// page that it changes whole into the log, and sums it up twice: by small ones that is less. Where there is a file, also an empty one,
+/// page that it changes whole into the log, and sums it up twice: by small ones that is less. If there is a file, also an empty one,
 /// or a link, or a log that was left, it makes none.
 pub fn prepare(store: &Path) -> Result<()> {
     if fs::symlink_metadata(store).is_ok() || beside(store, LOG).exists() {
@@ -88,7 +88,7 @@ pub fn copy(store: &Path) -> io::Result<TempDir> {
     copy_into(store, store)
 }
 
-/// The same, into a folder beside another path.
+/// As `copy`, into a folder beside another path.
 pub fn copy_into(store: &Path, near: &Path) -> io::Result<TempDir> {
     let folder = tempfile::Builder::new().prefix(&prefix(near)).tempdir_in(above(near))?;
     let copy = copied(&folder);

@@ -24,7 +24,7 @@ struct ChangesState {
     turns: VecDeque<Arc<str>>,
 }
 
-/// A client one of whose changes the master has: one at most, since it refuses another call meanwhile. The number is that of the last one
+/// A client one of whose changes the master has: one at most, because it refuses another call meanwhile. The number is that of the last one
 /// that went out.
 #[derive(Debug)]
 struct Out {

@@ -55,7 +55,7 @@ impl Outbox {
         }
     }
 
-    /// The same of a message that goes once `wake` is called; whether that is still to be done.
+    /// As `send`, of a message that goes once `wake` is called; whether that is still to be done.
     pub fn put(&self, block: &[u8]) -> bool {
         let mut state = self.state();
         let is_first = state.waiting.is_empty();

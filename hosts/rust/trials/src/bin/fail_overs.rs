@@ -3,7 +3,7 @@
 
 use std::time::Duration;
 use tillermoss::Error;
-use trials::{fail_over, fill, start_behind_clients_that_left, write_beside_one_that_keeps, write_beside_one_that_stays_behind};
+use trials::{fail_over, fill, start_after_clients_that_left, write_beside_one_that_keeps, write_beside_one_that_stays_behind};
 
 /// The lease of a cell whose settings say none, in milliseconds.
 const LEASE: u64 = 12_000;
@@ -15,7 +15,7 @@ fn main() -> Result<(), Error> {
     for (clients, one_way) in [(5, Duration::ZERO), (20, Duration::from_millis(120))] {
         let noticed = fail_over(clients, one_way, LOOKED_AT)?;
         println!(
-            "{clients} clients, {} ms away: a write of each answered {} ms behind the start of the next server, {} ms behind SIGTERM",
+            "{clients} clients, {} ms away: a write of each answered {} ms after the start of the next server, {} ms after SIGTERM",
             one_way.as_millis(),
             noticed.answered.as_millis(),
             noticed.answered_since_the_end.as_millis()
@@ -26,11 +26,11 @@ fn main() -> Result<(), Error> {
         let filled = fill(64, Duration::from_secs(seconds), 5, 4)?;
         println!("5 clients that beat, 4 that write, a disk that is full for {seconds} s: {filled:?}");
     }
-    let left = start_behind_clients_that_left(5)?;
-    println!("5 clients that all left: the first call of a new one answered {} ms behind the start of the next server", left.as_millis());
+    let left = start_after_clients_that_left(5)?;
+    println!("5 clients that all left: the first call of a new one answered {} ms after the start of the next server", left.as_millis());
     let kept = write_beside_one_that_keeps(LEASE)?;
     println!("a write beside a client that caches the file, beats and never acknowledges: {:.1} s", kept.as_secs_f64());
-    let behind = write_beside_one_that_stays_behind(LEASE)?;
-    println!("a write behind a new master beside a client that beats and never acknowledges it: {:.1} s", behind.as_secs_f64());
+    let waited = write_beside_one_that_stays_behind(LEASE)?;
+    println!("a write after a new master beside a client that beats and never acknowledges it: {:.1} s", waited.as_secs_f64());
     Ok(())
 }

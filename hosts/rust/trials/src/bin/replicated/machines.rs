@@ -328,7 +328,7 @@ impl Cell {
     }
 
     // Holds back what the keeper of the present server writes, until another master takes the place of its master, and lets it through
-    // then. (Where a slow machine ends the mastership first it is tried again with the next server.)
+    // then. (If a slow machine ends the mastership first it is tried again with the next server.)
     fn hold_back(&self) -> Tried<()> {
         for _ in 0..TRIES {
             let at = self.master()?;
@@ -386,7 +386,7 @@ impl Cell {
         if !sound.starts_with("sound ") || run(&master_program(), &["check", &second])? != sound {
             return Err(format!("the rows: {sound}").into());
         }
-        Ok(format!("{sound}; {} rows are the same behind a copy into a file and back", there.len()))
+        Ok(format!("{sound}; {} rows are the same after a copy into a file and back", there.len()))
     }
 
     // The rows of a cell but for the numbers of its commits and what stands beside them.
