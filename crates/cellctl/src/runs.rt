@@ -14,9 +14,9 @@ ghost use Rattle.cellctl.specs.Led.{ScriptLeads, LedOn};
 ghost use Rattle.cellctl.specs.Left.{LeavesOver, LeavesAt};
 
 use rows_cell::{Settings, StoreFault};
-use rows_sql::SqlRecords;
+use rows_sql::{OrderedStore, SqlRecords};
 use scripts::script_on;
-use sqlite::{Alter, Connection, Error, FileStore, Files, Leftover};
+use sqlite::{Connection, Error, FileStore, Files, Leftover};
 use sqlite_disk::{Disk, Start};
 use sqlite_std_file::FileFrom;
 use std::alloc::Global;
@@ -117,7 +117,7 @@ pub(crate) fn run_new<I: Read + Drop, W: Write, E: Write + Drop>(
 }
 
 // The same over a connection that has no table yet. Where its store takes no wrong answer as true, as memory, nothing is in doubt.
-fn run_empty<S: Alter + Drop, I: Read + Drop, W: Write, E: Write + Drop>(
+fn run_empty<S: OrderedStore + Drop, I: Read + Drop, W: Write, E: Write + Drop>(
     alloc: Global,
     settings: &Settings,
     conn: Connection<S>,

@@ -52,6 +52,7 @@ pub mod Inspections
 pub mod Keepings
 pub mod Shaped
 pub mod Opened
+pub mod KeptOpen
 pub mod Adoptions
 pub mod StoreCases
 pub mod Closings

@@ -23,6 +23,8 @@ pub mod Indexing
 pub mod Found
 pub mod Verdicts
 pub mod Keeping
+pub mod Orders
+pub mod Standing
 pub mod Adopting
 pub mod Closed
 pub mod Carryings

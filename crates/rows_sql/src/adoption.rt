@@ -1,8 +1,8 @@
 //! Taking a database over.
-ghost use Rattle.std.specs.Prelude.{◌≡◌, ◌≢◌, ◌↔◌, ◌≤◌, Err, IfOk, IfErr, IsTrue};
+ghost use Rattle.std.specs.Prelude.{◌≡◌, ◌≢◌, ◌↔◌, ◌≤◌, false, Err, IfOk, IfErr, IsTrue};
 ghost use Rattle.sqlite_trees.specs.View.{doubt, IsClean};
 ghost use Rattle.sqlite.specs.Steps.{IsFresh};
-ghost use Rattle.sqlite.specs.State.{HasCleanDisk};
+ghost use Rattle.sqlite.specs.State.{HasCleanDisk, IsUnchanged, Survives};
 ghost use Rattle.sqlite.specs.Held.{state};
 ghost use Rattle.rows_cell.specs.Opening.{opening};
 ghost use Rattle.rows_cell.specs.declared.tables.Rows.{Rows as Held};
@@ -14,6 +14,7 @@ ghost use Rattle.rows_sql.specs.Adopting.{IsAnew, IsForeign, IsAtItsEnd, IsTaken
 
 use crate::carrying::take_first;
 use crate::indexing::take_unindexed;
+use crate::orders::OrderedStore;
 use crate::reading::load_said;
 use crate::schema::{Version, version_of};
 use crate::writing::make_store;
@@ -34,11 +35,8 @@ fn open_store<S: Alter + Drop>(alloc: Global, store: S) -> Result<Connection<S>,
     Connection::over(alloc, store)
 }
 
-/// Opens a database anew, with what was last committed.
-pub(crate) fn reopen<S: Alter + Drop>(
-    alloc: Global,
-    conn: Connection<S>,
-) -> Result<Connection<S>, S>
+// Opens a database anew, with what was last committed.
+fn reopen<S: Alter + Drop>(alloc: Global, conn: Connection<S>) -> Result<Connection<S>, S>
     ensures ok { IfOk result (λ new. IsReopened S.Store conn new) }
     ensures err { IfErr result (λ store. (doubt (state S.Store conn).is_clean ≤ doubt (S.Store.view store).is_clean) × ((db : _) → S.Store.recovers store db → (state S.Store conn).may_leave db)) }
 {
@@ -51,6 +49,48 @@ pub(crate) fn reopen<S: Alter + Drop>(
     match open_store(alloc, store) {
         Ok(conn) => Ok(conn),
         Err((_error, store)) => Err(store),
+    }
+}
+
+// Whether a connection takes a statement, as an open one does.
+fn is_open<S: Alter>(conn: &mut Connection<S>) -> bool
+    ensures unchanged { HasCleanDisk (state S.Store conn.new) → IsTrue result → IsUnchanged (state S.Store conn.old) (state S.Store conn.new) }
+    ensures mode { conn.old.in_transaction ≡ false → conn.new.in_transaction ≡ false }
+    ensures survives { Survives (state S.Store conn.old) (state S.Store conn.new) (λ _. ⊥) }
+{
+    conn.prepare("SELECT 1").is_ok()
+}
+
+// Keeps a connection where nothing is begun, if it is open.
+fn keep_open<S: OrderedStore + Drop>(mut conn: Connection<S>) -> Result<Connection<S>, S>
+    requires idle { conn.in_transaction ≡ false }
+    requires settled { IsTrue (state S.Store conn).is_open → (state S.Store conn).now ≡ (state S.Store conn).committed }
+    ensures ok { IfOk result (λ new. IsReopened S.Store conn new) }
+    ensures err { IfErr result (λ store. (doubt (state S.Store conn).is_clean ≤ doubt (S.Store.view store).is_clean) × (IsClean (S.Store.view store) → (db : _) → S.Store.recovers store db → (state S.Store conn).may_leave db)) }
+{
+    // What it shows is a database.
+    let _schema = conn.schema();
+    if is_open(&mut conn) {
+        return Ok(conn);
+    }
+    Err(conn.into_store())
+}
+
+/// Gives a connection to what was last committed: this one, as it is, where nothing is begun there; else the database is
+/// opened anew, which tests all its rows once more.
+pub(crate) fn settle<S: OrderedStore + Drop>(
+    alloc: Global,
+    conn: Connection<S>,
+) -> Result<Connection<S>, S>
+    ensures ok { IfOk result (λ new. IsReopened S.Store conn new) }
+    ensures err { IfErr result (λ store. (doubt (state S.Store conn).is_clean ≤ doubt (S.Store.view store).is_clean) × (IsClean (S.Store.view store) → (db : _) → S.Store.recovers store db → (state S.Store conn).may_leave db)) }
+{
+    if conn.is_autocommit() {
+        return keep_open(conn);
+    }
+    match reopen(alloc, conn) {
+        Ok(conn) => Ok(conn),
+        Err(store) => Err(store),
     }
 }
 

@@ -10,8 +10,9 @@ ghost use Rattle.rows_cell.specs.Stores.{Loads, told};
 ghost use Rattle.rows_sql.specs.Keeping.{told_in, noted, stood, IsLeft};
 ghost use Rattle.rows_sql.specs.Adopting.{Adopts, ComesBack, IsOther, IsFull};
 
-use crate::adoption::{reopen, take_over};
+use crate::adoption::{settle, take_over};
 use crate::history::StoreLog;
+use crate::orders::OrderedStore;
 use crate::steps::{goes_on, is_committed, load_sound};
 use collections::Items;
 use names_cell::Component;
@@ -169,7 +170,7 @@ impl<S: Alter> Records for SqlRecords<S> {
     }
 }
 
-impl<S: Alter + Drop> SqlRecords<S> {
+impl<S: OrderedStore + Drop> SqlRecords<S> {
     /// Takes a database over. What isn't committed there is undone. The rows of a store are taken as they are, whether a
     /// cell may have them or not; where there is no table, the five tables are made and the opening rows put, in one
     /// transaction. A store that lacks its last index gets it, where a cell of this name may have its rows: they stay. A
@@ -201,7 +202,7 @@ impl<S: Alter + Drop> SqlRecords<S> {
             Ok(cell) => cell,
             Err(_) => return Err((StoreFault::NoMemory, conn.into_store())),
         };
-        let mut conn = match reopen(alloc, conn) {
+        let mut conn = match settle(alloc, conn) {
             Ok(conn) => conn,
             Err(store) => return Err((StoreFault::Refused, store)),
         };
