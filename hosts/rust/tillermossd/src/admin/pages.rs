@@ -211,8 +211,8 @@ async fn copied(admin: &Office, place: OwnedSemaphorePermit) -> Result<Body> {
     admin.orders.send(Order::Copy(reply)).await.context("no master is up")?;
     let folder = copied.await.context("the master is gone")??;
     let path = store::copied(&folder);
-    let settled = path.clone();
-    tokio::task::spawn_blocking(move || store::settle(store::open(&settled)?)).await??;
+    let copy = path.clone();
+    tokio::task::spawn_blocking(move || store::make_whole(store::open(&copy)?)).await??;
     let mut file = tokio::fs::File::open(path).await?;
     let (mut sender, body) = Body::channel();
     tokio::spawn(async move {

@@ -121,7 +121,7 @@ fn make(path: &Path, found: &Found, program: &Path) -> Result<()> {
     connection.execute_batch("BEGIN")?;
     found.fill(&connection)?;
     connection.execute_batch("COMMIT")?;
-    store::settle(connection)?;
+    store::make_whole(connection)?;
     if let Some(numbers) = &found.numbers {
         fs::write(beside(path, "numbers"), numbers)?;
     }

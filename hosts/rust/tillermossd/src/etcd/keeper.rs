@@ -258,7 +258,7 @@ impl RowsKeeper {
             let change = Change::of(&self.known, number, self.mastership.revision, turn, edits)?;
             let deeds = change.deeds(&self.prefix)?;
             let tried = self.gateway.change(&[Compare::Changed(&self.key, self.known.changed), self.mastership.fence()], &deeds);
-            let settled = match tried {
+            let stands_by = match tried {
                 Ok(Some(revision)) => Some(revision),
                 // (the gateway says that etcd has no room)
                 Err(Lost::Refused(_)) if !self.gateway.health().has_room() => return Ok(false),
@@ -266,9 +266,9 @@ impl RowsKeeper {
                     error!(reason = %fault, deeds = deeds.len(), "etcd refuses a commit");
                     return Ok(false);
                 }
-                Ok(None) | Err(Lost::Unknown(_)) => self.settle(turn)?,
+                Ok(None) | Err(Lost::Unknown(_)) => self.find_out(turn)?,
             };
-            if let Some(revision) = settled {
+            if let Some(revision) = stands_by {
                 self.note(change, revision);
                 return Ok(true);
             }
@@ -288,7 +288,7 @@ impl RowsKeeper {
 
     // What became of the commit of this turn, whose answer got lost: by which revision it stands; None where it doesn't, and never will.
     // (If it isn't done the cell's own row is written as it was, in the next turn: so it can't be done later.)
-    fn settle(&mut self, commit: Turn) -> Result<Option<i64>> {
+    fn find_out(&mut self, commit: Turn) -> Result<Option<i64>> {
         let end = Turn { turn: commit.turn + 1, ..commit };
         loop {
             let (meta, revision) = self.read()?;

@@ -37,7 +37,7 @@ pub fn restore(copy: &Path, path: &Path) -> Result<()> {
     let (mut numbers, coming) = numbers(path, last, head.coming)?;
     let script = FORGET.replace("?GAP", &GAP.to_string()).replace("?EPOCH", &coming.to_string());
     connection.execute_batch(&format!("BEGIN;{script}COMMIT;"))?;
-    store::settle(connection)?;
+    store::make_whole(connection)?;
     File::open(&copied)?.sync_all()?;
     numbers.note(Epochs { last: coming, coming })?;
     fs::rename(&copied, path)?;

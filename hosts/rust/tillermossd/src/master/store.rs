@@ -111,7 +111,7 @@ pub fn open(copy: &Path) -> Result<Connection> {
 }
 
 /// Puts the log into the copy: then it is one file.
-pub fn settle(connection: Connection) -> Result<()> {
+pub fn make_whole(connection: Connection) -> Result<()> {
     let sound: String = connection.query_row("PRAGMA integrity_check", [], |row| row.get(0))?;
     if sound != "ok" {
         bail!("SQLite finds the store damaged: {sound}");
