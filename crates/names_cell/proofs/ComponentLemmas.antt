@@ -96,7 +96,7 @@ no_front (b ∷ bs) h =
     let e : is_slash b ≡ false = byte_no_slash b t.0 in
     rw (no_front bs t.1, e) refl
 
-front_joined : (front last : List ℕ) → front_of last ≡ None → front_of (front ++ 47 ∷ last) ≡ Some front
+pub front_joined : (front last : List ℕ) → front_of last ≡ None → front_of (front ++ 47 ∷ last) ≡ Some front
 front_joined [] last h = rw h refl
 front_joined (b ∷ front) last h = rw (front_joined front last h) refl
 

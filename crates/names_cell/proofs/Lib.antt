@@ -1,3 +1,4 @@
+pub mod Children
 pub mod ComponentLemmas
 pub mod Fronts
 pub mod Lasts

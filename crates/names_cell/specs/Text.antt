@@ -48,6 +48,10 @@ cell_of name = before_first is_slash (drop 4 name)
 abbrev pub is_child : List ℕ → List ℕ → Bool
 is_child name parent = option_map_or (λ front. bytes_eq front parent) (parent_of name) false
 
+-- the last component of a name, where the other is its parent
+abbrev pub child_part : List ℕ → List ℕ → Option (List ℕ)
+child_part name parent = if is_child name parent then Some (last_of name) else None
+
 -- the root of a cell
 abbrev pub root_of : List ℕ → List ℕ
 root_of cell = codes "/ls/" ++ cell

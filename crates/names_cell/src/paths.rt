@@ -1,5 +1,5 @@
 //! Names of nodes.
-ghost use Rattle.std.specs.Prelude.{◌≡◌, ◌≤◌, Some, Ok, Err, true, refl, nat_eq, if◌then◌else◌, IfOk, codes, ◌++◌, length, is_none};
+ghost use Rattle.std.specs.Prelude.{◌≡◌, ◌≤◌, Some, Ok, Err, true, refl, nat_eq, if◌then◌else◌, IfOk, codes, ◌∷◌, ◌++◌, length, is_none};
 ghost use Rattle.std.specs.List.{list_all, slice_split};
 ghost use Rattle.std.specs.Str.{bytes_eq};
 ghost use Rattle.std.specs.Cmp.{partial_equiv_from_equiv};
@@ -9,7 +9,7 @@ ghost use Rattle.std.specs.Cmp.Rules.{hashing};
 ghost use Rattle.std.specs.Hash as fed;
 ghost use Rattle.std.proofs.Common.{rules};
 ghost use Rattle.collections.specs.Results.{Gives};
-ghost use Rattle.names_cell.specs.Text.{is_component, is_name, is_slash, parent_of, is_child, is_under, first_child_of, last_child_of, cell_of, last_of, root_of, acl_file_of};
+ghost use Rattle.names_cell.specs.Text.{is_component, is_name, is_slash, parent_of, is_child, is_under, first_child_of, last_child_of, cell_of, last_of, child_part, root_of, acl_file_of};
 
 use crate::components::Component;
 use crate::faults::NameFault;
@@ -128,6 +128,31 @@ impl Name {
             Some(rest) => rest.starts_with(b"/"),
             None => false,
         }
+    }
+
+    /// Of a name that lies below the other: where the other is its parent its last component, and none where more lies between
+    /// them. Of its bytes only those behind the other are looked at.
+    pub fn child_part(&self, top: &Name) -> Result<Option<Component>, AllocError>
+        requires { is_under self.now top.now ≡ true }
+        ensures { IfOk result (λ part. part ≡ child_part self.now top.now) }
+    {
+        let part = self.behind(top);
+        match grammar::front_of(part) {
+            Some(_) => Ok(None),
+            None => Ok(Some(Component::known(*self.text.allocator(), part)?)),
+        }
+    }
+
+    // What stands behind the other name and a slash.
+    fn behind(&self, top: &Name) -> &str
+        requires { is_under self.now top.now ≡ true }
+        ensures joined { self.now ≡ top.now ++ 47 ∷ result.now }
+        ensures name { is_name self.now ≡ true }
+        ensures above { is_name top.now ≡ true }
+    {
+        let text = self.as_str();
+        let start = top.as_str().len() + 1;
+        &text[start..]
     }
 
     /// The least name, in order of bytes, that a child of this one can have; none where there is no room for a child.

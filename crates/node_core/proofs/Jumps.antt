@@ -1,6 +1,6 @@
 -- Past the names that lie below a child.
 use Rattle.std.proofs.Common.{◌≡◌, ℕ, zero, suc, ◌+◌, ◌-◌, ◌<◌, ◌≤◌, List, [], ◌∷◌, ◌++◌, length, drop, Bool, true, false, cond, nat_eq, Option, Some, None, Ordering, Less, Equal, Greater, ◌⊎◌, inl, inr, ⊎_elim, refl, sym, ap, ◌∙◌, arith, length-append, append_assoc}
-use Rattle.std.specs.Prelude.{◌||◌, ◌&&◌, nat_le, nat_lt, min, codes, map, filter}
+use Rattle.std.specs.Prelude.{◌&&◌, nat_le, nat_lt, min, codes, filter}
 use Rattle.std.specs.Ordering.{is_le, is_lt, nat_cmp, ordering_then, ordering_reverse}
 use Rattle.std.specs.Cmp.Lexicographic.{slice_cmp, nat_list_cmp_total}
 use Rattle.std.specs.Option.{option_map, option_map_or}
@@ -10,16 +10,16 @@ use Rattle.std.specs.Map.{keys_of}
 use Rattle.std.specs.Str.{bytes_eq}
 use Rattle.std.specs.declared.ops.Bound.TheVariants.{Excluded, Unbounded}
 use Rattle.std.specs.BTreeMap.Range.{entries_between, range_contains}
-use Rattle.std.proofs.Math.Nat.{min-le_left, min-le_right}
 use Rattle.std.proofs.lemmas.Bool.Decides.{nat_tests}
 use Rattle.std.proofs.lemmas.List.{append_cancel_left}
 use Rattle.std.proofs.lemmas.List.Kept.{IsStrictlySortedBy-filter}
-use Rattle.names_cell.specs.Text.{is_name, is_component, is_component_byte, is_slash, front_of, put_front, parent_of, is_child, is_under, last_child_of, last_of}
+use Rattle.names_cell.specs.Text.{is_name, is_component, is_component_byte, is_slash, front_of, put_front, is_child, is_under, last_child_of}
+use Rattle.names_cell.proofs.Children.{begins, same_bytes}
 use Rattle.names_cell.proofs.ComponentLemmas.{both, parts_of_component}
 use Rattle.names_cell.proofs.Parts.{splits, last_is_component, after_front}
-use Rattle.node_core.specs.Nodes.{Nodes, HasNamesInOrder, children, last_sibling_of}
+use Rattle.node_core.specs.Nodes.{Nodes, last_sibling_of}
 use Rattle.node_core.specs.declared.nodes.Node.{Node}
-use Rattle.node_core.proofs.Walks.{IsBelow, Walked, childish, child_form, name_length, begins, nothing_first, same_front, squeeze, lt_is, le_less, split_off, range_keys, all_filter}
+use Rattle.node_core.proofs.Walks.{Walked, childish, child_form, name_length, nothing_first, same_front, squeeze, lt_is, split_off, range_keys, all_filter}
 
 -- ---- what stands before the last slash of a text with a slash in it
 
@@ -48,14 +48,10 @@ cut (b ∷ p) last (n ∷ ns) u e h =
     let r : p ++ 47 ∷ last ≡ ns ++ 47 ∷ u = cc in
     ⊎_elim (λ l. inl (rw t (ap (λ x. n ∷ x) l))) (λ l. inr (l.0, rw t (ap (λ x. n ∷ x) l.1))) (cut p last ns u r h)
 
-same_bytes : (x : List ℕ) → bytes_eq x x ≡ true
-same_bytes [] = refl
-same_bytes (b ∷ x) = let e : nat_eq b b ≡ true = grind (arith, nat_tests) in rw e (same_bytes x)
-
 -- ---- names that are deeper than a child, and the last one beside them
 
 -- `key` lies below a child of `name`, and `last` is the greatest name beside `key`
-record IsDeep (key name last : List ℕ) : Type 0 where
+pub record IsDeep (key name last : List ℕ) : Type 0 where
   pub deeper : List ℕ
   pub component : List ℕ
   pub count : ℕ
@@ -73,21 +69,21 @@ byte_up_to b o h k =
 greatest_byte : (b : ℕ) → is_component_byte b ≡ true → b ≤ 122
 greatest_byte b h = grind (arith, nat_tests)
 
-up_to_z : (text : List ℕ) (count : ℕ) → list_all is_component_byte text ≡ true → length text ≤ count → is_le (slice_cmp nat_cmp text (repeat count (codes "z"))) ≡ true
+pub up_to_z : (text : List ℕ) (count : ℕ) → list_all is_component_byte text ≡ true → length text ≤ count → is_le (slice_cmp nat_cmp text (repeat count (codes "z"))) ≡ true
 up_to_z [] count all fits = nothing_first (repeat count (codes "z"))
 up_to_z (b ∷ text) zero all fits = absurd (omega arith)
 up_to_z (b ∷ text) (suc count) all fits =
     let t = both _ _ all in
     byte_up_to b (slice_cmp nat_cmp text (repeat count (codes "z"))) (greatest_byte b t.0) (up_to_z text count t.1 (omega arith))
 
-last_form : (p last : List ℕ) → Some last ≡ last_child_of p → last ≡ p ++ 47 ∷ repeat (min (511 - length p) 64) (codes "z")
+pub last_form : (p last : List ℕ) → Some last ≡ last_child_of p → last ≡ p ++ 47 ∷ repeat (min (511 - length p) 64) (codes "z")
 last_form p last h =
     (elim (nat_le (length p) 510) as (λ v. Some last ≡ cond v (Some (p ++ 47 ∷ repeat (min (511 - length p) 64) (codes "z"))) None → last ≡ p ++ 47 ∷ repeat (min (511 - length p) 64) (codes "z")) [
       | true ↦ (λ e. cc)
       | false ↦ (λ e. absurd (cc))
     ]) h
 
-short_component : (text : List ℕ) → is_component text ≡ true → length text ≤ 64
+pub short_component : (text : List ℕ) → is_component text ≡ true → length text ≤ 64
 short_component text h = let e : nat_le (length text) 64 ≡ true = (parts_of_component text h).short in grind (arith, nat_tests)
 
 deep_at : (key name last p component u : List ℕ) → length key ≤ 512 → is_component component ≡ true → front_of component ≡ None → key ≡ p ++ 47 ∷ component → key ≡ name ++ 47 ∷ u → bytes_eq p name ≡ false → Some last ≡ last_child_of p → IsDeep key name last
@@ -113,7 +109,7 @@ deep_by key name last path u short is all under (Some front) e no_child h =
     let last_is = ap (after_last is_slash) t.joined ∙ after_front front t.last t.no_more in
     deep_at key name last (codes "/ls/" ++ front) t.last u short (rw last_is at (last_is_component path all)) t.no_more (is ∙ ap (λ x. codes "/ls/" ++ x) t.joined) under no_child h
 
-deep_form : (key name last : List ℕ) → is_name key ≡ true → is_under key name ≡ true → is_child key name ≡ false → Some last ≡ last_sibling_of key → IsDeep key name last
+pub deep_form : (key name last : List ℕ) → is_name key ≡ true → is_under key name ≡ true → is_child key name ≡ false → Some last ≡ last_sibling_of key → IsDeep key name last
 deep_form key name last named under no_child h =
     let t = both _ _ named in
     let u = both _ _ t.0 in
@@ -151,7 +147,7 @@ behind last key = range_contains (slice_cmp nat_cmp) (Excluded last) Unbounded k
 behind_up : (last x y : List ℕ) → slice_cmp nat_cmp x y ≡ Less → behind last x ≡ true → behind last y ≡ true
 behind_up last x y less h = let e = nat_list_cmp_total.trans last x y (lt_is _ (both _ _ h).0) less in rw e refl
 
-key_up_to : (key name last : List ℕ) → IsDeep key name last → is_le (slice_cmp nat_cmp key last) ≡ true
+pub key_up_to : (key name last : List ℕ) → IsDeep key name last → is_le (slice_cmp nat_cmp key last) ≡ true
 key_up_to key name last d = rw (d.joined, d.last_joined, same_front (name ++ 47 ∷ d.deeper) (47 ∷ d.component) (47 ∷ repeat d.count (codes "z"))) d.up_to
 
 key_not_behind : (key last : List ℕ) → is_le (slice_cmp nat_cmp key last) ≡ true → behind last key ≡ false
@@ -177,7 +173,7 @@ before_not_behind key last x h less =
       | false ↦ (λ e. refl)
     ]) refl
 
-middle : (P : List ℕ → Type 0) (front rest : Nodes) (e : List ℕ × Node) → AllByRecursion P (keys_of (front ++ e ∷ rest)) → P e.0
+pub middle : (P : List ℕ → Type 0) (front rest : Nodes) (e : List ℕ × Node) → AllByRecursion P (keys_of (front ++ e ∷ rest)) → P e.0
 middle P [] rest e h = h.0
 middle P (f ∷ front) rest e h = middle P front rest e h.1
 

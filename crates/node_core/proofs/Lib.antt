@@ -4,3 +4,4 @@ pub mod Jumps
 pub mod Walks
 pub mod Seen
 pub mod Contents
+pub mod Reach

@@ -5,7 +5,7 @@ use Rattle.std.specs.Ordering.{is_le, is_lt, nat_cmp, ordering_then, ordering_re
 use Rattle.std.specs.Cmp.{tied_itself, nat_cmp_total}
 use Rattle.std.specs.Cmp.Lexicographic.{slice_cmp, nat_list_cmp_total}
 use Rattle.std.specs.Option.{option_map, option_map_or}
-use Rattle.std.specs.List.{AllByRecursion, list_all, list_any, slice_split, starts_with, after_last}
+use Rattle.std.specs.List.{AllByRecursion, list_all, list_any, slice_split, after_last}
 use Rattle.std.specs.List.Sorted.{IsStrictlySortedBy}
 use Rattle.std.specs.Map.{keys_of}
 use Rattle.std.specs.Str.{bytes_eq}
@@ -15,6 +15,7 @@ use Rattle.std.proofs.lemmas.Bool.Decides.{nat_tests}
 use Rattle.std.proofs.lemmas.Map.Lookups.{exact_unsigned}
 use Rattle.std.proofs.lemmas.List.Kept.{IsStrictlySortedBy-filter}
 use Rattle.names_cell.specs.Text.{is_name, is_component, is_component_byte, is_slash, front_of, is_child, is_under, first_child_of, last_of}
+use Rattle.names_cell.proofs.Children.{begins}
 use Rattle.names_cell.proofs.ComponentLemmas.{both, parts_of_component}
 use Rattle.names_cell.proofs.Parts.{splits, after_front, last_is_component}
 use Rattle.node_core.specs.Nodes.{Nodes, HasNamesInOrder, children, has_children}
@@ -28,15 +29,6 @@ alike a b h = grind (arith, nat_tests)
 
 nat_cmp_same : (b : ℕ) → nat_cmp b b ≡ Equal
 nat_cmp_same b = tied_itself nat_cmp_total b
-
--- what begins with a text is that text and the rest
-pub begins : (p c : List ℕ) → starts_with nat_eq c p ≡ true → c ≡ p ++ drop (length p) c
-begins [] c h = refl
-begins (a ∷ p) [] h = absurd (cc)
-begins (a ∷ p) (b ∷ c) h =
-    let t = both _ _ h in
-    let e : b ≡ a = sym (alike a b t.0) in
-    rw e (ap (λ r. a ∷ r) (begins p c t.1))
 
 equal : (x y : List ℕ) → bytes_eq x y ≡ true → x ≡ y
 equal [] [] h = refl
@@ -52,6 +44,7 @@ pub record IsChildOf (child name : List ℕ) : Type 0 where
   pub byte : ℕ
   pub more : List ℕ
   pub joined : child ≡ name ++ 47 ∷ byte ∷ more
+  pub component : is_component (byte ∷ more) ≡ true
   pub least : 45 ≤ byte
   pub no_more : front_of (byte ∷ more) ≡ None
 
@@ -64,6 +57,7 @@ child_of child name front (b ∷ bs) e n h no_more = record {
   byte = b;
   more = bs;
   joined = rw n e;
+  component = h;
   least = least_byte b (both _ _ (parts_of_component (b ∷ bs) h).bytes).0;
   no_more = no_more;
 }
@@ -87,7 +81,7 @@ name_length name h = let e : nat_le (length name) 512 ≡ true = (both _ _ (both
 
 -- ---- a child lies in the range, and below the name
 
-under_joined : (name rest : List ℕ) → is_under (name ++ 47 ∷ rest) name ≡ true
+pub under_joined : (name rest : List ℕ) → is_under (name ++ 47 ∷ rest) name ≡ true
 under_joined [] rest = refl
 under_joined (b ∷ bs) rest = rw (same_byte b) (under_joined bs rest)
 

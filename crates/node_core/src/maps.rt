@@ -138,25 +138,25 @@ impl Map {
         Some(name)
     }
 
-    /// The last components of the children of a name, in order of bytes. It walks over the children, and passes what
-    /// stands below each of them by look-ups in a tree.
+    /// The last components of the children of a name, in order of bytes. It walks from the least name that a child may have to
+    /// the greatest, looks at what stands behind the name alone, and passes what lies below each child by look-ups in a tree.
     pub fn children(&self, name: &Name) -> Result<Items<Component>, AllocError>
         ensures { IfOk result (λ names. names ≡ children self.now name.now) }
     {
         let nodes = self.as_map();
         let mut names = Items::new(self.alloc);
-        let Some(first) = name.first_child()? else {
+        let Some(least) = name.first_child()? else {
             return Ok(names);
         };
-        let mut entries = nodes.range(&first..);
+        let Some(greatest) = name.last_child()? else {
+            return Ok(names);
+        };
+        let mut entries = nodes.range((Bound::Included(&least), Bound::Included(&greatest)));
         while let Some((child, _)) = entries.next() {
-            if !child.is_under(name) {
-                return Ok(names);
-            }
-            if child.is_child_of(name) {
-                names.push(child.last_component()?)?;
+            if let Some(part) = child.child_part(name)? {
+                names.push(part)?;
             } else if let Some(last) = last_sibling(child)? {
-                entries = nodes.range((Bound::Excluded(&last), Bound::Unbounded));
+                entries = nodes.range((Bound::Excluded(&last), Bound::Included(&greatest)));
             }
         }
         Ok(names)
