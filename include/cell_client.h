@@ -277,7 +277,8 @@ uint32_t cell_client_set_sequencer(struct client_exports *client, uint64_t now, 
 /* Asks whether a sequencer is valid still. */
 uint32_t cell_client_check_sequencer(struct client_exports *client, uint64_t now, const uint8_t *sequencer, size_t sequencer_length);
 
-/* Ends the session: its locks are free at once. From here on the client serves nothing, and every other call is NO_SESSION. */
+/* Ends the session: its locks are free at once. From here on the client serves nothing, and every other call is NO_SESSION. A call that
+   waits is given up: no line tells how it ended. Its message takes the place of that call's in cell_client_again. */
 uint32_t cell_client_leave(struct client_exports *client, uint64_t now);
 
 /* ---- A call by its bytes, and the other steps. */

@@ -1,6 +1,7 @@
 -- The arm of the table that a message takes.
 use Rattle.std.proofs.Common.{◌≡◌, ◌≢◌, ℕ, ◌<◌, List, [], Bool, true, false, cond, Option, Some, None, Result, Ok, Err, refl, arith, eqb, inl, inr}
-use Rattle.std.specs.Prelude.{◌==◌, ◌||◌, nat_lt, is_none, ◌&&◌, is_some}
+use Rattle.std.specs.Prelude.{◌==◌, ◌||◌, nat_lt, is_none, ◌&&◌, is_some, not}
+use Rattle.std.proofs.lemmas.Bool.{and_parts, not-true, not-false}
 use Rattle.std.proofs.lemmas.Bool.Decides.{nat_tests}
 use Rattle.node_core.specs.declared.refusals.Fault.{Fault}
 use Rattle.node_core.specs.declared.refusals.Fault.TheVariants as faults
@@ -20,10 +21,11 @@ use Rattle.master_parts.specs.declared.pending.Task.TheVariants as tasks
 use Rattle.master_parts.specs.declared.pending.Work.TheVariants as works
 use Rattle.master_state.specs.State.{MasterState}
 use Rattle.master_state.specs.Lookups.{session_of, kept_of, is_live, is_full, may_start, turned_away, refusal, nothing, is_spent, noted, repeated}
-use Rattle.cell_core.specs.Step.{queued, replied, is_cachable, granting, telling, waits, admission_for, admit_step, new_call_by, new_call, kept_step, call_step, start_step, beat_by, beat_step, take_at, take_step, is_past_end, ended_step}
+use Rattle.cell_core.specs.Step.{is_older, leaves_beside, live_step, queued, replied, is_cachable, granting, telling, waits, admission_for, admit_step, new_call_by, new_call, kept_step, call_step, start_step, beat_by, beat_step, take_at, take_step, is_past_end, ended_step}
+use Rattle.master_state.specs.CallsWaiting.{has_call}
 use Rattle.master_state.specs.Updates.{with_note}
 use Rattle.cell_core.specs.Cases.{IsHeard, IsNew, TakeCase, taken_by}
-use Rattle.cell_core.specs.Cases.TakeCase.{StartRefused, StartRecovering, StartFull, StartQueued, OldBeat, BeatRefused, BeatParked, OldEpoch, NoSession, Repeated, OlderCall, Outstanding, Recovering, Answered, Granted, Waits, LeftBefore}
+use Rattle.cell_core.specs.Cases.TakeCase.{StartRefused, StartRecovering, StartFull, StartQueued, OldBeat, BeatRefused, BeatParked, OldEpoch, NoSession, Repeated, OlderCall, Outstanding, LeavesBeside, Recovering, Answered, Granted, Waits, LeftBefore}
 use Rattle.tags_cell.specs.Messages.{is_leave}
 
 -- one of the cases is what is done
@@ -101,6 +103,38 @@ kept_case s request message (Some kept) heard is =
     let t = some_reply kept.reply e in
     new_case s request message (record { heard = heard; behind = rw is (t.0, t.1, high) }))))
 
+-- the end of a session, while its last call waits for a lock
+older_kept : (number : ℕ) (o : Option (LastCall Reply)) → is_older number o ≡ true → (kept : LastCall Reply) × (o ≡ Some kept) × (kept.number < number) × (kept.reply ≡ None)
+older_kept number None h = cc
+older_kept number (Some kept) h =
+    let t = and_parts (is_none kept.reply) (nat_lt kept.number number) h in
+    (kept, refl, less kept.number number t.1, no_reply kept.reply t.0)
+
+beside_case : (s : MasterState) (request : Request) (message : CallMessage) → IsHeard s request message → is_full s ≡ false → leaves_beside s message ≡ true → IsCase s request (waits s message None)
+beside_case s request message heard room h =
+    let older = is_older message.number (kept_of s message.client) in
+    let quiet = not (has_call message.client s.gate.waiting) in
+    let t = and_parts (is_leave message.call && older) (not s.recovering && quiet) h in
+    let own = and_parts (is_leave message.call) older t.0 in
+    let up = and_parts (not s.recovering) quiet t.1 in
+    let last = older_kept message.number (kept_of s message.client) own.1 in (
+      LeavesBeside message heard (record {
+        leave = own.0;
+        kept = last.0;
+        found = last.1;
+        more = last.2;
+        none = last.3;
+        alone = not-true (has_call message.client s.gate.waiting) up.1;
+        serving = not-true s.recovering up.0;
+        room = room;
+      }),
+      refl,
+    )
+
+neither : (a b : Bool) → (a || b) ≡ false → (a ≡ false) × (b ≡ false)
+neither true b h = cc
+neither false b h = (refl, h)
+
 -- the session has ended
 ended_case : (s : MasterState) (request : Request) (message : CallMessage) (o : Option (LastCall Reply)) → request ≡ requests.Call message → message.epoch ≡ s.epoch → is_live s message.client ≡ false → kept_of s message.client ≡ o → IsCase s request (ended_step s message (kept_answer o message.number))
 ended_case s request message None is epoch ended none = (NoSession message is epoch ended, refl)
@@ -124,12 +158,18 @@ ended_case s request message (Some kept) is epoch ended some = by_number (messag
 call_case : (s : MasterState) (request : Request) (message : CallMessage) → request ≡ requests.Call message → IsCase s request (call_step s message)
 call_case s request message is =
     let kept = kept_step s message (kept_answer (kept_of s message.client) message.number) in
+    let lives = live_step s message in
     let over = ended_step s message (kept_answer (kept_of s message.client) message.number) in
-    let live = cond (is_live s message.client) kept over in
+    let live = cond (is_live s message.client) lives over in
     either s request (message.epoch == s.epoch) live (s, refusal s message.client message.number (faults.OldEpoch s.epoch)) (λ e.
     let epoch = same message.epoch s.epoch e in
-    either s request (is_live s message.client) kept over
-    (λ alive. kept_case s request message (kept_of s message.client) (record { is_call = is; epoch = epoch; live = alive }) refl)
+    either s request (is_live s message.client) lives over
+    (λ alive.
+    let heard : IsHeard s request message = record { is_call = is; epoch = epoch; live = alive } in
+    either s request (is_full s || not (leaves_beside s message)) kept (waits s message None) (λ h. kept_case s request message (kept_of s message.client) heard refl)
+    (λ h.
+    let t = neither (is_full s) (not (leaves_beside s message)) h in
+    beside_case s request message heard t.0 (not-false (leaves_beside s message) t.1)))
     (λ ended. ended_case s request message (kept_of s message.client) is epoch ended refl))
     (λ e. (OldEpoch message is (other message.epoch s.epoch e), refl))
 

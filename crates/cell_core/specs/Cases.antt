@@ -15,7 +15,9 @@ use Rattle.master_state.specs.State.{MasterState}
 use Rattle.master_state.specs.Lookups.{session_of, kept_of, is_live, is_full, may_start, nothing, turned_away, refusal, repeated}
 use Rattle.cell_core.specs.declared.asking.TouchedNames.{TouchedNames}
 use Rattle.cell_core.specs.Step.{queued, parked, acked, replied, is_cachable, granting, waits, admission_for}
+use Rattle.master_state.specs.CallsWaiting.{has_call}
 use Rattle.master_state.specs.Updates.{with_note}
+use Rattle.tags_cell.specs.Messages.{is_leave}
 use Rattle.node_core.specs.declared.refusals.Fault.TheVariants as faults
 use Rattle.tags_cell.specs.declared.messages.requests.Request.TheVariants as requests
 use Rattle.tags_cell.specs.declared.messages.outs.CallResult.TheVariants as results
@@ -39,6 +41,18 @@ pub record IsHeard (s : MasterState) (request : Request) (message : CallMessage)
 pub record IsNew (s : MasterState) (request : Request) (message : CallMessage) : Type 0 where
   pub heard : IsHeard s request message
   pub behind : IsBehind (kept_of s message.client) message.number
+
+-- one that ends its session, while its last call waits for a lock
+pub record IsBeside (s : MasterState) (message : CallMessage) : Type 0 where
+  pub leave : is_leave message.call ≡ true
+  pub kept : LastCall Reply
+  pub found : kept_of s message.client ≡ Some kept
+  pub more : kept.number < message.number
+  pub none : kept.reply ≡ None
+  -- that one has had its turn
+  pub alone : has_call message.client s.gate.waiting ≡ false
+  pub serving : s.recovering ≡ false
+  pub room : is_full s ≡ false
 
 -- its answer may not be kept in a cache: it tells of no name, or of one that isn't cachable
 abbrev pub IsUnkept : MasterState → ℕ → Option (List ℕ) → Type 0
@@ -83,6 +97,7 @@ pub data TakeCase (s : MasterState) (request : Request) : Type 0 where
   Repeated : (message : CallMessage) (kept : LastCall Reply) → IsHeard s request message → kept_of s message.client ≡ Some kept → message.number ≡ kept.number → TakeCase s request
   OlderCall : (message : CallMessage) (kept : LastCall Reply) → IsHeard s request message → kept_of s message.client ≡ Some kept → message.number < kept.number → TakeCase s request
   Outstanding : (message : CallMessage) (kept : LastCall Reply) → IsHeard s request message → kept_of s message.client ≡ Some kept → kept.number < message.number → kept.reply ≡ None → TakeCase s request
+  LeavesBeside : (message : CallMessage) → IsHeard s request message → IsBeside s message → TakeCase s request
   Recovering : (message : CallMessage) → IsNew s request message → s.recovering ≡ true → TakeCase s request
   Answered : (message : CallMessage) (note : Option HandleNote) (answer : CallResult) → IsNew s request message → s.recovering ≡ false → IsAnswered s message note answer → TakeCase s request
   Granted : (message : CallMessage) (note : Option HandleNote) (answer : CallResult) (name : List ℕ) → IsNew s request message → s.recovering ≡ false → IsGranted s message note answer name → TakeCase s request
@@ -104,6 +119,7 @@ taken_by s request (LeftBefore message kept is same ended found number) = (s, re
 taken_by s request (Repeated message kept heard is same) = (s, repeated kept)
 taken_by s request (OlderCall message kept heard is less) = (s, refusal s message.client message.number faults.Repeat)
 taken_by s request (Outstanding message kept heard is more none) = (s, refusal s message.client message.number faults.CallOutstanding)
+taken_by s request (LeavesBeside message heard beside) = waits s message None
 taken_by s request (Recovering message new recovering) = replied s message.client message.number (results.Refused faults.Recovering)
 taken_by s request (Answered message note answer new serving answered) = replied (with_note s note) message.client message.number answer
 taken_by s request (Granted message note answer name new serving granted) = granting (with_note s note) message.client message.number answer name

@@ -13,6 +13,7 @@ pub use Rattle.master_parts.specs.Notes
 pub use Rattle.master_parts.specs.Answered
 pub use Rattle.master_state.specs.State
 pub use Rattle.master_state.specs.Lookups
+pub use Rattle.master_state.specs.CallsWaiting
 pub use Rattle.master_parts.specs.Locks
 pub use Rattle.master_parts.specs.Calls
 pub use Rattle.master_state.specs.Notices

@@ -1,5 +1,5 @@
 -- What a master does with a message.
-use Rattle.std.specs.Prelude.{ℕ, Bool, ◌&&◌, ◌||◌, ◌==◌, nat_le, List, [], ◌∷◌, map, Option, Some, None, Result, Ok, Err, if◌then◌else◌, is_none, is_some}
+use Rattle.std.specs.Prelude.{ℕ, Bool, false, not, ◌&&◌, ◌||◌, ◌==◌, nat_le, nat_lt, List, [], ◌∷◌, map, Option, Some, None, Result, Ok, Err, if◌then◌else◌, is_none, is_some}
 use Rattle.std.specs.Option.{option_and_then}
 use Rattle.node_core.specs.declared.refusals.Fault.{Fault}
 use Rattle.node_core.specs.Nodes.{with_parent}
@@ -34,6 +34,7 @@ use Rattle.tags_cell.specs.Messages.{is_leave}
 use Rattle.master_parts.specs.Calls.{create_fault, bytes_of}
 use Rattle.master_parts.specs.Answered.{answered_by}
 use Rattle.master_parts.specs.Notes.{open_note}
+use Rattle.master_state.specs.CallsWaiting.{has_call}
 use Rattle.master_state.specs.Updates.{with_note}
 use Rattle.node_core.specs.declared.refusals.Fault.TheVariants as faults
 use Rattle.node_core.specs.declared.lines.Line.TheVariants as lines
@@ -250,6 +251,21 @@ kept_step s message (Err fault) = (s, refusal s message.client message.number fa
 kept_step s message (Ok (Some kept)) = (s, repeated kept)
 kept_step s message (Ok None) = new_call s message
 
+-- a call that waits, and is older than this one
+abbrev pub is_older : ℕ → Option (LastCall Reply) → Bool
+is_older number None = false
+is_older number (Some kept) = is_none kept.reply && nat_lt kept.number number
+
+-- a client may end its session while its last call waits for a lock: that one has had its turn, so that no call of the client waits for one
+abbrev pub leaves_beside : MasterState → CallMessage → Bool
+leaves_beside s message =
+    (is_leave message.call && is_older message.number (kept_of s message.client)) && (not s.recovering && not (has_call message.client s.gate.waiting))
+
+-- where there is room its last call is the new one then, and the reply to the older one is given up
+abbrev pub live_step : MasterState → CallMessage → MasterState × Taken
+live_step s message =
+    if is_full s || not (leaves_beside s message) then kept_step s message (kept_answer (kept_of s message.client) message.number) else waits s message None
+
 -- of a session that has ended: the call by which its client ended it comes again, or there is none
 abbrev pub ended_step : MasterState → CallMessage → Result (Option (LastCall Reply)) Fault → MasterState × Taken
 ended_step s message (Ok (Some kept)) =
@@ -259,7 +275,7 @@ ended_step s message _ = (s, refusal s message.client message.number faults.NoSe
 abbrev pub call_step : MasterState → CallMessage → MasterState × Taken
 call_step s message =
     if message.epoch == s.epoch
-    then (if is_live s message.client then kept_step s message (kept_answer (kept_of s message.client) message.number)
+    then (if is_live s message.client then live_step s message
     else ended_step s message (kept_answer (kept_of s message.client) message.number))
     else (s, refusal s message.client message.number (faults.OldEpoch s.epoch))
 

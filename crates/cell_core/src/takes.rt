@@ -1,6 +1,6 @@
 //! What a master does with a message.
 ghost use Rattle.std.specs.Prelude.{◌≡◌, ◌≢◌, true, false, Some, None, Ok, Err, IfOk, IfErr, OnOk, OnErr};
-ghost use Rattle.cell_core.specs.Step.{take_step, take_at, start_step, beat_step, call_step, kept_step, ended_step, new_call, admit_step, telling, granting, is_cachable, with_right, waits, with_call, recorded, queued, replied, task_of};
+ghost use Rattle.cell_core.specs.Step.{take_step, take_at, start_step, beat_step, call_step, is_older, leaves_beside, kept_step, ended_step, new_call, admit_step, telling, granting, is_cachable, with_right, waits, with_call, recorded, queued, replied, task_of};
 ghost use Rattle.master_state.specs.Updates.{with_note};
 ghost use Rattle.master_state.specs.Lookups.{kept_of, is_full, is_spent, nothing};
 ghost use Rattle.session_core.specs.Session.{kept_answer};
@@ -144,7 +144,36 @@ fn take_call<A: Answers>(master: &mut Master, message: &CallMessage) -> Result<A
     if !master.is_live(client) {
         return A::of(of_ended(master, message)?);
     }
-    by_kept(master, message)
+    if master.is_full() || !leaves_beside(master, message) {
+        return by_kept(master, message);
+    }
+    wait(master, message, None)
+}
+
+// Whether the client ends its session while its last call waits for a lock.
+fn leaves_beside(master: &Master, message: &CallMessage) -> bool
+    ensures { result ≡ leaves_beside master.now message.now }
+{
+    if !is_leave(&message.call) {
+        return false;
+    }
+    if !is_older(master, message) {
+        return false;
+    }
+    !master.recovering && !master.has_call(message.client)
+}
+
+// Whether the last call of the client waits, and is older than this one.
+fn is_older(master: &Master, message: &CallMessage) -> bool
+    ensures { result ≡ is_older message.now.number (kept_of master.now message.now.client) }
+{
+    let Some(session) = master.sessions().get(message.client.get()) else {
+        return false;
+    };
+    match &session.kept {
+        None => false,
+        Some(kept) => kept.reply.is_none() && kept.number < message.number,
+    }
 }
 
 // A session that has ended answers the call again by which its client ended it, and nothing else.

@@ -1,6 +1,6 @@
 -- The arm of the table by which a client is asked for a call, or for a Start.
 use Rattle.std.proofs.Common.{◌≡◌, ◌≢◌, ℕ, ◌+◌, ◌<◌, max, Bool, true, false, cond, List, [], ◌∷◌, Option, Some, None, Result, Ok, Err, refl, sym, ap, ◌∙◌}
-use Rattle.std.specs.Prelude.{◌&&◌, nat_lt, is_none, is_some}
+use Rattle.std.specs.Prelude.{◌&&◌, ◌||◌, not, nat_lt, is_none, is_some}
 use Rattle.std.specs.Option.{option_map}
 use Rattle.lease_core.specs.Lease.{moment_limit}
 use Rattle.cache_core.specs.Caches.{answer}
@@ -36,10 +36,10 @@ use Rattle.client_core.specs.State.{ClientState, standing_then, session_behind, 
 use Rattle.client_core.specs.Handles.{handle_of, usable_handle}
 use Rattle.client_core.specs.Serves.{serve_answer, cached_served, share, entry_served}
 use Rattle.client_core.specs.Opens.{cached_answer, is_plain, only_reads, kept_handle}
-use Rattle.client_core.specs.Asks.{fault_then, has_given_up, fault_for, send_plan, served_or, close_plan, poison_plan, node_plan, sequencer_plan, plan_of, asked_for, message_of, with_call, with_shared, ask_by, ask_in, ask_at, ask_step, asks_to_leave}
+use Rattle.client_core.specs.Asks.{fault_then, has_given_up, fault_for, send_plan, may_leave, served_or, close_plan, poison_plan, node_plan, sequencer_plan, plan_of, asked_for, message_of, with_call, with_shared, ask_by, ask_in, ask_at, ask_step, asks_to_leave}
 use Rattle.client_core.specs.Calls.{call_on}
 use Rattle.client_core.specs.Beats.{start_message, beat_message, with_beat, beaten, sends, beat_by, beat_at, beat_step}
-use Rattle.client_core.specs.Cases.{noted_moment, IsSafe, IsUsable, IsShared, AskCase, asked_in, BeatCase, beaten_in}
+use Rattle.client_core.specs.Cases.{noted_moment, is_free, IsSafe, IsUsable, IsShared, AskCase, asked_in, BeatCase, beaten_in}
 use Rattle.client_core.specs.Cases.AskCase.{AskedTooLate, Unsafe, Refused, ReadServed, AbsenceServed, Shared, OutOfHandles, Released, OutOfCalls, Sent, Poisoned}
 use Rattle.client_core.specs.Cases.BeatCase.{BeatTooLate, OutOfBeats, Starts, Beats, Quiet}
 use Rattle.client_core.proofs.Noting.{either, less, not_less, faultless, then_in}
@@ -57,18 +57,24 @@ IsAsked s now ask p = (c : AskCase s now ask) × (p ≡ asked_in s now ask c)
 abbrev IsDone : (s : ClientState) (now : ℕ) (ask : Ask) → Result AskPlan Fault → Type 0
 IsDone s now ask plan = plan_of s (noted_moment s now) ask ≡ plan → IsAsked s now ask (ask_by s (noted_moment s now) plan)
 
-send_case : (s : ClientState) (now : ℕ) (ask : Ask) (call : Call) (sequencer : Option (List ℕ)) (target : Target) → is_leaving target ≡ asks_to_leave ask → is_leave call ≡ is_leaving target → IsSafe s now → s.outstanding ≡ None → IsDone s now ask (Ok (plans.Send call sequencer target))
+send_case : (s : ClientState) (now : ℕ) (ask : Ask) (call : Call) (sequencer : Option (List ℕ)) (target : Target) → is_leaving target ≡ asks_to_leave ask → is_leave call ≡ is_leaving target → IsSafe s now → is_free s ask ≡ true → IsDone s now ask (Ok (plans.Send call sequencer target))
 send_case s now ask call sequencer target leaves ends safe free is =
     either (IsAsked s now ask) (nat_lt (s.calls + 1) number_end) (with_call s (noted_moment s now) call sequencer target, Ok (asked_for [] (outcomes.Sent (message_of s call sequencer)))) (s, Err faults.Exhausted)
     (λ h. (Sent call sequencer target (record { safe = safe; is_plan = is; free = free; leaves = leaves; ends = ends }) (less (s.calls + 1) number_end h), refl))
     (λ h. (OutOfCalls call sequencer target (record { safe = safe; is_plan = is; free = free; leaves = leaves; ends = ends }) (not_less (s.calls + 1) number_end h), refl))
 
 sends_beside : (s : ClientState) (now : ℕ) (ask : Ask) (call : Call) (sequencer : Option (List ℕ)) (target : Target) (o : Option Outstanding) → is_leaving target ≡ asks_to_leave ask → is_leave call ≡ is_leaving target → IsSafe s now → s.outstanding ≡ o → IsDone s now ask (cond (is_some o) (Err faults.CallOutstanding) (Ok (plans.Send call sequencer target)))
-sends_beside s now ask call sequencer target None leaves ends safe free is = send_case s now ask call sequencer target leaves ends safe free is
+sends_beside s now ask call sequencer target None leaves ends safe free is =
+    send_case s now ask call sequencer target leaves ends safe (ap (λ o. is_none o || (asks_to_leave ask && not s.leaving)) free) is
 sends_beside s now ask call sequencer target (Some former) leaves ends safe busy is = (Refused faults.CallOutstanding safe is, refl)
 
 sends_case : (s : ClientState) (now : ℕ) (ask : Ask) (call : Call) (sequencer : Option (List ℕ)) (target : Target) → is_leaving target ≡ asks_to_leave ask → is_leave call ≡ is_leaving target → IsSafe s now → IsDone s now ask (send_plan s call sequencer target)
 sends_case s now ask call sequencer target leaves ends safe is = sends_beside s now ask call sequencer target s.outstanding leaves ends safe refl is
+
+-- the end of the session
+leave_case : (s : ClientState) (now : ℕ) (b : Bool) → IsSafe s now → may_leave s ≡ b → IsDone s now asks.Leave (cond b (Ok (plans.Send calls.Leave None targets.Leaving)) (Err faults.CallOutstanding))
+leave_case s now true safe may is = send_case s now asks.Leave calls.Leave None targets.Leaving refl refl safe may is
+leave_case s now false safe may is = (Refused faults.CallOutstanding safe is, refl)
 
 -- ---- an Open
 
@@ -187,7 +193,7 @@ plan_case s now (asks.Poison number) safe h = poison_case s now number (handle_o
 plan_case s now (asks.Node number call) safe h = node_case s now number call (handle_of s.handles number) safe (stays_of s.leaving h) refl refl
 plan_case s now (asks.SetSequencer number sequencer) safe h = sequencer_case s now number sequencer (handle_of s.handles number) safe refl
 plan_case s now (asks.CheckSequencer bytes) safe h = sends_case s now (asks.CheckSequencer bytes) (calls.CheckSequencer bytes) None targets.Checking refl refl safe refl
-plan_case s now asks.Leave safe h = sends_case s now asks.Leave calls.Leave None targets.Leaving refl refl safe refl
+plan_case s now asks.Leave safe h = leave_case s now (may_leave s) safe refl refl
 
 not_given_up : (b : Bool) (o : Option Fault) → cond b (Some faults.NoSession) o ≡ None → (b ≡ false) × (o ≡ None)
 not_given_up true o h = cc

@@ -1,6 +1,6 @@
 -- The changes of the cache that are asked for before a step lead to the cache behind it.
 use Rattle.std.proofs.Common.{◌≡◌, ◌≢◌, ℕ, ◌+◌, ◌<◌, Bool, true, false, cond, List, [], ◌∷◌, ◌++◌, Option, Some, None, Result, Ok, Err, refl, sym, ap, ◌∙◌, subst, arith, ◌⊎◌, inl, inr}
-use Rattle.std.specs.Prelude.{◌==◌, ◌&&◌, nat_lt, IfOk, is_none, is_some, not}
+use Rattle.std.specs.Prelude.{◌==◌, ◌&&◌, nat_lt, IfOk, is_none, not}
 use Rattle.std.proofs.lemmas.Bool.Decides.{nat_tests}
 use Rattle.std.proofs.lemmas.List.Sums.{fold-append}
 use Rattle.lease_core.specs.Lease.{LeaseTerms, moment_limit, is_unexpired}
@@ -22,11 +22,11 @@ use Rattle.client_core.specs.Leased.{under, shut, shut_if}
 use Rattle.client_core.specs.Moments.{moment}
 use Rattle.client_core.specs.PartOps.{losses, with_flushes, lease_ops}
 use Rattle.client_core.specs.State.{ClientState, note_in, note, standing_then, session_then, session_in, session_behind}
-use Rattle.client_core.specs.Asks.{ask_step, ask_at, asks_to_leave, fault_then, fault_for, leaves, plan_of}
+use Rattle.client_core.specs.Asks.{ask_step, ask_at, asks_to_leave, fault_then, fault_for, may_leave, leaves, plan_of}
 use Rattle.client_core.specs.Beats.{beat_step}
 use Rattle.client_core.specs.Gives.{offered, takes_offer, with_processed, with_lease, ended_plainly, is_live, leave_step, finish_step}
 use Rattle.client_core.specs.Ops.{LeadTo}
-use Rattle.client_core.specs.Cases.{noted_moment, IsSafe, AskCase, asked_in, BeatCase, beaten_in, IsSendable}
+use Rattle.client_core.specs.Cases.{noted_moment, is_free, IsSafe, AskCase, asked_in, BeatCase, beaten_in, IsSendable}
 use Rattle.client_core.specs.Cases.AskCase.{AskedTooLate, Unsafe, Refused, ReadServed, AbsenceServed, Shared, OutOfHandles, Released, OutOfCalls, Sent, Poisoned}
 use Rattle.client_core.specs.Cases.BeatCase.{BeatTooLate, OutOfBeats, Starts, Beats, Quiet}
 use Rattle.client_core.proofs.Noting.{relied_note, note_leaving}
@@ -36,7 +36,6 @@ use Rattle.client_core.specs.Targets.{is_leaving}
 use Rattle.client_core.specs.Sessions.{session_fault}
 use Rattle.client_core.specs.declared.plans.AskPlan.{AskPlan}
 use Rattle.client_core.specs.declared.plans.AskPlan.TheVariants as plans
-use Rattle.client_core.specs.declared.parts.targets.Outstanding.{Outstanding}
 use Rattle.client_core.specs.declared.parts.targets.Target.TheVariants as targets
 use Rattle.client_core.specs.declared.parts.asks.Ask.TheVariants as asks
 use Rattle.client_core.specs.declared.parts.sessions.ClientStanding.{ClientStanding}
@@ -237,8 +236,8 @@ leave_faultless s now safe =
     let none : fault_then s m ≡ None = ap (λ x. session_fault x (standing_then s m)) safe.live ∙ ap (session_fault sessions.Live) stands in
     kept_on s.leaving (session_then s m) (fault_then s m) lives none
 
--- where the end of its session isn't sent by a client that may rely on it and has no call, something else is asked for
-asks_none : (s : ClientState) (now : ℕ) (ask : Ask) → IsSafe s now → s.outstanding ≡ None → leaves s (noted_moment s now) ask ≡ false → asks_to_leave ask ≡ false
+-- where the end of its session isn't sent by a client that may rely on it, and no call is in its way, something else is asked for
+asks_none : (s : ClientState) (now : ℕ) (ask : Ask) → IsSafe s now → is_free s ask ≡ true → leaves s (noted_moment s now) ask ≡ false → asks_to_leave ask ≡ false
 asks_none s now (asks.Open opening) safe free h = refl
 asks_none s now (asks.Close number) safe free h = refl
 asks_none s now (asks.Poison number) safe free h = refl
@@ -247,8 +246,8 @@ asks_none s now (asks.SetSequencer number sequencer) safe free h = refl
 asks_none s now (asks.CheckSequencer bytes) safe free h = refl
 asks_none s now asks.Leave safe free h =
     let goes : is_none (fault_for s (noted_moment s now) asks.Leave) ≡ true = leave_faultless s now safe in
-    let none : is_none s.outstanding ≡ true = ap (λ o. is_none o) free in
-    let x : (is_none (fault_for s (noted_moment s now) asks.Leave) && is_none s.outstanding) ≡ true = rw (goes, none) refl in
+    let may : may_leave s ≡ true = free in
+    let x : (is_none (fault_for s (noted_moment s now) asks.Leave) && may_leave s) ≡ true = rw (goes, may) refl in
     cc
 
 asks_it : (s : ClientState) (moment : ℕ) (ask : Ask) → leaves s moment ask ≡ true → asks_to_leave ask ≡ true
@@ -260,10 +259,10 @@ asks_it s moment (asks.SetSequencer number sequencer) h = cc
 asks_it s moment (asks.CheckSequencer bytes) h = cc
 asks_it s moment asks.Leave h = refl
 
-sends_it : (b : Bool) (o : Option Outstanding) (plan : AskPlan) (fault : Fault) → (b && is_none o) ≡ true → cond (is_some o) (Err faults.CallOutstanding) (Ok plan) ≡ Err fault → ⊥
-sends_it true None plan fault h is = cc
-sends_it true (Some call) plan fault h is = cc
-sends_it false o plan fault h is = cc
+sends_it : (b may : Bool) (plan : AskPlan) (fault : Fault) → (b && may) ≡ true → cond may (Ok plan) (Err faults.CallOutstanding) ≡ Err fault → ⊥
+sends_it true true plan fault h is = cc
+sends_it true false plan fault h is = cc
+sends_it false may plan fault h is = cc
 
 -- and what is sent isn't refused
 never_refused : (s : ClientState) (moment : ℕ) (ask : Ask) (fault : Fault) → leaves s moment ask ≡ true → plan_of s moment ask ≡ Err fault → ⊥
@@ -273,17 +272,17 @@ never_refused s moment (asks.Poison number) fault h is = cc
 never_refused s moment (asks.Node number call) fault h is = cc
 never_refused s moment (asks.SetSequencer number sequencer) fault h is = cc
 never_refused s moment (asks.CheckSequencer bytes) fault h is = cc
-never_refused s moment asks.Leave fault h is = sends_it (is_none (fault_for s moment asks.Leave)) s.outstanding (plans.Send calls.Leave None targets.Leaving) fault h is
+never_refused s moment asks.Leave fault h is = sends_it (is_none (fault_for s moment asks.Leave)) (may_leave s) (plans.Send calls.Leave None targets.Leaving) fault h is
 
 module _ (s : ClientState) (now : ℕ) (ask : Ask) (ops : List CacheOp) (so : AsksSo s now ask ops) where
   -- something else is asked for, by who may rely on its session
   other_leads : IsSafe s now → asks_to_leave ask ≡ false → applied_all s.cache ops ≡ s.cache
   other_leads safe is =
-      safely_leads s now ops (noted_so s now ask ops (not_first (asks_to_leave ask) (is_none (fault_for s (noted_moment s now) ask)) (is_none s.outstanding) is) so) safe
+      safely_leads s now ops (noted_so s now ask ops (not_first (asks_to_leave ask) (is_none (fault_for s (noted_moment s now) ask)) (may_leave s) is) so) safe
 
   asked_leads : (c : AskCase s now ask) → LeadTo s.cache ops (asked_in s now ask c)
   asked_leads (AskedTooLate late) = tt
-  asked_leads (Unsafe fault early is) = noted_so s now ask ops (some_fault (asks_to_leave ask) (is_none s.outstanding) (fault_for s (noted_moment s now) ask) fault is) so early
+  asked_leads (Unsafe fault early is) = noted_so s now ask ops (some_fault (asks_to_leave ask) (may_leave s) (fault_for s (noted_moment s now) ask) fault is) so early
   asked_leads (Refused fault safe is) = safely_leads s now ops (noted_so s now ask ops (λ h. never_refused s (noted_moment s now) ask fault h is) so) safe
   asked_leads (ReadServed number handle call entry given safe is readable) = other_leads safe (ap asks_to_leave is)
   asked_leads (AbsenceServed opening safe stays is plain cached) = other_leads safe (ap asks_to_leave is)

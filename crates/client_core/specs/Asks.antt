@@ -57,6 +57,13 @@ fault_for s moment ask = if has_given_up s moment ask then Some faults.NoSession
 abbrev pub send_plan : ClientState → Call → Option (List ℕ) → Target → Result AskPlan Fault
 send_plan s call sequencer target = if is_some s.outstanding then Err faults.CallOutstanding else Ok (plans.Send call sequencer target)
 
+-- the end of its session waits for no call but the one that asks for it: the reply to another is given up
+abbrev pub may_leave : ClientState → Bool
+may_leave s = is_none s.outstanding || not s.leaving
+
+abbrev pub leave_plan : ClientState → Result AskPlan Fault
+leave_plan s = if may_leave s then Ok (plans.Send calls.Leave None targets.Leaving) else Err faults.CallOutstanding
+
 -- what the cache answers is answered, and all else is sent
 abbrev pub served_or : Option AskPlan → Result AskPlan Fault → Result AskPlan Fault
 served_or (Some plan) sent = Ok plan
@@ -93,11 +100,11 @@ plan_of s moment (asks.Poison number) = poison_plan number (usable_handle (handl
 plan_of s moment (asks.Node number call) = node_plan s moment number call (usable_handle (handle_of s.handles number))
 plan_of s moment (asks.SetSequencer number sequencer) = sequencer_plan s number sequencer (usable_handle (handle_of s.handles number))
 plan_of s moment (asks.CheckSequencer bytes) = send_plan s (calls.CheckSequencer bytes) None targets.Checking
-plan_of s moment asks.Leave = send_plan s calls.Leave None targets.Leaving
+plan_of s moment asks.Leave = leave_plan s
 
 -- the call is made that ends the session
 abbrev pub leaves : ClientState → ℕ → Ask → Bool
-leaves s moment ask = (asks_to_leave ask && is_none (fault_for s moment ask)) && is_none s.outstanding
+leaves s moment ask = (asks_to_leave ask && is_none (fault_for s moment ask)) && may_leave s
 
 -- ---- one step
 

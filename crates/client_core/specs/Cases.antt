@@ -1,5 +1,5 @@
 -- By which arm of its table a client does a step. Each law of the client is a match on these.
-use Rattle.std.specs.Prelude.{◌≡◌, ◌≢◌, ◌⊎◌, ℕ, ◌+◌, ◌<◌, ◌≤◌, max, true, false, List, [], ◌∷◌, ◌++◌, Option, Some, None, Result, Ok, Err}
+use Rattle.std.specs.Prelude.{◌≡◌, ◌≢◌, ◌⊎◌, ℕ, ◌+◌, ◌<◌, ◌≤◌, max, Bool, true, false, not, is_none, ◌&&◌, ◌||◌, List, [], ◌∷◌, ◌++◌, Option, Some, None, Result, Ok, Err}
 use Rattle.lease_core.specs.Lease.{moment_limit}
 use Rattle.cache_core.specs.Caches.{is_leased, takes_lease, answer}
 use Rattle.cache_core.specs.Kept.{serving}
@@ -65,11 +65,15 @@ pub record IsSafe (s : ClientState) (now : ℕ) : Type 0 where
   pub safe : s.standing ≡ standings.Safe
   pub leased : is_leased s.cache.lease (noted_moment s now) ≡ true
 
--- this call may be sent under this sequencer or under none, beside no other call
+-- no call is in the way of what is asked for: none is outstanding, or the session is to end, which wasn't asked for before
+abbrev pub is_free : ClientState → Ask → Bool
+is_free s ask = is_none s.outstanding || (asks_to_leave ask && not s.leaving)
+
+-- this call may be sent under this sequencer or under none, and no other is in its way
 pub record IsSendable (s : ClientState) (now : ℕ) (ask : Ask) (call : Call) (sequencer : Option (List ℕ)) (target : Target) : Type 0 where
   pub safe : IsSafe s now
   pub is_plan : plan_of s (noted_moment s now) ask ≡ Ok (plans.Send call sequencer target)
-  pub free : s.outstanding ≡ None
+  pub free : is_free s ask ≡ true
   -- the call that ends the session is asked for as that
   pub leaves : is_leaving target ≡ asks_to_leave ask
   pub ends : is_leave call ≡ is_leaving target

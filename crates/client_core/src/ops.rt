@@ -62,9 +62,7 @@ impl Client {
     fn leaves(&self, moment: u64, asked: &Ask) -> bool
         ensures { result ≡ leaves self.now moment asked.now }
     {
-        asked.asks_to_leave()
-            && self.fault_for(moment, asked).is_none()
-            && self.outstanding.is_none()
+        asked.asks_to_leave() && self.fault_for(moment, asked).is_none() && self.may_leave()
     }
 
     /// The changes of the cache that the `give` of this message at this moment makes. Nothing is changed. Clones the names

@@ -3,7 +3,7 @@ ghost use Rattle.std.specs.Prelude.{◌≡◌, Some, IfOk};
 ghost use Rattle.std.specs.Option.{option_copied};
 ghost use Rattle.collections.specs.Results.{Gives};
 ghost use Rattle.client_core.specs.Handles.{handle_of, usable_handle};
-ghost use Rattle.client_core.specs.Asks.{plan_of, send_plan, open_plan, close_plan, node_plan, sequencer_plan};
+ghost use Rattle.client_core.specs.Asks.{plan_of, send_plan, may_leave, leave_plan, open_plan, close_plan, node_plan, sequencer_plan};
 
 use crate::client::Client;
 use crate::parts::{Ask, ClientHandle, NodeCall, Target, usable_handle};
@@ -43,7 +43,7 @@ impl Client {
             Ask::CheckSequencer(bytes) => {
                 self.send_plan(Call::CheckSequencer(bytes.clone()?), None, Target::Checking)
             }
-            Ask::Leave => self.send_plan(Call::Leave, None, Target::Leaving),
+            Ask::Leave => self.leave_plan(),
         }
     }
 
@@ -62,6 +62,22 @@ impl Client {
             return Err(Fault::CallOutstanding);
         }
         Ok(AskPlan::Send(call, sequencer, target))
+    }
+
+    // The end of its session waits for no call but the one that asks for it.
+    pub(crate) fn may_leave(&self) -> bool
+        ensures { result ≡ may_leave self.now }
+    {
+        self.outstanding.is_none() || !self.leaving
+    }
+
+    fn leave_plan(&self) -> Result<AskPlan, Fault>
+        ensures { result ≡ leave_plan self.now }
+    {
+        if !self.may_leave() {
+            return Err(Fault::CallOutstanding);
+        }
+        Ok(AskPlan::Send(Call::Leave, None, Target::Leaving))
     }
 
     fn open_plan(&self, moment: u64, opening: &Open) -> Result<AskPlan, Fault>

@@ -29,7 +29,7 @@ use Rattle.client_core.specs.declared.plans.AskPlan.{AskPlan}
 use Rattle.client_core.specs.declared.plans.AskPlan.TheVariants as plans
 use Rattle.client_core.specs.State.{ClientState, standing_then}
 use Rattle.client_core.specs.Serves.{open_served, read_served}
-use Rattle.client_core.specs.Asks.{fault_then, has_given_up, send_plan, served_or, close_plan, poison_plan, node_plan, sequencer_plan, plan_of, ask_step}
+use Rattle.client_core.specs.Asks.{fault_then, has_given_up, send_plan, may_leave, served_or, close_plan, poison_plan, node_plan, sequencer_plan, plan_of, ask_step}
 use Rattle.client_core.specs.Gives.{give_step}
 use Rattle.client_core.specs.Cases.{noted_moment, AskCase, asked_in, GiveCase, given_in}
 use Rattle.client_core.specs.Cases.AskCase.{AskedTooLate, Unsafe, Refused, ReadServed, AbsenceServed, Shared, OutOfHandles, Released, OutOfCalls, Sent, Poisoned}
@@ -83,6 +83,10 @@ refused_if : {X : Type 0} (b : Bool) (x : X) (fault : Fault) → IsOwn fault →
 refused_if true x fault own = own
 refused_if false x fault own = tt
 
+done_if : {X : Type 0} (b : Bool) (x : X) (fault : Fault) → IsOwn fault → OwnErr {X = X} (cond b (Ok x) (Err fault))
+done_if true x fault own = tt
+done_if false x fault own = own
+
 sent_own : (s : ClientState) (call : Call) (sequencer : Option (List ℕ)) (target : Target) → OwnErr (send_plan s call sequencer target)
 sent_own s call sequencer target = refused_if (is_some s.outstanding) (plans.Send call sequencer target) faults.CallOutstanding outstanding_own
 
@@ -124,7 +128,7 @@ plan_own s moment (asks.Node number call) = node_own s moment number call (usabl
 plan_own s moment (asks.SetSequencer number sequencer) =
     sequencer_own s number sequencer (usable_handle (handle_of s.handles number)) (usable_own (handle_of s.handles number))
 plan_own s moment (asks.CheckSequencer bytes) = sent_own s (calls.CheckSequencer bytes) None targets.Checking
-plan_own s moment asks.Leave = sent_own s calls.Leave None targets.Leaving
+plan_own s moment asks.Leave = done_if (may_leave s) (plans.Send calls.Leave None targets.Leaving) faults.CallOutstanding outstanding_own
 
 -- ---- an ask
 

@@ -44,18 +44,18 @@ use Rattle.master_state.specs.Updates.{with_note, with_kept, with_locks, without
 use Rattle.master_state.specs.declared.updates.KeptPut.{KeptPut}
 use Rattle.master_state.specs.declared.updates.LockPut.{LockPut}
 use Rattle.cell_core.specs.declared.asking.TouchedNames.{TouchedNames}
-use Rattle.cell_core.specs.Cases.{IsBehind, IsNew, IsAdmitted, TakeCase, taken_by}
-use Rattle.cell_core.specs.Cases.TakeCase.{StartRefused, StartRecovering, StartFull, StartQueued, OldBeat, BeatRefused, BeatParked, OldEpoch, NoSession, LeftBefore, Repeated, OlderCall, Outstanding, Recovering, Answered, Granted, Waits}
+use Rattle.cell_core.specs.Cases.{IsNew, IsAdmitted, TakeCase, taken_by}
+use Rattle.cell_core.specs.Cases.TakeCase.{StartRefused, StartRecovering, StartFull, StartQueued, OldBeat, BeatRefused, BeatParked, OldEpoch, NoSession, LeftBefore, Repeated, OlderCall, Outstanding, LeavesBeside, Recovering, Answered, Granted, Waits}
 use Rattle.cell_core.specs.Ephemerals.{spared_for, is_ok, may_tidy, next_idle}
 use Rattle.cell_core.specs.Names.{call_touched}
 use Rattle.cell_core.specs.Step.{queued, recorded, with_right, names_of, task_of, with_call}
 use Rattle.cell_core.proofs.Told.{touched_is_changed}
-use Rattle.over_core.specs.Kept.{IsKept, IsOwnCall, HaveOneCall, outstanding, unanswered}
+use Rattle.over_core.specs.Kept.{IsKept, IsOwnCall, HaveOneCall, outstanding}
 use Rattle.over_core.specs.SweepCase.{IsNextApplied, SweepCase, rest, ended, mapped, told as told_all, parted, left_reply, gone_change, gone_replies, swept_by}
 use Rattle.over_core.specs.SweepCase.SweepCase.{Quiet, Recovers, Expires, Departed, AnswersBeat, TurnedAway, StartedAgain, Started, Reopens, Tidies, Spared, Tidied, OfEnded, Ended, Applied, Deleted, Locked, Awaited, Left}
 use Rattle.over_core.proofs.KeptByApplications.{rest_kept}
-use Rattle.over_core.proofs.KeptByTakes.{unnoted, recorded_kept, note_kept, queued_kept}
-use Rattle.over_core.proofs.OneCall.{none_counts, one_started, one_called}
+use Rattle.over_core.proofs.KeptByTakes.{unnoted, none_outstanding, recorded_kept, note_kept, queued_kept}
+use Rattle.over_core.proofs.OneCall.{one_started, one_called}
 use Rattle.over_core.proofs.OwnCalls.{own_call}
 use Rattle.over_core.proofs.SessionReads.{lives_in}
 use Rattle.over_core.proofs.ToldSessions.{reads_told}
@@ -106,10 +106,6 @@ rest_alike s front back task turn = record { rights = refl; lives = λ client h.
 
 -- ---- a call that comes
 
-answered_call : (o : Option (LastCall Reply)) (number : ℕ) → IsBehind o number → unanswered o ≡ 0
-answered_call None number h = refl
-answered_call (Some kept) number h = let is = h.1 in rw is refl
-
 pub client_of : (request other : Request) → request ≡ other → is_client_number (request_client request) ≡ true → is_client_number (request_client other) ≡ true
 client_of request other is h = let P : Request → Type 0 = λ r. is_client_number (request_client r) ≡ true in subst P is h
 
@@ -119,7 +115,7 @@ unless false b h = refl
 
 module _ (cell : List ℕ) (rows : Rows) where
   pub none_of_new : (s : MasterState) (request : Request) (message : CallMessage) → IsNew s request message → IsKept cell rows s → outstanding s message.client ≡ 0
-  none_of_new s request message new k = none_counts (outstanding s message.client) (unanswered (kept_of s.sessions message.client)) (k.one_call message.client) (answered_call (kept_of s.sessions message.client) message.number new.behind)
+  none_of_new s request message new k = none_outstanding s message.client message.number new.behind k.one_call
 
   -- what waits stands beside its rows before anybody is asked
   pub with_call_kept : (s : MasterState) (message : CallMessage) (note : Option HandleNote) (touched : Option TouchedNames) → s.recovering ≡ false → nat_le number_limit s.gate.pushed ≡ false → IsAdmitted s message note touched → is_client_number message.client ≡ true → is_live s.sessions message.client ≡ true → outstanding s message.client ≡ 0 → IsKept cell rows s → IsKept cell rows (with_call (with_note s note) message touched)
@@ -155,6 +151,10 @@ module _ (cell : List ℕ) (rows : Rows) where
   case_answerable s request (Repeated message kept heard is same) spare k in_range h = h
   case_answerable s request (OlderCall message kept heard is less) spare k in_range h = h
   case_answerable s request (Outstanding message kept heard is more none) spare k in_range h = h
+  case_answerable s request (LeavesBeside message heard beside) spare k in_range h =
+      let last : LastCall Reply = record { number = message.number; reply = None } in
+      let before : MasterState = recorded s message.client last in
+      queued_answerable before [] (tasks.Asked (task_of message)) (alike [] s before (recorded_alike s message.client last) h)
   case_answerable s request (Recovering message new recovering) spare k in_range h = alike [] s (recorded s message.client _) (recorded_alike s message.client _) h
   case_answerable s request (Answered message note answer new serving answered) spare k in_range h =
       let t = with_note s note in
@@ -253,29 +253,29 @@ module _ (cell : List ℕ) (rows : Rows) where
       let t = told_all m (gone_replies s idle) in
       alike [] s (without_lock t (Some idle.instance)) (alike_then s r (without_lock t (Some idle.instance)) (rest_alike s front back (tasks.Tidies idle) turn) (alike_then r m (without_lock t (Some idle.instance)) (same r m refl refl refl) (alike_then m t (without_lock t (Some idle.instance)) (puts_alike (kept_puts (gone_replies s idle)) m) (same t (without_lock t (Some idle.instance)) refl refl refl)))) h
   swept_answerable s (OfEnded front back asked call sequencer turn work gone) k h = alike [] s (rest s front back) (rest_alike s front back (tasks.Asked asked) turn) h
-  swept_answerable s (Ended front back asked call sequencer note answer turn work live made) k h =
+  swept_answerable s (Ended front back asked call sequencer note answer turn work stays live made) k h =
       let r = rest s front back in
       alike [] s (ended r asked note answer) (alike_then s r (ended r asked note answer) (rest_alike s front back (tasks.Asked asked) turn) (ended_alike r asked note answer)) h
-  swept_answerable s (Applied front back asked call sequencer note change answer turn work live made) k h =
+  swept_answerable s (Applied front back asked call sequencer note change answer turn work stays live made) k h =
       let r = rest s front back in
       let m = mapped r change in
       alike [] s (ended m asked note answer) (alike_then s r (ended m asked note answer) (rest_alike s front back (tasks.Asked asked) turn) (alike_then r m (ended m asked note answer) (same r m refl refl refl) (ended_alike m asked note answer))) h
-  swept_answerable s (Deleted front back asked call sequencer change instance waiters answer turn work live made) k h =
+  swept_answerable s (Deleted front back asked call sequencer change instance waiters answer turn work stays live made) k h =
       let r = rest s front back in
       let m = mapped r change in
       let e = ended m asked None answer in
       let t = told_all e (replies_to s (results.Refused faults.StaleInstance) waiters) in
       let l = without_lock t (Some instance) in
       alike [] s l (alike_then s r l (rest_alike s front back (tasks.Asked asked) turn) (alike_then r m l (same r m refl refl refl) (alike_then m e l (ended_alike m asked None answer) (alike_then e t l (puts_alike (kept_puts (replies_to s (results.Refused faults.StaleInstance) waiters)) e) (same t l refl refl refl))))) h
-  swept_answerable s (Locked front back asked call sequencer put claim answer turn work live made) k h =
+  swept_answerable s (Locked front back asked call sequencer put claim answer turn work stays live made) k h =
       let r = rest s front back in
       let l = with_locks r (put ∷ []) in
       alike [] s (ended l asked None answer) (alike_then s r (ended l asked None answer) (rest_alike s front back (tasks.Asked asked) turn) (alike_then r l (ended l asked None answer) (same r l refl refl refl) (ended_alike l asked None answer))) h
-  swept_answerable s (Awaited front back asked call sequencer put turn work live made) k h =
+  swept_answerable s (Awaited front back asked call sequencer put turn work stays live made) k h =
       let r = rest s front back in
       let l = with_locks r (put ∷ []) in
       alike [] s l (alike_then s r l (rest_alike s front back (tasks.Asked asked) turn) (same r l refl refl refl)) h
-  swept_answerable s (Left front back asked call sequencer note leave answer turn work live made) k h =
+  swept_answerable s (Left front back asked call sequencer note leave answer turn work stays live made) k h =
       let r = rest s front back in
       let l = with_locks r (left_put leave ∷ []) in
       let e = ended l asked note answer in

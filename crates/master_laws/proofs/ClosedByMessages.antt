@@ -18,7 +18,7 @@ use Rattle.master_state.specs.Updates.{with_note}
 use Rattle.cell_core.specs.declared.asking.TouchedNames.{TouchedNames}
 use Rattle.cell_core.specs.Step.{admission_for, asking, asking_for, with_call, names_of, task_of}
 use Rattle.cell_core.specs.Cases.{IsNew, TakeCase, taken_by}
-use Rattle.cell_core.specs.Cases.TakeCase.{StartRefused, StartRecovering, StartFull, StartQueued, OldBeat, BeatRefused, BeatParked, OldEpoch, NoSession, LeftBefore, Repeated, OlderCall, Outstanding, Recovering, Answered, Granted, Waits}
+use Rattle.cell_core.specs.Cases.TakeCase.{StartRefused, StartRecovering, StartFull, StartQueued, OldBeat, BeatRefused, BeatParked, OldEpoch, NoSession, LeftBefore, Repeated, OlderCall, Outstanding, LeavesBeside, Recovering, Answered, Granted, Waits}
 use Rattle.cell_core.proofs.TakeCases.{taken_case}
 use Rattle.master_laws.specs.Closed.{IsClosed, opens_as, asks_to_open, task_opens, waits_to_open, ClosedHandleStaysClosed, ClosedForGoodByMessages}
 use Rattle.master_laws.proofs.ClosedNotes.{AreFair, stays_closed}
@@ -56,6 +56,7 @@ module _ (s : MasterState) (request : Request) (key : HandleKey) (other : asks_t
     closed_by (Repeated message kept heard is equal) = closed
     closed_by (OlderCall message kept heard is less) = closed
     closed_by (Outstanding message kept heard is more none) = closed
+    closed_by (LeavesBeside message heard beside) = closed
     closed_by (Recovering message new recovering) = closed
     closed_by (Answered message note answer new going answered) = by_note message note new answered.is_noted
     closed_by (Granted message note answer name new going granted) = by_note message note new granted.is_noted
@@ -88,6 +89,7 @@ module _ (s : MasterState) (request : Request) (key : HandleKey) (other : asks_t
     unasked_by (Repeated message kept heard is equal) = unasked
     unasked_by (OlderCall message kept heard is less) = unasked
     unasked_by (Outstanding message kept heard is more none) = unasked
+    unasked_by (LeavesBeside message heard beside) = unasked_behind key s.gate.waiting (record { number = s.gate.pushed + 1; change = record { touched = []; body = tasks.Asked (task_of message) } }) (not_opened message heard.is_call) unasked
     unasked_by (Recovering message new recovering) = unasked
     unasked_by (Answered message note answer new going answered) = noted_unasked note
     unasked_by (Granted message note answer name new going granted) = noted_unasked note

@@ -3,7 +3,6 @@ use Rattle.std.proofs.Common.{◌≡◌, ◌≤◌, ◌+◌, ℕ, List, [], ◌�
 use Rattle.std.specs.Prelude.{◌||◌, ◌==◌, All, find}
 use Rattle.std.specs.Option.{option_map}
 use Rattle.std.specs.List.{list_any, sum_by}
-use Rattle.std.specs.Map.{values_of}
 use Rattle.std.proofs.lemmas.Bool.{and_parts, eqb-true}
 use Rattle.std.proofs.lemmas.Bool.Decides.{nat_tests}
 use Rattle.std.proofs.lemmas.List.Elements.{All-head, All-tail}
@@ -21,7 +20,8 @@ use Rattle.master_parts.specs.declared.pending.Work.TheVariants as works
 use Rattle.master_state.specs.State.{MasterState, task_at}
 use Rattle.master_parts.specs.Keys.{key_of}
 use Rattle.master_state.specs.Lookups.{kept_of, noted}
-use Rattle.over_core.specs.Kept.{IsOwnTask, IsOwnCall, is_call, is_call_by, call_count, waits_count, is_unanswered, unanswered}
+use Rattle.master_state.specs.CallsWaiting.{is_by, is_call}
+use Rattle.over_core.specs.Kept.{IsOwnTask, IsOwnCall, work_count, is_unanswered, unanswered}
 use Rattle.master_laws.specs.Closed.{opens_as, work_opens, task_opens, waits_to_open, CloseClosesForGood}
 use Rattle.master_laws.proofs.AfterSweeps.{done_gate}
 use Rattle.master_laws.proofs.Closes.{close_plan, closed_so, close_closes}
@@ -40,7 +40,7 @@ by_work : (key : HandleKey) (client number : ℕ) (work : Work) → work_opens k
 by_work key client number (works.Calls call sequencer) h = (refl, of_client key client number call h)
 by_work key client number (works.Starts principal received) h = absurd cc
 
-is_own : (key : HandleKey) (task : Task) → task_opens key task ≡ true → is_call_by key.client task ≡ true
+is_own : (key : HandleKey) (task : Task) → task_opens key task ≡ true → is_by is_call key.client task ≡ true
 is_own key (tasks.Asked asked) h =
     let t = by_work key asked.client asked.number asked.work h in
     rw (t.0, ← t.1, itself key.client) refl
@@ -55,11 +55,11 @@ one_if false h = refl
 no_part : (all one rest : ℕ) → all ≡ one + rest → all ≡ 0 → (one ≡ 0) × (rest ≡ 0)
 no_part all one rest h k = (omega (arith, h, k), omega (arith, h, k))
 
-none_opens : (key : HandleKey) (ws : List (Waiting Task)) → sum_by (call_count key.client) ws ≡ 0 → list_any (λ (w : Waiting Task). task_opens key w.change.body) ws ≡ false
+none_opens : (key : HandleKey) (ws : List (Waiting Task)) → sum_by (work_count is_call key.client) ws ≡ 0 → list_any (λ (w : Waiting Task). task_opens key w.change.body) ws ≡ false
 none_opens key [] h = refl
 none_opens key (w ∷ ws) h =
-    let t = no_part (sum_by (call_count key.client) (w ∷ ws)) (call_count key.client w) (sum_by (call_count key.client) ws) (sum_by-cons (call_count key.client) w ws) h in
-    let other : is_call_by key.client w.change.body ≡ false = one_if (is_call_by key.client w.change.body) t.0 in
+    let t = no_part (sum_by (work_count is_call key.client) (w ∷ ws)) (work_count is_call key.client w) (sum_by (work_count is_call key.client) ws) (sum_by-cons (work_count is_call key.client) w ws) h in
+    let other : is_by is_call key.client w.change.body ≡ false = one_if (is_by is_call key.client w.change.body) t.0 in
     (elim (task_opens key w.change.body) as (λ b. task_opens key w.change.body ≡ b → (b || list_any (λ (v : Waiting Task). task_opens key v.change.body) ws) ≡ false) [
       | true ↦ (λ opens. let own = is_own key w.change.body opens in absurd cc)
       | false ↦ (λ opens. none_opens key ws t.1)
@@ -72,18 +72,18 @@ its_own : (all one rest : ℕ) → all ≡ one + rest → one ≡ 1 → all ≡ 
 its_own all one rest h k = omega (arith, h, k)
 
 -- one fewer waits, where a call of the client has left
-one_fewer : (client number : ℕ) (ws : List (Waiting Task)) (task : Task) → is_call_by client task ≡ true → task_at number ws ≡ Some task → sum_by (call_count client) ws ≡ sum_by (call_count client) (without number ws) + 1
+one_fewer : (client number : ℕ) (ws : List (Waiting Task)) (task : Task) → is_by is_call client task ≡ true → task_at number ws ≡ Some task → sum_by (work_count is_call client) ws ≡ sum_by (work_count is_call client) (without number ws) + 1
 one_fewer client number [] task call = λ is. absurd cc
 one_fewer client number (w ∷ ws) task call =
-    let all = sum_by-cons (call_count client) w ws in
-    elim (is_numbered number w) as (λ b. option_map (λ (change : Pending Task). change.body) (option_map (λ (v : Waiting Task). v.change) (cond b (Some w) (find (is_numbered number) ws))) ≡ Some task → sum_by (call_count client) (w ∷ ws) ≡ sum_by (call_count client) (cond b ws (w ∷ without number ws)) + 1) [
+    let all = sum_by-cons (work_count is_call client) w ws in
+    elim (is_numbered number w) as (λ b. option_map (λ (change : Pending Task). change.body) (option_map (λ (v : Waiting Task). v.change) (cond b (Some w) (find (is_numbered number) ws))) ≡ Some task → sum_by (work_count is_call client) (w ∷ ws) ≡ sum_by (work_count is_call client) (cond b ws (w ∷ without number ws)) + 1) [
       | true ↦ (λ is.
           let same : w.change.body ≡ task = cc in
-          let counts : call_count client w ≡ 1 = ap (λ b. cond b 1 0) (ap (is_call_by client) same ∙ call) in
-          its_own (sum_by (call_count client) (w ∷ ws)) (call_count client w) (sum_by (call_count client) ws) all counts)
+          let counts : work_count is_call client w ≡ 1 = ap (λ b. cond b 1 0) (ap (is_by is_call client) same ∙ call) in
+          its_own (sum_by (work_count is_call client) (w ∷ ws)) (work_count is_call client w) (sum_by (work_count is_call client) ws) all counts)
       | false ↦ (λ is.
-          let fewer = one_more (sum_by (call_count client) (w ∷ ws)) (call_count client w) (sum_by (call_count client) ws) (sum_by (call_count client) (without number ws)) all (one_fewer client number ws task call is) in
-          fewer ∙ ap (λ n. n + 1) (sym (sum_by-cons (call_count client) w (without number ws))))
+          let fewer = one_more (sum_by (work_count is_call client) (w ∷ ws)) (work_count is_call client w) (sum_by (work_count is_call client) ws) (sum_by (work_count is_call client) (without number ws)) all (one_fewer client number ws task call is) in
+          fewer ∙ ap (λ n. n + 1) (sym (sum_by-cons (work_count is_call client) w (without number ws))))
     ]
 
 -- ---- the Close
@@ -106,14 +106,14 @@ none_beside all rest locks one h k l = omega (arith, h, k, l)
 pub close_closes_for_good : CloseClosesForGood
 close_closes_for_good cell rows s new now number told asked bytes sequencer handle kept h turn reads =
     let there : MasterState = noted s now in
-    let call : is_call_by asked.client (tasks.Asked asked) ≡ true = rw (turn.work, itself asked.client) refl in
+    let call : is_by is_call asked.client (tasks.Asked asked) ≡ true = rw (turn.work, itself asked.client) refl in
     let own_task : IsOwnTask s.secret (tasks.Asked asked) = found_own s.secret number s.gate.waiting (tasks.Asked asked) kept.own turn.waits in
     let own : handle.client ≡ asked.client = subst (IsOwnCall s.secret asked.client) turn.work own_task handle reads in
     let fewer = one_fewer asked.client number s.gate.waiting (tasks.Asked asked) call turn.waits in
     let none =
-    none_beside (sum_by (call_count asked.client) s.gate.waiting) (sum_by (call_count asked.client) (without number s.gate.waiting)) (sum_by (waits_count asked.client) (values_of s.locks)) (unanswered (kept_of s asked.client))
-    (kept.one_call asked.client) (at_most_one (is_unanswered (kept_of s asked.client))) fewer in
-    let unasked = none_opens (key_of handle) (without number s.gate.waiting) (ap (λ q. sum_by (call_count q) (without number s.gate.waiting)) own ∙ none) in
+    none_beside (sum_by (work_count is_call asked.client) s.gate.waiting) (sum_by (work_count is_call asked.client) (without number s.gate.waiting)) 0 (unanswered (kept_of s asked.client))
+    (kept.one_call.0 asked.client) (at_most_one (is_unanswered (kept_of s asked.client))) fewer in
+    let unasked = none_opens (key_of handle) (without number s.gate.waiting) (ap (λ q. sum_by (work_count is_call q) (without number s.gate.waiting)) own ∙ none) in
     let is = closed_so s new now number told asked bytes sequencer handle h turn reads in
     record {
       closed = (close_closes s new now number told asked bytes sequencer handle h turn reads).0;

@@ -218,10 +218,10 @@ module _ (s : MasterState) where
       let l = with_locks (parted partings.Leave (rest s front back) asked.client) (lapses_puts s (lapses_of partings.Leave s asked.client)) in
       let replies = left_reply s asked ∷ lapses_replies s (lapses_of partings.Leave s asked.client) in
       by_turn (told l replies) front back asked turn refl refl (kept_count (kept_puts replies) l ∙ step_count s.sessions asked.client of_session.ended)
-  sized_by_case (Ended front back asked call sequencer note answer turn work live made) =
+  sized_by_case (Ended front back asked call sequencer note answer turn work stays live made) =
       let r = rest s front back in
       by_turn (ended r asked note answer) front back asked turn (note_waits (recorded r asked.client _) note) (note_nodes (recorded r asked.client _) note) (ended_count r asked note answer)
-  sized_by_case (Applied front back asked call sequencer note change answer turn work live made) =
+  sized_by_case (Applied front back asked call sequencer note change answer turn work stays live made) =
       let r = mapped (rest s front back) change in
       let new = ended r asked note answer in
       turn_sized new s front back asked turn (note_waits (recorded r asked.client _) note)
@@ -230,16 +230,16 @@ module _ (s : MasterState) where
     where
       less_then : (a b c : ℕ) → a ≡ b → b ≤ c + 1 → a ≤ c + 1
       less_then a b c h k = omega (arith, h, k)
-  sized_by_case (Deleted front back asked call sequencer change instance waiters answer turn work live made) =
+  sized_by_case (Deleted front back asked call sequencer change instance waiters answer turn work stays live made) =
       let m = mapped (rest s front back) change in
       let e = ended m asked None answer in
       let replies = replies_to s (results.Refused faults.StaleInstance) waiters in
-      let new = (swept_by s (Deleted front back asked call sequencer change instance waiters answer turn work live made)).0 in
+      let new = (swept_by s (Deleted front back asked call sequencer change instance waiters answer turn work stays live made)).0 in
       turn_sized new s front back asked turn refl (changed_length s.nodes change.change) (one_more (count_of new.sessions) (count_of s.sessions) (kept_count (kept_puts replies) e ∙ ended_count m asked None answer))
-  sized_by_case (Locked front back asked call sequencer put claim answer turn work live made) =
+  sized_by_case (Locked front back asked call sequencer put claim answer turn work stays live made) =
       by_turn (ended (with_locks (rest s front back) (put ∷ [])) asked None answer) front back asked turn refl refl (ended_count (with_locks (rest s front back) (put ∷ [])) asked None answer)
-  sized_by_case (Awaited front back asked call sequencer put turn work live made) = by_turn (with_locks (rest s front back) (put ∷ [])) front back asked turn refl refl refl
-  sized_by_case (Left front back asked call sequencer note leave answer turn work live made) =
+  sized_by_case (Awaited front back asked call sequencer put turn work stays live made) = by_turn (with_locks (rest s front back) (put ∷ [])) front back asked turn refl refl refl
+  sized_by_case (Left front back asked call sequencer note leave answer turn work stays live made) =
       let r = with_locks (rest s front back) (left_put leave ∷ []) in
       let e = ended r asked note answer in
       let replies = turn_replies s leave.turn in

@@ -31,7 +31,7 @@ use Rattle.master_state.specs.Partings.{ending_by}
 use Rattle.master_state.specs.Replies.{turn_replies}
 use Rattle.master_state.specs.Updates.{with_note, with_locks}
 use Rattle.cell_core.specs.Cases.{TakeCase, taken_by}
-use Rattle.cell_core.specs.Cases.TakeCase.{StartRefused, StartRecovering, StartFull, StartQueued, OldBeat, BeatRefused, BeatParked, OldEpoch, NoSession, LeftBefore, Repeated, OlderCall, Outstanding, Recovering, Answered, Granted, Waits}
+use Rattle.cell_core.specs.Cases.TakeCase.{StartRefused, StartRecovering, StartFull, StartQueued, OldBeat, BeatRefused, BeatParked, OldEpoch, NoSession, LeftBefore, Repeated, OlderCall, Outstanding, LeavesBeside, Recovering, Answered, Granted, Waits}
 use Rattle.cell_core.specs.Outcomes.{left_put}
 use Rattle.cell_core.specs.Step.{queued, recorded, with_right, names_of, task_of, with_call, asking, asking_for}
 use Rattle.cell_core.proofs.AskedFor.{asks_only}
@@ -182,6 +182,10 @@ module _ (client : ℕ) (change : Waiting Task) where
   followed_by_case cell rows s request (Repeated message kept heard is same) k a = same_followed s s refl refl
   followed_by_case cell rows s request (OlderCall message kept heard is less) k a = same_followed s s refl refl
   followed_by_case cell rows s request (Outstanding message kept heard is more none) k a = same_followed s s refl refl
+  followed_by_case cell rows s request (LeavesBeside message heard beside) k a =
+      let last : LastCall Reply = record { number = message.number; reply = None } in
+      let r = recorded s message.client last in
+      then_followed s r (with_call s message None) (same_followed s r refl refl) (queued_followed r [] [] (tasks.Asked (task_of message)) (alike [] s r (recorded_alike s message.client last) a))
   followed_by_case cell rows s request (Recovering message new recovering) k a = same_followed s (recorded s message.client _) refl refl
   followed_by_case cell rows s request (Answered message note answer new serving answered) k a =
       let t = with_note s note in then_followed s t (recorded t message.client _) (note_followed s note) (same_followed t (recorded t message.client _) refl refl)
@@ -227,21 +231,21 @@ module _ (client : ℕ) (change : Waiting Task) where
   followed_by_sweep cell rows s (Tidied front back idle turn still) k a =
       let r = rest s front back in then_followed s r (swept_by s (Tidied front back idle turn still)).0 (rest_followed s front back (tasks.Tidies idle) turn) (same_followed r _ refl refl)
   followed_by_sweep cell rows s (OfEnded front back asked call sequencer turn work gone) k a = rest_followed s front back (tasks.Asked asked) turn
-  followed_by_sweep cell rows s (Ended front back asked call sequencer note answer turn work live made) k a =
+  followed_by_sweep cell rows s (Ended front back asked call sequencer note answer turn work stays live made) k a =
       let r = rest s front back in
       let t = recorded r asked.client _ in
       then_followed s r (with_note t note) (rest_followed s front back (tasks.Asked asked) turn) (then_followed r t (with_note t note) (same_followed r t refl refl) (note_followed t note))
-  followed_by_sweep cell rows s (Applied front back asked call sequencer note change_made answer turn work live made) k a =
+  followed_by_sweep cell rows s (Applied front back asked call sequencer note change_made answer turn work stays live made) k a =
       let r = rest s front back in
       let t = recorded (mapped r change_made) asked.client _ in
       then_followed s r (with_note t note) (rest_followed s front back (tasks.Asked asked) turn) (then_followed r t (with_note t note) (same_followed r t refl refl) (note_followed t note))
-  followed_by_sweep cell rows s (Deleted front back asked call sequencer change_made instance waiters answer turn work live made) k a =
-      let r = rest s front back in then_followed s r (swept_by s (Deleted front back asked call sequencer change_made instance waiters answer turn work live made)).0 (rest_followed s front back (tasks.Asked asked) turn) (same_followed r _ refl refl)
-  followed_by_sweep cell rows s (Locked front back asked call sequencer put claim answer turn work live made) k a =
-      let r = rest s front back in then_followed s r (swept_by s (Locked front back asked call sequencer put claim answer turn work live made)).0 (rest_followed s front back (tasks.Asked asked) turn) (same_followed r _ refl refl)
-  followed_by_sweep cell rows s (Awaited front back asked call sequencer put turn work live made) k a =
-      let r = rest s front back in then_followed s r (swept_by s (Awaited front back asked call sequencer put turn work live made)).0 (rest_followed s front back (tasks.Asked asked) turn) (same_followed r _ refl refl)
-  followed_by_sweep cell rows s (Left front back asked call sequencer note leave answer turn work live made) k a =
+  followed_by_sweep cell rows s (Deleted front back asked call sequencer change_made instance waiters answer turn work stays live made) k a =
+      let r = rest s front back in then_followed s r (swept_by s (Deleted front back asked call sequencer change_made instance waiters answer turn work stays live made)).0 (rest_followed s front back (tasks.Asked asked) turn) (same_followed r _ refl refl)
+  followed_by_sweep cell rows s (Locked front back asked call sequencer put claim answer turn work stays live made) k a =
+      let r = rest s front back in then_followed s r (swept_by s (Locked front back asked call sequencer put claim answer turn work stays live made)).0 (rest_followed s front back (tasks.Asked asked) turn) (same_followed r _ refl refl)
+  followed_by_sweep cell rows s (Awaited front back asked call sequencer put turn work stays live made) k a =
+      let r = rest s front back in then_followed s r (swept_by s (Awaited front back asked call sequencer put turn work stays live made)).0 (rest_followed s front back (tasks.Asked asked) turn) (same_followed r _ refl refl)
+  followed_by_sweep cell rows s (Left front back asked call sequencer note leave answer turn work stays live made) k a =
       let r = rest s front back in
       let l = with_locks r (left_put leave ∷ []) in
       let t = recorded l asked.client _ in

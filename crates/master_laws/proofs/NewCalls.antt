@@ -15,7 +15,7 @@ use Rattle.cell_core.specs.declared.asking.TouchedNames.{TouchedNames}
 use Rattle.cell_core.specs.Step.{take_step, replied, granting, waits}
 use Rattle.master_state.specs.Updates.{with_note}
 use Rattle.cell_core.specs.Cases.{IsBehind, IsNew, IsAnswered, IsGranted, IsAdmitted, TakeCase, taken_by}
-use Rattle.cell_core.specs.Cases.TakeCase.{StartRefused, StartRecovering, StartFull, StartQueued, OldBeat, BeatRefused, BeatParked, OldEpoch, NoSession, LeftBefore, Repeated, OlderCall, Outstanding, Recovering, Answered, Granted, Waits}
+use Rattle.cell_core.specs.Cases.TakeCase.{StartRefused, StartRecovering, StartFull, StartQueued, OldBeat, BeatRefused, BeatParked, OldEpoch, NoSession, LeftBefore, Repeated, OlderCall, Outstanding, LeavesBeside, Recovering, Answered, Granted, Waits}
 use Rattle.cell_core.proofs.TakeCases.{taken_case}
 
 -- it is refused in a recovery, it is answered at once, it is answered by what may be kept in a cache, or it waits
@@ -91,6 +91,7 @@ module _ (s : MasterState) (message : CallMessage) (new : IsNew s (requests.Call
   of_case p (Repeated other kept heard is equal) h = absurd (not_same (kept_of s other.client) kept other.number is equal (behind other heard.is_call))
   of_case p (OlderCall other kept heard is less) h = absurd (not_older (kept_of s other.client) kept other.number is less (behind other heard.is_call))
   of_case p (Outstanding other kept heard is more none) h = absurd (not_waiting (kept_of s other.client) kept other.number is none (behind other heard.is_call))
+  of_case p (LeavesBeside other heard beside) h = absurd (not_waiting (kept_of s other.client) beside.kept other.number beside.found beside.none (behind other heard.is_call))
   of_case p (Recovering other fresh recovering) h =
       subst (λ m. p ≡ replied s m.client m.number (results.Refused faults.Recovering) → IsNewCase s message p) (same other fresh.heard.is_call) (λ e. (Recovers recovering, e)) h
   of_case p (Answered other note answer fresh going answered) h =

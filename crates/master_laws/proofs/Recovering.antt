@@ -7,7 +7,7 @@ use Rattle.master_parts.specs.declared.pending.Task.TheVariants as tasks
 use Rattle.master_state.specs.State.{MasterState}
 use Rattle.master_state.specs.Updates.{with_note, with_locks}
 use Rattle.cell_core.specs.Cases.{TakeCase, taken_by}
-use Rattle.cell_core.specs.Cases.TakeCase.{StartRefused, StartRecovering, StartFull, StartQueued, OldBeat, BeatRefused, BeatParked, OldEpoch, NoSession, LeftBefore, Repeated, OlderCall, Outstanding, Recovering, Answered, Granted, Waits}
+use Rattle.cell_core.specs.Cases.TakeCase.{StartRefused, StartRecovering, StartFull, StartQueued, OldBeat, BeatRefused, BeatParked, OldEpoch, NoSession, LeftBefore, Repeated, OlderCall, Outstanding, LeavesBeside, Recovering, Answered, Granted, Waits}
 use Rattle.cell_core.specs.Outcomes.{left_put}
 use Rattle.cell_core.specs.Step.{queued, recorded, names_of, with_call, asking_for}
 use Rattle.cell_core.proofs.AskedFor.{asks_only}
@@ -39,6 +39,7 @@ by_case s request (LeftBefore message kept request_is same_epoch ended is same) 
 by_case s request (Repeated message kept heard is same) h = h
 by_case s request (OlderCall message kept heard is less) h = h
 by_case s request (Outstanding message kept heard is more none) h = h
+by_case s request (LeavesBeside message heard beside) h = h
 by_case s request (Recovering message new recovering) h = h
 by_case s request (Answered message note answer new serving answered) h = note_recovers s note h
 by_case s request (Granted message note answer name new serving granted) h = note_recovers s note h
@@ -58,12 +59,12 @@ by_sweep s (Tidies idle due) h = asking_recovers (with_parent idle.name) (queued
 by_sweep s (Spared front back idle turn held) h = h
 by_sweep s (Tidied front back idle turn still) h = h
 by_sweep s (OfEnded front back asked call sequencer turn work gone) h = h
-by_sweep s (Ended front back asked call sequencer note answer turn work live made) h = note_recovers (recorded (rest s front back) asked.client _) note h
-by_sweep s (Applied front back asked call sequencer note change answer turn work live made) h = note_recovers (recorded (mapped (rest s front back) change) asked.client _) note h
-by_sweep s (Deleted front back asked call sequencer change instance waiters answer turn work live made) h = h
-by_sweep s (Locked front back asked call sequencer put claim answer turn work live made) h = h
-by_sweep s (Awaited front back asked call sequencer put turn work live made) h = h
-by_sweep s (Left front back asked call sequencer note leave answer turn work live made) h = note_recovers (recorded (with_locks (rest s front back) (left_put leave ∷ [])) asked.client _) note h
+by_sweep s (Ended front back asked call sequencer note answer turn work stays live made) h = note_recovers (recorded (rest s front back) asked.client _) note h
+by_sweep s (Applied front back asked call sequencer note change answer turn work stays live made) h = note_recovers (recorded (mapped (rest s front back) change) asked.client _) note h
+by_sweep s (Deleted front back asked call sequencer change instance waiters answer turn work stays live made) h = h
+by_sweep s (Locked front back asked call sequencer put claim answer turn work stays live made) h = h
+by_sweep s (Awaited front back asked call sequencer put turn work stays live made) h = h
+by_sweep s (Left front back asked call sequencer note leave answer turn work stays live made) h = note_recovers (recorded (with_locks (rest s front back) (left_put leave ∷ [])) asked.client _) note h
 
 pub recovered_before : WasBefore IsRecovering
 recovered_before = record { clock = λ s now h. h; takes = by_case; sweeps = by_sweep; tells = λ s tellings h. h }

@@ -44,7 +44,7 @@ use Rattle.master_state.specs.Replies.{kept_puts, replies_to, turn_replies}
 use Rattle.master_state.specs.Updates.{with_note, with_kept, with_locks}
 use Rattle.master_state.specs.declared.updates.KeptPut.{KeptPut}
 use Rattle.cell_core.specs.Cases.{TakeCase, taken_by}
-use Rattle.cell_core.specs.Cases.TakeCase.{StartRefused, StartRecovering, StartFull, StartQueued, OldBeat, BeatRefused, BeatParked, OldEpoch, NoSession, LeftBefore, Repeated, OlderCall, Outstanding, Recovering, Answered, Granted, Waits}
+use Rattle.cell_core.specs.Cases.TakeCase.{StartRefused, StartRecovering, StartFull, StartQueued, OldBeat, BeatRefused, BeatParked, OldEpoch, NoSession, LeftBefore, Repeated, OlderCall, Outstanding, LeavesBeside, Recovering, Answered, Granted, Waits}
 use Rattle.cell_core.specs.Step.{queued, recorded, names_of, with_call, asking, asking_for}
 use Rattle.cell_core.specs.Outcomes.{left_put}
 use Rattle.over_core.specs.Kept.{IsKept}
@@ -124,6 +124,7 @@ module _ (P : ℕ → Session Reply → Type 0) (cell : List ℕ) (rows : Rows) 
   each_by_case s request (Repeated message kept heard is same) t spare k in_range h = h
   each_by_case s request (OlderCall message kept heard is less) t spare k in_range h = h
   each_by_case s request (Outstanding message kept heard is more none) t spare k in_range h = h
+  each_by_case s request (LeavesBeside message heard beside) t spare k in_range h = each_recorded P s message.client _ t.carried h
   each_by_case s request (Recovering message new recovering) t spare k in_range h = each_recorded P s message.client _ t.carried h
   each_by_case s request (Answered message note answer new serving answered) t spare k in_range h = each_recorded P (with_note s note) message.client _ t.carried (each_noted P s note h)
   each_by_case s request (Granted message note answer name new serving granted) t spare k in_range h = each_recorded P (with_note s note) message.client _ t.carried (each_noted P s note h)
@@ -153,11 +154,11 @@ module _ (P : ℕ → Session Reply → Type 0) (cell : List ℕ) (rows : Rows) 
   each_by_sweep s (Spared front back idle turn held) timed t k h = h
   each_by_sweep s (Tidied front back idle turn still) timed t k h = each_kept P (kept_puts (gone_replies s idle)) s t.carried h
   each_by_sweep s (OfEnded front back asked call sequencer turn work gone) timed t k h = h
-  each_by_sweep s (Ended front back asked call sequencer note answer turn work live made) timed t k h = each_noted P (recorded (rest s front back) asked.client _) note (each_recorded P s asked.client _ t.carried h)
-  each_by_sweep s (Applied front back asked call sequencer note change answer turn work live made) timed t k h = each_noted P (recorded (mapped (rest s front back) change) asked.client _) note (each_recorded P s asked.client _ t.carried h)
-  each_by_sweep s (Deleted front back asked call sequencer change instance waiters answer turn work live made) timed t k h = each_kept P (kept_puts (replies_to s (results.Refused faults.StaleInstance) waiters)) (recorded s asked.client _) t.carried (each_recorded P s asked.client _ t.carried h)
-  each_by_sweep s (Locked front back asked call sequencer put claim answer turn work live made) timed t k h = each_recorded P s asked.client _ t.carried h
-  each_by_sweep s (Awaited front back asked call sequencer put turn work live made) timed t k h = h
-  each_by_sweep s (Left front back asked call sequencer note leave answer turn work live made) timed t k h =
+  each_by_sweep s (Ended front back asked call sequencer note answer turn work stays live made) timed t k h = each_noted P (recorded (rest s front back) asked.client _) note (each_recorded P s asked.client _ t.carried h)
+  each_by_sweep s (Applied front back asked call sequencer note change answer turn work stays live made) timed t k h = each_noted P (recorded (mapped (rest s front back) change) asked.client _) note (each_recorded P s asked.client _ t.carried h)
+  each_by_sweep s (Deleted front back asked call sequencer change instance waiters answer turn work stays live made) timed t k h = each_kept P (kept_puts (replies_to s (results.Refused faults.StaleInstance) waiters)) (recorded s asked.client _) t.carried (each_recorded P s asked.client _ t.carried h)
+  each_by_sweep s (Locked front back asked call sequencer put claim answer turn work stays live made) timed t k h = each_recorded P s asked.client _ t.carried h
+  each_by_sweep s (Awaited front back asked call sequencer put turn work stays live made) timed t k h = h
+  each_by_sweep s (Left front back asked call sequencer note leave answer turn work stays live made) timed t k h =
       let l = with_locks (rest s front back) (left_put leave ∷ []) in
       each_kept P (kept_puts (turn_replies s leave.turn)) (ended l asked note answer) t.carried (each_noted P (recorded l asked.client _) note (each_recorded P s asked.client _ t.carried h))

@@ -531,21 +531,21 @@ module _ (cell : List ℕ) (rows : Rows) (s : MasterState) (k : IsKept cell rows
       let puts = lapses_puts s (lapses_of partings.Leave s asked.client) in
       let replies = left_reply s asked ∷ lapses_replies s (lapses_of partings.Leave s asked.client) in
       turn_leaves_less s.clock s (told (with_locks (parted partings.Leave (rest s front back) asked.client) puts) replies) front back asked turn refl (parting_live (rest s front back) asked.client session puts replies refl found)
-  less_by_case (Ended front back asked call sequencer note answer turn work live made) h =
+  less_by_case (Ended front back asked call sequencer note answer turn work stays live made) h =
       let r = rest s front back in
       by_turn (ended r asked note answer) front back asked turn (note_waits (recorded r asked.client _) note) (ended_alike r asked note answer)
-  less_by_case (Applied front back asked call sequencer note change answer turn work live made) h =
+  less_by_case (Applied front back asked call sequencer note change answer turn work stays live made) h =
       let r = mapped (rest s front back) change in
       by_turn (ended r asked note answer) front back asked turn (note_waits (recorded r asked.client _) note) (ended_alike r asked note answer)
-  less_by_case (Deleted front back asked call sequencer change instance waiters answer turn work live made) h =
+  less_by_case (Deleted front back asked call sequencer change instance waiters answer turn work stays live made) h =
       let e = ended (mapped (rest s front back) change) asked None answer in
       let replies = replies_to s (results.Refused faults.StaleInstance) waiters in
       by_turn (without_lock (told e replies) (Some instance)) front back asked turn refl (alike_then s.sessions e.sessions (told e replies).sessions (kept_alike (kept_puts replies) e) (ended_alike (mapped (rest s front back) change) asked None answer))
-  less_by_case (Locked front back asked call sequencer put claim answer turn work live made) h =
+  less_by_case (Locked front back asked call sequencer put claim answer turn work stays live made) h =
       let r = with_locks (rest s front back) (put ∷ []) in
       by_turn (ended r asked None answer) front back asked turn refl (ended_alike r asked None answer)
-  less_by_case (Awaited front back asked call sequencer put turn work live made) h = by_turn (with_locks (rest s front back) (put ∷ [])) front back asked turn refl (alike_itself s.sessions)
-  less_by_case (Left front back asked call sequencer note leave answer turn work live made) h =
+  less_by_case (Awaited front back asked call sequencer put turn work stays live made) h = by_turn (with_locks (rest s front back) (put ∷ [])) front back asked turn refl (alike_itself s.sessions)
+  less_by_case (Left front back asked call sequencer note leave answer turn work stays live made) h =
       let r = with_locks (rest s front back) (left_put leave ∷ []) in
       let e = ended r asked note answer in
       let replies = turn_replies s leave.turn in

@@ -20,7 +20,7 @@ use Rattle.master_parts.specs.declared.pending.Work.TheVariants as works
 use Rattle.master_state.specs.State.{MasterState}
 use Rattle.master_state.specs.Updates.{with_note, with_locks}
 use Rattle.cell_core.specs.Cases.{TakeCase, taken_by}
-use Rattle.cell_core.specs.Cases.TakeCase.{StartRefused, StartRecovering, StartFull, StartQueued, OldBeat, BeatRefused, BeatParked, OldEpoch, NoSession, LeftBefore, Repeated, OlderCall, Outstanding, Recovering, Answered, Granted, Waits}
+use Rattle.cell_core.specs.Cases.TakeCase.{StartRefused, StartRecovering, StartFull, StartQueued, OldBeat, BeatRefused, BeatParked, OldEpoch, NoSession, LeftBefore, Repeated, OlderCall, Outstanding, LeavesBeside, Recovering, Answered, Granted, Waits}
 use Rattle.cell_core.specs.Names.{names_touched}
 use Rattle.cell_core.specs.Outcomes.{left_put}
 use Rattle.cell_core.specs.Step.{queued, recorded, names_of, task_of, with_call, asking_for}
@@ -99,6 +99,8 @@ module _ (client : ℕ) where
   starts_by_case s request (Repeated message kept heard is same) other h = h
   starts_by_case s request (OlderCall message kept heard is less) other h = h
   starts_by_case s request (Outstanding message kept heard is more none) other h = h
+  starts_by_case s request (LeavesBeside message heard beside) other h =
+      one_more client s.gate.waiting (record { number = s.gate.pushed + 1; change = record { touched = []; body = tasks.Asked (task_of message) } }) h refl
   starts_by_case s request (Recovering message new recovering) other h = h
   starts_by_case s request (Answered message note answer new serving answered) other h = noted_starts client s note h
   starts_by_case s request (Granted message note answer name new serving granted) other h = noted_starts client s note h
@@ -123,12 +125,12 @@ module _ (client : ℕ) where
   starts_by_sweep s (Spared front back idle turn held) h = rest_starts client s front back (tasks.Tidies idle) turn h
   starts_by_sweep s (Tidied front back idle turn still) h = rest_starts client s front back (tasks.Tidies idle) turn h
   starts_by_sweep s (OfEnded front back asked call sequencer turn work gone) h = rest_starts client s front back (tasks.Asked asked) turn h
-  starts_by_sweep s (Ended front back asked call sequencer note answer turn work live made) h = noted_starts client (recorded (rest s front back) asked.client _) note (rest_starts client s front back (tasks.Asked asked) turn h)
-  starts_by_sweep s (Applied front back asked call sequencer note change answer turn work live made) h = noted_starts client (recorded (mapped (rest s front back) change) asked.client _) note (rest_starts client s front back (tasks.Asked asked) turn h)
-  starts_by_sweep s (Deleted front back asked call sequencer change instance waiters answer turn work live made) h = rest_starts client s front back (tasks.Asked asked) turn h
-  starts_by_sweep s (Locked front back asked call sequencer put claim answer turn work live made) h = rest_starts client s front back (tasks.Asked asked) turn h
-  starts_by_sweep s (Awaited front back asked call sequencer put turn work live made) h = rest_starts client s front back (tasks.Asked asked) turn h
-  starts_by_sweep s (Left front back asked call sequencer note leave answer turn work live made) h = noted_starts client (recorded (with_locks (rest s front back) (left_put leave ∷ [])) asked.client _) note (rest_starts client s front back (tasks.Asked asked) turn h)
+  starts_by_sweep s (Ended front back asked call sequencer note answer turn work stays live made) h = noted_starts client (recorded (rest s front back) asked.client _) note (rest_starts client s front back (tasks.Asked asked) turn h)
+  starts_by_sweep s (Applied front back asked call sequencer note change answer turn work stays live made) h = noted_starts client (recorded (mapped (rest s front back) change) asked.client _) note (rest_starts client s front back (tasks.Asked asked) turn h)
+  starts_by_sweep s (Deleted front back asked call sequencer change instance waiters answer turn work stays live made) h = rest_starts client s front back (tasks.Asked asked) turn h
+  starts_by_sweep s (Locked front back asked call sequencer put claim answer turn work stays live made) h = rest_starts client s front back (tasks.Asked asked) turn h
+  starts_by_sweep s (Awaited front back asked call sequencer put turn work stays live made) h = rest_starts client s front back (tasks.Asked asked) turn h
+  starts_by_sweep s (Left front back asked call sequencer note leave answer turn work stays live made) h = noted_starts client (recorded (with_locks (rest s front back) (left_put leave ∷ [])) asked.client _) note (rest_starts client s front back (tasks.Asked asked) turn h)
 
   -- ---- a Start touches nothing, so none waits where no change is free
 

@@ -58,7 +58,7 @@ use Rattle.master_state.specs.Replies.{puts_of}
 use Rattle.master_state.specs.Updates.{with_note, with_locks}
 use Rattle.master_state.specs.declared.updates.LockPut.{LockPut}
 use Rattle.cell_core.specs.Cases.{TakeCase, taken_by}
-use Rattle.cell_core.specs.Cases.TakeCase.{StartRefused, StartRecovering, StartFull, StartQueued, OldBeat, BeatRefused, BeatParked, OldEpoch, NoSession, LeftBefore, Repeated, OlderCall, Outstanding, Recovering, Answered, Granted, Waits}
+use Rattle.cell_core.specs.Cases.TakeCase.{StartRefused, StartRecovering, StartFull, StartQueued, OldBeat, BeatRefused, BeatParked, OldEpoch, NoSession, LeftBefore, Repeated, OlderCall, Outstanding, LeavesBeside, Recovering, Answered, Granted, Waits}
 use Rattle.cell_core.specs.Effect.{answered, refused, changes_to, is_last, new_node_fault, content_fault, lock_fault, unless, new_node, acls_of, create_put, create_made, create_numbered, create_permitted, create_in, create_under, create_new, create_over, create_effect, create_under_sequencer, open_effect, acquire_by, try_by, release_by, close_by, close_under, generation_fits, with_content, with_acls, put_at, deleted, delete_at, change_at, change_on, effect_on, handle_effect, effect}
 use Rattle.cell_core.specs.Outcomes.{left_put}
 use Rattle.cell_core.specs.Step.{queued, recorded, names_of, with_call, asking_for}
@@ -269,6 +269,7 @@ locks_by_case s request (LeftBefore message kept request_is same_epoch ended is 
 locks_by_case s request (Repeated message kept heard is same) = refl
 locks_by_case s request (OlderCall message kept heard is less) = refl
 locks_by_case s request (Outstanding message kept heard is more none) = refl
+locks_by_case s request (LeavesBeside message heard beside) = refl
 locks_by_case s request (Recovering message new recovering) = refl
 locks_by_case s request (Answered message note answer new serving answered) = note_locks s note
 locks_by_case s request (Granted message note answer name new serving granted) = note_locks s note
@@ -298,12 +299,12 @@ module _ (cell : List ℕ) (rows : Rows) (s : MasterState) (k : IsKept cell rows
   tended_by_sweep (Spared front back idle turn held) = h
   tended_by_sweep (Tidied front back idle turn still) = gone_tended s legal h idle.instance k.locks.in_order
   tended_by_sweep (OfEnded front back asked call sequencer turn work gone) = h
-  tended_by_sweep (Ended front back asked call sequencer note answer turn work live made) = note_tended (recorded (rest s front back) asked.client _) note h
-  tended_by_sweep (Applied front back asked call sequencer note change answer turn work live made) = note_tended (recorded (mapped (rest s front back) change) asked.client _) note h
-  tended_by_sweep (Deleted front back asked call sequencer change instance waiters answer turn work live made) = gone_tended s legal h instance k.locks.in_order
-  tended_by_sweep (Locked front back asked call sequencer put claim answer turn work live made) = put_tended s.clock s.locks put.instance put.lock (by_effect asked.client asked.number call sequencer _ made) h
-  tended_by_sweep (Awaited front back asked call sequencer put turn work live made) = put_tended s.clock s.locks put.instance put.lock (by_effect asked.client asked.number call sequencer _ made) h
-  tended_by_sweep (Left front back asked call sequencer note leave answer turn work live made) =
+  tended_by_sweep (Ended front back asked call sequencer note answer turn work stays live made) = note_tended (recorded (rest s front back) asked.client _) note h
+  tended_by_sweep (Applied front back asked call sequencer note change answer turn work stays live made) = note_tended (recorded (mapped (rest s front back) change) asked.client _) note h
+  tended_by_sweep (Deleted front back asked call sequencer change instance waiters answer turn work stays live made) = gone_tended s legal h instance k.locks.in_order
+  tended_by_sweep (Locked front back asked call sequencer put claim answer turn work stays live made) = put_tended s.clock s.locks put.instance put.lock (by_effect asked.client asked.number call sequencer _ made) h
+  tended_by_sweep (Awaited front back asked call sequencer put turn work stays live made) = put_tended s.clock s.locks put.instance put.lock (by_effect asked.client asked.number call sequencer _ made) h
+  tended_by_sweep (Left front back asked call sequencer note leave answer turn work stays live made) =
       let l = with_locks (rest s front back) (left_put leave ∷ []) in
       note_tended (recorded l asked.client _) note (put_tended s.clock s.locks leave.instance leave.turn.lock (by_effect asked.client asked.number call sequencer _ made) h)
 

@@ -103,12 +103,12 @@ timed_of s order none (Spared front back idle turn held) = tt
 timed_of s order none (Tidied front back idle turn still) = tt
 timed_of s order none (OfEnded front back asked call sequencer turn work gone) = tt
 timed_of s order none (Departed front back asked call sequencer session turn work leave found live) = tt
-timed_of s order none (Ended front back asked call sequencer _ answer turn work live made) = tt
-timed_of s order none (Applied front back asked call sequencer _ change answer turn work live made) = tt
-timed_of s order none (Deleted front back asked call sequencer change instance waiters answer turn work live made) = tt
-timed_of s order none (Locked front back asked call sequencer put claim answer turn work live made) = tt
-timed_of s order none (Awaited front back asked call sequencer put turn work live made) = tt
-timed_of s order none (Left front back asked call sequencer _ leave answer turn work live made) = tt
+timed_of s order none (Ended front back asked call sequencer _ answer turn work stays live made) = tt
+timed_of s order none (Applied front back asked call sequencer _ change answer turn work stays live made) = tt
+timed_of s order none (Deleted front back asked call sequencer change instance waiters answer turn work stays live made) = tt
+timed_of s order none (Locked front back asked call sequencer put claim answer turn work stays live made) = tt
+timed_of s order none (Awaited front back asked call sequencer put turn work stays live made) = tt
+timed_of s order none (Left front back asked call sequencer _ leave answer turn work stays live made) = tt
 
 expires : (s : MasterState) (client : ℕ) → HasSessionsInOrder s → lowest s.sessions (is_client_expired s.clock) ≡ Some client → IsTimedStep s (acted s (actions.Expire client)).0
 expires s client order is =

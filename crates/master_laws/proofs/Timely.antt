@@ -31,7 +31,7 @@ use Rattle.lock_core.specs.Turns.{reopened}
 use Rattle.master_state.specs.Lapses.{lapses_of, lapses_replies}
 use Rattle.master_state.specs.Replies.{kept_puts, replies_to, turn_replies}
 use Rattle.cell_core.specs.Cases.{TakeCase, taken_by}
-use Rattle.cell_core.specs.Cases.TakeCase.{StartRefused, StartRecovering, StartFull, StartQueued, OldBeat, BeatRefused, BeatParked, OldEpoch, NoSession, LeftBefore, Repeated, OlderCall, Outstanding, Recovering, Answered, Granted, Waits}
+use Rattle.cell_core.specs.Cases.TakeCase.{StartRefused, StartRecovering, StartFull, StartQueued, OldBeat, BeatRefused, BeatParked, OldEpoch, NoSession, LeftBefore, Repeated, OlderCall, Outstanding, LeavesBeside, Recovering, Answered, Granted, Waits}
 use Rattle.cell_core.specs.Step.{queued, recorded, names_of, with_call, asking, asking_for}
 use Rattle.cell_core.specs.Outcomes.{left_put}
 use Rattle.over_core.specs.SweepCase.{SweepCase, rest, ended, mapped, left_reply, gone_replies, swept_by}
@@ -69,6 +69,7 @@ lease_by_case s request (LeftBefore message kept request_is same_epoch ended is 
 lease_by_case s request (Repeated message kept heard is same) = refl
 lease_by_case s request (OlderCall message kept heard is less) = refl
 lease_by_case s request (Outstanding message kept heard is more none) = refl
+lease_by_case s request (LeavesBeside message heard beside) = lease_of_one s.sessions message.client _
 lease_by_case s request (Recovering message new recovering) = lease_of_one s.sessions message.client _
 lease_by_case s request (Answered message note answer new serving answered) = lease_recorded s note message.client _
 lease_by_case s request (Granted message note answer name new serving granted) = lease_recorded s note message.client _
@@ -88,12 +89,12 @@ lease_by_sweep s (Tidies idle due) = lease_asked (with_parent idle.name) (queued
 lease_by_sweep s (Spared front back idle turn held) = refl
 lease_by_sweep s (Tidied front back idle turn still) = lease_kept (kept_puts (gone_replies s idle)) s
 lease_by_sweep s (OfEnded front back asked call sequencer turn work gone) = refl
-lease_by_sweep s (Ended front back asked call sequencer note answer turn work live made) = lease_noted (recorded (rest s front back) asked.client _) note ∙ lease_of_one s.sessions asked.client _
-lease_by_sweep s (Applied front back asked call sequencer note change answer turn work live made) = lease_noted (recorded (mapped (rest s front back) change) asked.client _) note ∙ lease_of_one s.sessions asked.client _
-lease_by_sweep s (Deleted front back asked call sequencer change instance waiters answer turn work live made) = lease_kept (kept_puts (replies_to s (results.Refused faults.StaleInstance) waiters)) (recorded s asked.client _) ∙ lease_of_one s.sessions asked.client _
-lease_by_sweep s (Locked front back asked call sequencer put claim answer turn work live made) = lease_of_one s.sessions asked.client _
-lease_by_sweep s (Awaited front back asked call sequencer put turn work live made) = refl
-lease_by_sweep s (Left front back asked call sequencer note leave answer turn work live made) = lease_kept (kept_puts (turn_replies s leave.turn)) (ended (with_locks (rest s front back) (left_put leave ∷ [])) asked note answer) ∙ lease_noted (recorded (with_locks (rest s front back) (left_put leave ∷ [])) asked.client _) note ∙ lease_of_one s.sessions asked.client _
+lease_by_sweep s (Ended front back asked call sequencer note answer turn work stays live made) = lease_noted (recorded (rest s front back) asked.client _) note ∙ lease_of_one s.sessions asked.client _
+lease_by_sweep s (Applied front back asked call sequencer note change answer turn work stays live made) = lease_noted (recorded (mapped (rest s front back) change) asked.client _) note ∙ lease_of_one s.sessions asked.client _
+lease_by_sweep s (Deleted front back asked call sequencer change instance waiters answer turn work stays live made) = lease_kept (kept_puts (replies_to s (results.Refused faults.StaleInstance) waiters)) (recorded s asked.client _) ∙ lease_of_one s.sessions asked.client _
+lease_by_sweep s (Locked front back asked call sequencer put claim answer turn work stays live made) = lease_of_one s.sessions asked.client _
+lease_by_sweep s (Awaited front back asked call sequencer put turn work stays live made) = refl
+lease_by_sweep s (Left front back asked call sequencer note leave answer turn work stays live made) = lease_kept (kept_puts (turn_replies s leave.turn)) (ended (with_locks (rest s front back) (left_put leave ∷ [])) asked note answer) ∙ lease_noted (recorded (with_locks (rest s front back) (left_put leave ∷ [])) asked.client _) note ∙ lease_of_one s.sessions asked.client _
 
 -- ---- and so does the clock
 
@@ -119,6 +120,7 @@ clock_by_case s request (LeftBefore message kept request_is same_epoch ended is 
 clock_by_case s request (Repeated message kept heard is same) = refl
 clock_by_case s request (OlderCall message kept heard is less) = refl
 clock_by_case s request (Outstanding message kept heard is more none) = refl
+clock_by_case s request (LeavesBeside message heard beside) = refl
 clock_by_case s request (Recovering message new recovering) = refl
 clock_by_case s request (Answered message note answer new serving answered) = clock_noted s note
 clock_by_case s request (Granted message note answer name new serving granted) = clock_noted s note
@@ -138,12 +140,12 @@ clock_by_sweep s (Tidies idle due) = clock_asked (with_parent idle.name) (queued
 clock_by_sweep s (Spared front back idle turn held) = refl
 clock_by_sweep s (Tidied front back idle turn still) = refl
 clock_by_sweep s (OfEnded front back asked call sequencer turn work gone) = refl
-clock_by_sweep s (Ended front back asked call sequencer note answer turn work live made) = clock_noted (recorded (rest s front back) asked.client _) note
-clock_by_sweep s (Applied front back asked call sequencer note change answer turn work live made) = clock_noted (recorded (mapped (rest s front back) change) asked.client _) note
-clock_by_sweep s (Deleted front back asked call sequencer change instance waiters answer turn work live made) = refl
-clock_by_sweep s (Locked front back asked call sequencer put claim answer turn work live made) = refl
-clock_by_sweep s (Awaited front back asked call sequencer put turn work live made) = refl
-clock_by_sweep s (Left front back asked call sequencer note leave answer turn work live made) = clock_noted (recorded (with_locks (rest s front back) (left_put leave ∷ [])) asked.client _) note
+clock_by_sweep s (Ended front back asked call sequencer note answer turn work stays live made) = clock_noted (recorded (rest s front back) asked.client _) note
+clock_by_sweep s (Applied front back asked call sequencer note change answer turn work stays live made) = clock_noted (recorded (mapped (rest s front back) change) asked.client _) note
+clock_by_sweep s (Deleted front back asked call sequencer change instance waiters answer turn work stays live made) = refl
+clock_by_sweep s (Locked front back asked call sequencer put claim answer turn work stays live made) = refl
+clock_by_sweep s (Awaited front back asked call sequencer put turn work stays live made) = refl
+clock_by_sweep s (Left front back asked call sequencer note leave answer turn work stays live made) = clock_noted (recorded (with_locks (rest s front back) (left_put leave ∷ [])) asked.client _) note
 
 -- ---- moments
 

@@ -7,7 +7,7 @@ use Rattle.tags_cell.specs.declared.messages.outs.Reply.{Reply}
 use Rattle.tags_cell.specs.declared.messages.requests.Request.{Request}
 use Rattle.master_state.specs.State.{MasterState}
 use Rattle.cell_core.specs.Cases.{TakeCase, taken_by}
-use Rattle.cell_core.specs.Cases.TakeCase.{StartRefused, StartRecovering, StartFull, StartQueued, OldBeat, BeatRefused, BeatParked, OldEpoch, NoSession, LeftBefore, Repeated, OlderCall, Outstanding, Recovering, Answered, Granted, Waits}
+use Rattle.cell_core.specs.Cases.TakeCase.{StartRefused, StartRecovering, StartFull, StartQueued, OldBeat, BeatRefused, BeatParked, OldEpoch, NoSession, LeftBefore, Repeated, OlderCall, Outstanding, LeavesBeside, Recovering, Answered, Granted, Waits}
 use Rattle.master_state.specs.Lookups.{noted}
 use Rattle.cell_core.proofs.TakeCases.{taken_case}
 use Rattle.master_laws.specs.Refused.{TurnedAwayChangesNothing}
@@ -30,6 +30,7 @@ turned_away_by s request refused (LeftBefore message kept request_is same_epoch 
 turned_away_by s request refused (Repeated message kept heard is equal) h = refl
 turned_away_by s request refused (OlderCall message kept heard is less) h = refl
 turned_away_by s request refused (Outstanding message kept heard is more none) h = refl
+turned_away_by s request refused (LeavesBeside message heard beside) h = absurd (none_in (outs.Refused refused) h)
 turned_away_by s request refused (Recovering message new recovering) h = absurd (no_reply _ refused h)
 turned_away_by s request refused (Answered message opened answer new going answered) h = absurd (no_reply _ refused h)
 turned_away_by s request refused (Granted message opened answer name new going granted) h = absurd (no_reply _ refused h)

@@ -20,6 +20,7 @@ pub mod Lookups
 pub mod Notices
 pub mod Concerned
 pub mod Updates
+pub mod CallsWaiting
 pub mod Replies
 pub mod Partings
 pub mod Lapses

@@ -1,5 +1,5 @@
 -- Who is told of a lock, and what is printed of it.
-use Rattle.std.specs.Prelude.{ℕ, Bool, List, [], ◌∷◌, ◌++◌, map, if◌then◌else◌}
+use Rattle.std.specs.Prelude.{ℕ, Bool, not, ◌&&◌, List, [], ◌∷◌, ◌++◌, map, if◌then◌else◌}
 use Rattle.std.specs.Option.{option_map_or}
 use Rattle.node_core.specs.declared.lines.Line.{Line}
 use Rattle.tags_cell.specs.declared.messages.outs.Out.{Out}
@@ -13,6 +13,7 @@ use Rattle.master_state.specs.declared.updates.KeptPut.{KeptPut}
 use Rattle.master_state.specs.declared.updates.LockPut.{LockPut}
 use Rattle.master_state.specs.State.{MasterState}
 use Rattle.master_state.specs.Lookups.{kept_of, reply_of}
+use Rattle.master_state.specs.CallsWaiting.{has_call}
 use Rattle.master_parts.specs.Answered.{answered_by}
 use Rattle.master_parts.specs.NameIndex.{name_of}
 use Rattle.node_core.specs.declared.refusals.Fault.TheVariants as faults
@@ -32,10 +33,10 @@ kept_puts replies = map kept_put replies
 abbrev pub sent : List Reply → List Out
 sent replies = map outs.Reply replies
 
--- the answer to the call of a client that waits for a lock
+-- the answer to the call of a client that waits for a lock; none where another call of it waits for its turn, by which the client gave that one up
 abbrev pub reply_to : MasterState → CallResult → ℕ → List Reply
 reply_to s answer client =
-    if is_client_number client then option_map_or (λ kept. reply_of s client kept.number answer ∷ []) (kept_of s client) [] else []
+    if is_client_number client && not (has_call client s.gate.waiting) then option_map_or (λ kept. reply_of s client kept.number answer ∷ []) (kept_of s client) [] else []
 
 -- to each of these, in order
 abbrev pub replies_to : MasterState → CallResult → List Claim → List Reply

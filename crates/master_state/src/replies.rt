@@ -76,7 +76,7 @@ pub fn replies_to(
     Ok(replies)
 }
 
-// The answer to the call of a client that waits for a lock.
+// The answer to the call of a client that waits for a lock, unless it gave that one up by another call.
 fn reply_to(master: &Master, answer: &CallResult, client: u64) -> Result<Items<Reply>, AllocError>
     ensures { IfOk result (λ replies. replies ≡ reply_to master.now answer.now client) }
 {
@@ -84,6 +84,9 @@ fn reply_to(master: &Master, answer: &CallResult, client: u64) -> Result<Items<R
     let Some(client) = ClientNumber::new(client) else {
         return Ok(replies);
     };
+    if master.has_call(client) {
+        return Ok(replies);
+    }
     let Some(session) = master.sessions().get(client.get()) else {
         return Ok(replies);
     };

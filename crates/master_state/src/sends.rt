@@ -1,12 +1,13 @@
 //! What a master sends, and the tests of who may call.
 ghost use Rattle.std.specs.Prelude.{◌≡◌, [], ◌∷◌, map, IfOk};
 ghost use Rattle.rights_core.specs.Rights.{numbers_ending, grant_answer};
+ghost use Rattle.master_state.specs.CallsWaiting.{is_by, is_call, has_call};
 ghost use Rattle.master_state.specs.Lookups.{refusal, turned_away, reply_of, stamped_reply, issued_to, sends, repeated, granted_lines, acknowledgement, may_start, is_live, is_full, is_spent};
 
 use crate::masters::Master;
 use collections::Items;
 use gate_core::PENDING_LIMIT;
-use master_parts::Taken;
+use master_parts::{Taken, Task, Work};
 use names_cell::{Name, Principal};
 use node_core::{Fault, Line, NUMBER_LIMIT};
 use rights_core::{Ending, Grant};
@@ -171,6 +172,17 @@ impl Master {
         self.gate().len() >= PENDING_LIMIT
     }
 
+    /// Whether a call of the client waits for its turn. Takes no memory, and looks at each change that waits.
+    pub fn has_call(&self, client: ClientNumber) -> bool
+        ensures { result ≡ has_call client self.now.gate.waiting }
+    {
+        self.gate()
+            .changes()
+            .as_map()
+            .values()
+            .any(|waiting| is_call_by(client, &waiting.change.body))
+    }
+
     /// Whether a count is at its end: of the changes that ever waited, of the rights that were ever granted, or of a
     /// session's events.
     pub fn is_spent(&self) -> bool
@@ -179,5 +191,23 @@ impl Master {
         self.gate().pushed() >= NUMBER_LIMIT
             || self.rights().totals().issued >= NUMBER_LIMIT
             || self.sessions().has_spent_events()
+    }
+}
+
+fn is_call_by(client: ClientNumber, task: &Task) -> bool
+    ensures { result ≡ is_by is_call client task.now }
+{
+    match task {
+        Task::Asked(asked) => is_call(&asked.work) && asked.client == client,
+        Task::Tidies(_) => false,
+    }
+}
+
+fn is_call(work: &Work) -> bool
+    ensures { result ≡ is_call work.now }
+{
+    match work {
+        Work::Starts(_, _) => false,
+        Work::Calls(_, _) => true,
     }
 }

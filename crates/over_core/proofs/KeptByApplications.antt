@@ -1,5 +1,5 @@
 -- A change whose turn comes leaves the master beside its rows.
-use Rattle.std.proofs.Common.{◌≡◌, ℕ, ◌+◌, ◌≤◌, List, [], ◌∷◌, ◌++◌, Bool, true, Option, Some, None, refl, sym, ◌∙◌, ap, subst, arith}
+use Rattle.std.proofs.Common.{◌≡◌, ℕ, ◌+◌, ◌≤◌, List, [], ◌∷◌, ◌++◌, Bool, true, false, Option, Some, None, refl, sym, ◌∙◌, ap, subst, arith}
 use Rattle.std.specs.Prelude.{◌&&◌, ◌==◌, not, All}
 use Rattle.std.specs.Option.{option_map_or}
 use Rattle.std.specs.List.{list_all, sum_by}
@@ -51,7 +51,8 @@ use Rattle.master_state.specs.Updates.{with_note, edit_of, with_locks, without_l
 use Rattle.cell_core.specs.Ephemerals.{is_still_idle}
 use Rattle.cell_core.specs.declared.effects.Leave.{Leave}
 use Rattle.cell_core.specs.Names.{names_touched}
-use Rattle.over_core.specs.Kept.{IsKept, AreTouching, AreOwnCalls, IsOwnCall, IsOwnTask, HaveOneCall, task_fits, waiting_fits, is_call, call_count, claim_count, waits_count, outstanding, unanswered, is_unanswered}
+use Rattle.master_state.specs.CallsWaiting.{is_call, has_call}
+use Rattle.over_core.specs.Kept.{IsKept, AreTouching, AreOwnCalls, IsOwnCall, IsOwnTask, HaveOneCall, AreOne, task_fits, waiting_fits, is_other_call, work_count, claim_count, waits_count, count_in, outstanding, unanswered, is_unanswered}
 use Rattle.master_state.specs.Replies.{replies_to, turn_replies}
 use Rattle.cell_core.specs.Outcomes.{left_put}
 use Rattle.over_core.specs.SweepCase.{IsNextApplied, rest, ended, mapped, told, relocking, gone_change, gone_replies}
@@ -60,8 +61,8 @@ use Rattle.over_core.proofs.KeptByTakes.{stays, recorded_kept, note_kept, unnote
 use Rattle.over_core.proofs.LockingFits.{PutsFit, GoesFit, TakesFit, WaitsFit, LeavesFit}
 use Rattle.over_core.proofs.LocksLapsed.{told_and_waiting}
 use Rattle.over_core.proofs.LocksOfNodes.{put_generations, put_each, gone_generations, gone_rows, gone_each, gone_in_order}
-use Rattle.over_core.proofs.LocksSwept.{one_relocked, none_put, told_put, turn_one}
-use Rattle.over_core.proofs.OneCall.{AreOne, at_most_one, one_if, asked_waiting, count_in, sum_gone, one_less, one_put, one_awaited, none_beside}
+use Rattle.over_core.proofs.LocksSwept.{one_relocked, of_quiet, none_put, told_put, turn_one}
+use Rattle.over_core.proofs.OneCall.{at_most_one, one_if, asked_waiting, gate_less, none_in_gate, sum_gone, one_less, one_put, one_awaited, none_behind, none_beside}
 use Rattle.over_core.proofs.OrderlyChanges.{orderly_less, all_less}
 use Rattle.over_core.proofs.RepliesKept.{claims_count, told_of, replies_are_to, turn_replies_are_to, told_kept}
 
@@ -132,9 +133,12 @@ module _ (cell : List ℕ) (rows : Rows) (s : MasterState) (k : IsKept cell rows
   less_gone gate new old sum e h l = omega (arith, h, l)
 
   one_gone : (instance : ℕ) → AreOne s.gate.waiting (remove_entry (is_at (nat_cmp instance)) s.locks) s.sessions
-  one_gone instance q =
-      less_gone (sum_by (call_count q) s.gate.waiting) (sum_by (waits_count q) (values_of (remove_entry (is_at (nat_cmp instance)) s.locks))) (waits_count q (lock_at s.locks instance)) (sum_by (waits_count q) (values_of s.locks)) (unanswered (kept_of s.sessions q))
-      (sum_gone q s.locks instance) (k.one_call q)
+  one_gone instance = (
+    k.one_call.0,
+    λ q.
+        less_gone (sum_by (work_count is_other_call q) s.gate.waiting) (sum_by (waits_count q) (values_of (remove_entry (is_at (nat_cmp instance)) s.locks))) (waits_count q (lock_at s.locks instance)) (sum_by (waits_count q) (values_of s.locks)) (unanswered (kept_of s.sessions q))
+        (sum_gone q s.locks instance) (k.one_call.1 q),
+  )
 
   goes_kept : (name : List ℕ) (next instance : ℕ) (node : StoredNode) → stored_node rows.nodes name ≡ Some node → node.node.instance ≡ instance → GoneFits rows name next → IsKept cell (changed_rows rows (edit_of (Gone name) ∷ NextInstance next ∷ [])) (without_lock (mapped s (record { change = Gone name; next_instance = next })) (Some instance))
   goes_kept name next instance node found of_node fits =
@@ -234,12 +238,22 @@ module _ (cell : List ℕ) (rows : Rows) (s : MasterState) (k : IsKept cell rows
         own = all_less (λ (x : Waiting Task). IsOwnTask s.secret x.change.body) front here back (subst R turn.waited k.own);
       })
 
+  -- of a client of which no call waited in the gate none waits there
+  pub still_quiet : (q : ℕ) → has_call q s.gate.waiting ≡ false → sum_by (work_count is_call q) (front ++ back) ≡ 0
+  still_quiet q quiet =
+      let P : List (Waiting Task) → Type 0 = λ ws. has_call q ws ≡ false in
+      less_still (sum_by (work_count is_call q) (front ++ here ∷ back)) (sum_by (work_count is_call q) (front ++ back)) (work_count is_call q here) (gate_less is_call q front here back) (none_in_gate q (front ++ here ∷ back) (subst P turn.waited quiet))
+    where
+      less_still : (all rest one : ℕ) → all ≡ rest + one → all ≡ 0 → rest ≡ 0
+      less_still all rest one h none = omega (arith, h, none)
+
   -- none of those waits any longer who waited for the lock of a node that goes
-  none_waits : (instance : ℕ) (waiters : List Claim) → waiters ≡ (lock_at s.locks instance).waiters → (q : ℕ) → 1 ≤ claims_count q waiters → sum_by (call_count q) (front ++ back) + waits_in q (remove_entry (is_at (nat_cmp instance)) s.locks) ≡ 0
-  none_waits instance waiters all q some =
+  none_waits : (instance : ℕ) (waiters : List Claim) → waiters ≡ (lock_at s.locks instance).waiters → (q : ℕ) → 1 ≤ claims_count q waiters → has_call q s.gate.waiting ≡ false → count_in (front ++ back) (remove_entry (is_at (nat_cmp instance)) s.locks) q ≡ 0
+  none_waits instance waiters all q some quiet =
       let W : List Claim → Type 0 = λ ws. 1 ≤ claims_count q ws in
-      told_gone (sum_by (call_count q) (front ++ back)) (waits_in q (remove_entry (is_at (nat_cmp instance)) s.locks)) (waits_count q (lock_at s.locks instance)) (waits_in q s.locks) (unanswered (kept_of s.sessions q))
-      (sum_gone q s.locks instance) (rest_kept.one_call q) (at_most_one (is_unanswered (kept_of s.sessions q))) (subst W all some)
+      of_quiet q (front ++ back) (remove_entry (is_at (nat_cmp instance)) s.locks) (still_quiet q quiet)
+      (told_gone (sum_by (work_count is_other_call q) (front ++ back)) (waits_in q (remove_entry (is_at (nat_cmp instance)) s.locks)) (waits_count q (lock_at s.locks instance)) (waits_in q s.locks) (unanswered (kept_of s.sessions q))
+      (sum_gone q s.locks instance) (rest_kept.one_call.1 q) (at_most_one (is_unanswered (kept_of s.sessions q))) (subst W all some))
 
 -- ---- a node that goes by itself
 
@@ -277,23 +291,27 @@ module _ (cell : List ℕ) (rows : Rows) (s : MasterState) (k : IsKept cell rows
   pub application_own : IsOwnCall s.secret asked.client asked.work
   application_own = own_before cell rows s k front back (tasks.Asked asked) turn
 
-  -- no other call of its client waits
-  pub none_else : is_call asked.work ≡ true → count_in (front ++ back) s.locks asked.client ≡ 0
+  -- no other call of its client waits ..
+  none_else : is_other_call asked.work ≡ true → count_in (front ++ back) s.locks asked.client ≡ 0
   none_else call = none_beside front turn.number turn.touched asked back s.locks s.sessions call before
 
+  -- .. but where it ends its session, for a lock
+  pub none_in_turn : is_call asked.work ≡ true → sum_by (work_count is_call asked.client) (front ++ back) ≡ 0
+  none_in_turn call = none_behind front turn.number turn.touched asked back s.locks s.sessions call before
+
   -- a call that ends
-  pub ended_application : (note : Option HandleNote) (answer : CallResult) → is_call asked.work ≡ true → IsKept cell rows (ended (rest s front back) asked note answer)
+  pub ended_application : (note : Option HandleNote) (answer : CallResult) → is_other_call asked.work ≡ true → IsKept cell rows (ended (rest s front back) asked note answer)
   ended_application note answer call =
       let kept : LastCall Reply = answered_by (reply_of t asked.client asked.number answer) in
       note_kept cell rows (recorded t asked.client kept) note (recorded_kept cell rows t asked.client kept (none_else call) beside)
 
-  pub applied_application : (note : Option HandleNote) (change : Change) (answer : CallResult) → is_call asked.work ≡ true → PutsFit rows change → IsKept cell (changed_rows rows (edit_of change.change ∷ NextInstance change.next_instance ∷ [])) (ended (mapped (rest s front back) change) asked note answer)
+  pub applied_application : (note : Option HandleNote) (change : Change) (answer : CallResult) → is_other_call asked.work ≡ true → PutsFit rows change → IsKept cell (changed_rows rows (edit_of change.change ∷ NextInstance change.next_instance ∷ [])) (ended (mapped (rest s front back) change) asked note answer)
   applied_application note change answer call fits =
       let after : Rows = changed_rows rows (edit_of change.change ∷ NextInstance change.next_instance ∷ []) in
       let kept : LastCall Reply = answered_by (reply_of t asked.client asked.number answer) in
       note_kept cell after (recorded (mapped t change) asked.client kept) note (recorded_kept cell after (mapped t change) asked.client kept (none_else call) (mapped_kept cell rows t beside change fits))
 
-  pub deleted_application : (change : Change) (instance : ℕ) (waiters : List Claim) (answer : CallResult) → is_call asked.work ≡ true → GoesFit rows s change instance waiters
+  pub deleted_application : (change : Change) (instance : ℕ) (waiters : List Claim) (answer : CallResult) → is_other_call asked.work ≡ true → GoesFit rows s change instance waiters
       → IsKept cell (changed_rows rows (edit_of change.change ∷ NextInstance change.next_instance ∷ [])) (without_lock (told (ended (mapped (rest s front back) change) asked None answer) (replies_to s (results.Refused faults.StaleInstance) waiters)) (Some instance))
   deleted_application change instance waiters answer call fits =
       let after : Rows = changed_rows rows (edit_of change.change ∷ NextInstance change.next_instance ∷ []) in
@@ -301,13 +319,13 @@ module _ (cell : List ℕ) (rows : Rows) (s : MasterState) (k : IsKept cell rows
       let gone : MasterState = without_lock (mapped t change) (Some instance) in
       let left : LockTable = remove_entry (is_at (nat_cmp instance)) s.locks in
       let own : outstanding gone asked.client ≡ 0 =
-      none_gone (sum_by (call_count asked.client) (front ++ back)) (waits_in asked.client left) (waits_count asked.client (lock_at s.locks instance)) (waits_in asked.client s.locks) (sum_gone asked.client s.locks instance) (none_else call) in
+      none_gone (sum_by (work_count is_call asked.client) (front ++ back)) (waits_in asked.client left) (waits_count asked.client (lock_at s.locks instance)) (waits_in asked.client s.locks) (sum_gone asked.client s.locks instance) (none_else call) in
       told_kept cell after (replies_to s (results.Refused faults.StaleInstance) waiters) (recorded gone asked.client kept)
       (replies_are_to (λ q. outstanding (recorded gone asked.client kept) q ≡ 0) s (results.Refused faults.StaleInstance) waiters (none_waits cell rows s k front back (tasks.Asked asked) turn instance waiters fits.all))
       (recorded_kept cell after gone asked.client kept own (gone_kept cell rows t beside change instance fits.name fits.node fits.is fits.found fits.of_node fits.fits))
 
   -- the lock is held by the caller
-  pub locked_application : (put : LockPut) (answer : CallResult) → is_call asked.work ≡ true → TakesFit rows s put → IsKept cell (changed_rows rows (relocking s (put ∷ []))) (ended (with_locks (rest s front back) (put ∷ [])) asked None answer)
+  pub locked_application : (put : LockPut) (answer : CallResult) → is_other_call asked.work ≡ true → TakesFit rows s put → IsKept cell (changed_rows rows (relocking s (put ∷ []))) (ended (with_locks (rest s front back) (put ∷ [])) asked None answer)
   locked_application put answer call fits =
       let after : Rows = changed_rows rows (relocking s (put ∷ [])) in
       let kept : LastCall Reply = answered_by (reply_of t asked.client asked.number answer) in
@@ -316,15 +334,15 @@ module _ (cell : List ℕ) (rows : Rows) (s : MasterState) (k : IsKept cell rows
       (one_relocked cell rows t put beside fits.is_put (one_put (front ++ back) s.locks s.sessions put.instance put.lock k.locks.in_order less beside.one_call))
 
   -- the caller waits for it
-  pub awaited_application : (put : LockPut) → is_call asked.work ≡ true → WaitsFit rows s asked.client put → IsKept cell (changed_rows rows (relocking s (put ∷ []))) (with_locks (rest s front back) (put ∷ []))
+  pub awaited_application : (put : LockPut) → is_other_call asked.work ≡ true → WaitsFit rows s asked.client put → IsKept cell (changed_rows rows (relocking s (put ∷ []))) (with_locks (rest s front back) (put ∷ []))
   awaited_application put call fits =
-      let more : (q : ℕ) → waits_count q put.lock ≡ waits_count q (lock_at s.locks put.instance) + call_count q w = λ q.
+      let more : (q : ℕ) → waits_count q put.lock ≡ waits_count q (lock_at s.locks put.instance) + work_count is_other_call q w = λ q.
       ap (claims_count q) fits.more ∙ sum_by_push (claim_count q) (lock_at s.locks put.instance).waiters fits.claim
-      ∙ ap (λ n. waits_count q (lock_at s.locks put.instance) + n) (own_count (is_call asked.work) fits.claim.owner.client asked.client q call fits.own) in
+      ∙ ap (λ n. waits_count q (lock_at s.locks put.instance) + n) (own_count (is_other_call asked.work) fits.claim.owner.client asked.client q call fits.own) in
       one_relocked cell rows t put beside fits.is_put (one_awaited front w back s.locks s.sessions put.instance put.lock k.locks.in_order more before)
 
   -- the caller leaves it, and others get it
-  pub left_by_application : (note : Option HandleNote) (leave : Leave) (answer : CallResult) → is_call asked.work ≡ true → LeavesFit rows s leave
+  pub left_by_application : (note : Option HandleNote) (leave : Leave) (answer : CallResult) → is_other_call asked.work ≡ true → LeavesFit rows s leave
       → IsKept cell (changed_rows rows (relocking s (left_put leave ∷ []))) (told (ended (with_locks (rest s front back) (left_put leave ∷ [])) asked note answer) (turn_replies s leave.turn))
   left_by_application note leave answer call fits =
       let after : Rows = changed_rows rows (relocking s (left_put leave ∷ [])) in
@@ -336,8 +354,9 @@ module _ (cell : List ℕ) (rows : Rows) (s : MasterState) (k : IsKept cell rows
       let less : (q : ℕ) → waits_count q leave.turn.lock ≤ waits_count q (lock_at s.locks leave.instance) = λ q. second (told_of q leave.turn) (waits_count q leave.turn.lock) (waits_count q (lock_at s.locks leave.instance)) (waited q) in
       let one : HaveOneCall relocked = turn_one (front ++ back) s.locks s.sessions leave.instance leave.turn k.locks.in_order waited beside.one_call in
       let own : outstanding relocked asked.client ≡ 0 = none_put (front ++ back) s.locks leave.instance leave.turn.lock asked.client k.locks.in_order (less asked.client) (none_else call) in
-      let others : (q : ℕ) → 1 ≤ told_of q leave.turn → outstanding (with_note (recorded relocked asked.client kept) note) q ≡ 0 = λ q some.
-      unnoted (λ x. outstanding x q) (λ x n. refl) (recorded relocked asked.client kept) note ∙ told_put (front ++ back) s.locks s.sessions leave.instance leave.turn k.locks.in_order waited beside.one_call q some in
+      let others : (q : ℕ) → 1 ≤ told_of q leave.turn → has_call q s.gate.waiting ≡ false → outstanding (with_note (recorded relocked asked.client kept) note) q ≡ 0 = λ q some quiet.
+      unnoted (λ x. outstanding x q) (λ x n. refl) (recorded relocked asked.client kept) note
+      ∙ told_put (front ++ back) s.locks s.sessions leave.instance leave.turn k.locks.in_order waited beside.one_call q some (still_quiet cell rows s k front back (tasks.Asked asked) turn q quiet) in
       told_kept cell after (turn_replies s leave.turn) (with_note (recorded relocked asked.client kept) note)
       (turn_replies_are_to (λ q. outstanding (with_note (recorded relocked asked.client kept) note) q ≡ 0) s leave.turn others)
       (note_kept cell after (recorded relocked asked.client kept) note

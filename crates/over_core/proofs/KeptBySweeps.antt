@@ -55,7 +55,9 @@ use Rattle.cell_core.specs.Ephemerals.{spared_for, is_ok, may_tidy, next_idle, t
 use Rattle.cell_core.specs.declared.effects.Effect.{Effect}
 use Rattle.over_core.specs.declared.swept.Swept.{Swept}
 use Rattle.cell_core.specs.Effect.{effect}
-use Rattle.over_core.specs.Kept.{IsKept, AreLocksKept, IsOwnCall, is_call}
+use Rattle.master_state.specs.CallsWaiting.{is_call}
+use Rattle.tags_cell.specs.Messages.{is_leave}
+use Rattle.over_core.specs.Kept.{IsKept, AreLocksKept, IsOwnCall, is_other_call, outstanding}
 use Rattle.over_core.specs.Sweep.{action_edits, is_over, sweep_edits, sweep_step, beats_action, beats_step, IsSwept, IsHeldUp, sweep_frees}
 use Rattle.over_core.specs.Plans.{first_action}
 use Rattle.over_core.specs.SweepCase.{IsNextApplied, SweepCase, rest, swept_by, swept_edits, told, parted, parting_edits, left_reply}
@@ -63,14 +65,15 @@ use Rattle.over_core.specs.SweepCase.SweepCase.{Quiet, Recovers, Expires, Depart
 use Rattle.over_core.proofs.FitsByEffects.{effect_fits}
 use Rattle.over_core.proofs.EachSession.{new_each, new_without}
 use Rattle.over_core.proofs.KeptByTakes.{IsByBeats, IsIssued, HasNoRight, stays, same_call_kept, queued_kept, asking_kept, clock_kept}
-use Rattle.over_core.proofs.KeptByApplications.{application_client, application_own, rest_kept, tidied_application, ended_application, applied_application, deleted_application, locked_application, awaited_application, left_by_application, none_else}
+use Rattle.over_core.proofs.KeptByApplications.{application_client, application_own, rest_kept, tidied_application, ended_application, applied_application, deleted_application, locked_application, awaited_application, left_by_application, none_in_turn, still_quiet}
 use Rattle.over_core.proofs.LockingFits.{EffectFits}
 use Rattle.over_core.proofs.LocksKept.{locks_stay}
-use Rattle.over_core.proofs.LocksSwept.{reopened_kept, waits_for_none, without_session_kept}
+use Rattle.over_core.proofs.LocksSwept.{reopened_kept, waits_for_none, told_then_none, parted_kept, without_session_kept}
+use Rattle.over_core.proofs.RepliesKept.{AreTo, lapses_replies_are_to}
 use Rattle.over_core.proofs.OneCall.{one_same, one_started}
 use Rattle.over_core.proofs.OwnedRights.{none_issued}
 use Rattle.over_core.proofs.SessionReads.{lives_in, keeps_in, reads_new, lives_new}
-use Rattle.over_core.proofs.SweepCases.{HasSessionsInOrder, action_tellings, first_tellings, sweep_case, swept_case, answered_case, rest_edits, rest_puts, rest_replies}
+use Rattle.over_core.proofs.SweepCases.{HasSessionsInOrder, action_tellings, first_tellings, sweep_case, swept_case, answered_case, rest_edits, rest_puts}
 use Rattle.over_core.proofs.ToldSessions.{told_acknowledged, reads_told, told_each, told_without, rows_told}
 use Rattle.lock_core.specs.declared.partings.Parting.TheVariants as partings
 
@@ -176,6 +179,10 @@ module _ (cell : List ℕ) (rows : Rows) where
       let Q : Work → Type 0 = IsOwnCall s.secret asked.client in
       subst P made (effect_fits cell rows s k asked.client asked.number call sequencer live (application_client cell rows s k front back asked turn) (subst Q work (application_own cell rows s k front back asked turn)))
 
+  -- it doesn't end the session
+  other_call : (asked : WaitingRequest) (call : Call) (sequencer : Option (List ℕ)) → asked.work ≡ works.Calls call sequencer → is_leave call ≡ false → is_other_call asked.work ≡ true
+  other_call asked call sequencer work stays = ap is_other_call work ∙ ap not stays
+
   pub case_kept : (s : MasterState) (c : SweepCase s) → IsKept cell rows s → IsKept cell (changed_rows rows (swept_edits s c)) (swept_by s c).0
   case_kept s (Quiet none) k = k
   case_kept s (Recovers recovering heard) k = stays cell rows s (record s { recovering = false; serving_from = s.clock }) k (record {
@@ -203,15 +210,16 @@ module _ (cell : List ℕ) (rows : Rows) where
       let beside = rest_kept cell rows s k front back (tasks.Asked asked) turn in
       let t = rest s front back in
       let lapses = lapses_of partings.Leave s asked.client in
-      let own = left_reply s asked in
-      let P : List Edit → List LockPut → List Reply → Type 0 = λ edits puts replies. IsKept cell (changed_rows rows edits) (told (with_locks (parted partings.Leave t asked.client) puts) (own ∷ replies)) in
+      let replies : List Reply = left_reply s asked ∷ lapses_replies s lapses in
+      let P : List Edit → List LockPut → Type 0 = λ edits puts. IsKept cell (changed_rows rows edits) (told (with_locks (parted partings.Leave t asked.client) puts) replies) in
       let edits = parting_edits partings.Leave t asked.client session.principal in
-      let there : P edits (lapses_puts t lapses) (lapses_replies t lapses) =
-      without_session_kept partings.Leave cell rows t beside asked.client session found (own ∷ [])
-      (waits_for_none partings.Leave cell rows t beside asked.client session found (none_else cell rows s k front back asked turn (ap is_call work)), tt) in
-      let replied : P edits (lapses_puts t lapses) (lapses_replies s lapses) = subst (P edits (lapses_puts t lapses)) (rest_replies s front back lapses) there in
-      let put : P edits (lapses_puts s lapses) (lapses_replies s lapses) = subst (λ puts. P edits puts (lapses_replies s lapses)) (rest_puts s front back lapses) replied in
-      subst (λ e. P e (lapses_puts s lapses) (lapses_replies s lapses)) (rest_edits s front back asked.client session.principal) put
+      let Q : ℕ → Type 0 = λ q. outstanding (with_locks (parted partings.Leave t asked.client) (lapses_puts t lapses)) q ≡ 0 in
+      let own : Q asked.client = waits_for_none partings.Leave cell rows t beside asked.client session found (none_in_turn cell rows s k front back asked turn (ap is_call work)) in
+      let others : AreTo Q (lapses_replies s lapses) =
+      lapses_replies_are_to Q s lapses (λ q some quiet. told_then_none partings.Leave cell rows t beside asked.client session found q some (still_quiet cell rows s k front back (tasks.Asked asked) turn q quiet)) in
+      let there : P edits (lapses_puts t lapses) = parted_kept partings.Leave cell rows t beside asked.client session found replies (own, others) in
+      let put : P edits (lapses_puts s lapses) = subst (P edits) (rest_puts s front back lapses) there in
+      subst (λ e. P e (lapses_puts s lapses)) (rest_edits s front back asked.client session.principal) put
   case_kept s (AnswersBeat client session beat due) k =
       same_call_kept cell rows s client (answered s.sessions.lease s.clock) (answered_row s.sessions.lease s.clock) (answered_issued s.sessions.lease s.clock) (λ before there. answered_by_beats s.sessions.lease s.clock client before) (answered_lives s.sessions.lease s.clock) (answered_keeps s.sessions.lease s.clock) k
   case_kept s (TurnedAway front back asked principal received turn work may) k = rest_kept cell rows s k front back (tasks.Asked asked) turn
@@ -224,17 +232,17 @@ module _ (cell : List ℕ) (rows : Rows) where
   case_kept s (Spared front back idle turn held) k = rest_kept cell rows s k front back (tasks.Tidies idle) turn
   case_kept s (Tidied front back idle turn still) k = tidied_application cell rows s k front back idle turn still
   case_kept s (OfEnded front back asked call sequencer turn work gone) k = rest_kept cell rows s k front back (tasks.Asked asked) turn
-  case_kept s (Ended front back asked call sequencer noted answer turn work live made) k = ended_application cell rows s k front back asked turn noted answer (ap is_call work)
-  case_kept s (Applied front back asked call sequencer noted change answer turn work live made) k =
-      applied_application cell rows s k front back asked turn noted change answer (ap is_call work) (application_fits s k front back asked call sequencer _ turn work live made)
-  case_kept s (Deleted front back asked call sequencer change instance waiters answer turn work live made) k =
-      deleted_application cell rows s k front back asked turn change instance waiters answer (ap is_call work) (application_fits s k front back asked call sequencer _ turn work live made)
-  case_kept s (Locked front back asked call sequencer put claim answer turn work live made) k =
-      locked_application cell rows s k front back asked turn put answer (ap is_call work) (application_fits s k front back asked call sequencer _ turn work live made)
-  case_kept s (Awaited front back asked call sequencer put turn work live made) k =
-      awaited_application cell rows s k front back asked turn put (ap is_call work) (application_fits s k front back asked call sequencer _ turn work live made)
-  case_kept s (Left front back asked call sequencer noted leave answer turn work live made) k =
-      left_by_application cell rows s k front back asked turn noted leave answer (ap is_call work) (application_fits s k front back asked call sequencer _ turn work live made)
+  case_kept s (Ended front back asked call sequencer noted answer turn work stays live made) k = ended_application cell rows s k front back asked turn noted answer (other_call asked call sequencer work stays)
+  case_kept s (Applied front back asked call sequencer noted change answer turn work stays live made) k =
+      applied_application cell rows s k front back asked turn noted change answer (other_call asked call sequencer work stays) (application_fits s k front back asked call sequencer _ turn work live made)
+  case_kept s (Deleted front back asked call sequencer change instance waiters answer turn work stays live made) k =
+      deleted_application cell rows s k front back asked turn change instance waiters answer (other_call asked call sequencer work stays) (application_fits s k front back asked call sequencer _ turn work live made)
+  case_kept s (Locked front back asked call sequencer put claim answer turn work stays live made) k =
+      locked_application cell rows s k front back asked turn put answer (other_call asked call sequencer work stays) (application_fits s k front back asked call sequencer _ turn work live made)
+  case_kept s (Awaited front back asked call sequencer put turn work stays live made) k =
+      awaited_application cell rows s k front back asked turn put (other_call asked call sequencer work stays) (application_fits s k front back asked call sequencer _ turn work live made)
+  case_kept s (Left front back asked call sequencer noted leave answer turn work stays live made) k =
+      left_by_application cell rows s k front back asked turn noted leave answer (other_call asked call sequencer work stays) (application_fits s k front back asked call sequencer _ turn work live made)
 
 -- ---- what clients are told
 

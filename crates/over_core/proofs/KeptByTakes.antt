@@ -1,6 +1,6 @@
 -- What a master takes leaves it beside its rows.
 use Rattle.std.proofs.Common.{◌≡◌, ℕ, List, [], ◌∷◌, ◌++◌, Bool, true, false, cond, Option, Some, None, length, refl, sym, ap, ◌∙◌, subst, arith}
-use Rattle.std.specs.Prelude.{◌+◌, ◌^◌, ◌≤◌, ◌<◌, ◌&&◌, ◌||◌, ◌==◌, max, nat_le, is_none, Result, Ok, Err, IfOk, OnErr}
+use Rattle.std.specs.Prelude.{◌+◌, ◌^◌, ◌≤◌, ◌<◌, ◌&&◌, ◌||◌, ◌==◌, not, max, nat_le, is_none, Result, Ok, Err, IfOk, OnErr}
 use Rattle.std.specs.List.{list_all, list_any}
 use Rattle.std.specs.Map.{lookup}
 use Rattle.std.specs.BTreeMap.{is_at}
@@ -18,7 +18,9 @@ use Rattle.tags_cell.specs.declared.messages.outs.CallResult.{CallResult}
 use Rattle.tags_cell.specs.declared.messages.outs.Reply.{Reply}
 use Rattle.tags_cell.specs.declared.messages.requests.CallMessage.{CallMessage}
 use Rattle.tags_cell.specs.declared.messages.requests.Request.{Request}
-use Rattle.tags_cell.specs.Messages.{request_client}
+use Rattle.tags_cell.specs.declared.messages.calls.Call.{Call}
+use Rattle.tags_cell.specs.declared.messages.calls.Call.TheVariants as calls
+use Rattle.tags_cell.specs.Messages.{request_client, is_leave}
 use Rattle.tags_cell.specs.Numbers.{is_client_number}
 use Rattle.rights_core.specs.declared.cache_rights.CacheRight.{CacheRight}
 use Rattle.rights_core.specs.declared.endings.Ending.{Ending}
@@ -47,19 +49,21 @@ use Rattle.master_parts.specs.declared.pending.Work.TheVariants as works
 use Rattle.master_state.specs.State.{MasterState}
 use Rattle.master_parts.specs.StoredSessions.{row_of, session_rows}
 use Rattle.master_state.specs.Lookups.{is_full, acknowledgement, stamped_reply, noted}
-use Rattle.cell_core.specs.Step.{queued, parked, recorded, with_right, granting, asking, asking_for, names_of, task_of, with_call, waits, take_step}
+use Rattle.cell_core.specs.declared.admissions.Admission.{Admission}
+use Rattle.cell_core.specs.Step.{queued, parked, recorded, with_right, granting, asking, asking_for, leave_admission, admission_of, admission_for, names_of, task_of, with_call, waits, take_step}
 use Rattle.master_state.specs.Updates.{with_note}
 use Rattle.master_parts.specs.Answered.{answered_by}
 use Rattle.cell_core.specs.declared.asking.TouchedNames.{TouchedNames}
 use Rattle.cell_core.specs.Names.{call_touched, names_touched}
-use Rattle.cell_core.specs.Cases.{IsBehind, IsNew, IsAdmitted, TakeCase, taken_by}
-use Rattle.cell_core.specs.Cases.TakeCase.{StartRefused, StartRecovering, StartFull, StartQueued, OldBeat, BeatRefused, BeatParked, OldEpoch, NoSession, LeftBefore, Repeated, OlderCall, Outstanding, Recovering, Answered, Granted, Waits}
+use Rattle.cell_core.specs.Cases.{IsBehind, IsNew, IsBeside, IsAdmitted, TakeCase, taken_by}
+use Rattle.cell_core.specs.Cases.TakeCase.{StartRefused, StartRecovering, StartFull, StartQueued, OldBeat, BeatRefused, BeatParked, OldEpoch, NoSession, LeftBefore, Repeated, OlderCall, Outstanding, LeavesBeside, Recovering, Answered, Granted, Waits}
 use Rattle.cell_core.proofs.TakeCases.{taken_case, taken_unspent}
 use Rattle.cell_core.proofs.Told.{touched_is_changed}
-use Rattle.over_core.specs.Kept.{IsKept, AreByBeats, AreIssued, AreOwned, AreTouching, AreOwnCalls, IsOwnCall, IsOwnTask, HaveOneCall, is_of, task_fits, outstanding, unanswered, waiting_fits}
+use Rattle.master_state.specs.CallsWaiting.{is_call}
+use Rattle.over_core.specs.Kept.{IsKept, AreByBeats, AreIssued, AreOwned, AreTouching, AreOwnCalls, IsOwnCall, IsOwnTask, HaveOneCall, is_of, is_other_call, count_of, task_fits, outstanding, unanswered, waiting_fits}
 use Rattle.over_core.proofs.EachSession.{step_each, step_without, issued_each, issued_without}
 use Rattle.over_core.proofs.LocksKept.{locks_stay}
-use Rattle.over_core.proofs.OneCall.{none_counts, one_same, one_recorded, one_started, one_called}
+use Rattle.over_core.proofs.OneCall.{none_counts, none_at_all, one_same, one_recorded, one_started, one_called, one_open, one_beside}
 use Rattle.over_core.proofs.OrderlyChanges.{orderly_more}
 use Rattle.over_core.proofs.OwnCalls.{own_call}
 use Rattle.over_core.proofs.OwnedRights.{owners_asked, owners_ended, owners_granted, issued_granted}
@@ -166,13 +170,34 @@ same_calls (Some number) before = refl
 
 -- ---- a new call
 
+-- the end of a session waits for its turn, touches nothing, and is not answered before
+leave_admits : (s : MasterState) (client number : ℕ) (call : Call) (sequencer : Option (List ℕ)) → is_leave call ≡ true → admission_of s client number call sequencer ≡ leave_admission
+leave_admits s client number calls.Leave sequencer h = refl
+leave_admits s client number (calls.Open opening) sequencer h = cc
+leave_admits s client number (calls.Close bytes) sequencer h = cc
+leave_admits s client number (calls.Read bytes) sequencer h = cc
+leave_admits s client number (calls.Stat bytes) sequencer h = cc
+leave_admits s client number (calls.List bytes) sequencer h = cc
+leave_admits s client number (calls.Set bytes content generation) sequencer h = cc
+leave_admits s client number (calls.SetAcl bytes acls generation) sequencer h = cc
+leave_admits s client number (calls.Delete bytes) sequencer h = cc
+leave_admits s client number (calls.Acquire bytes mode) sequencer h = cc
+leave_admits s client number (calls.TryAcquire bytes mode) sequencer h = cc
+leave_admits s client number (calls.Release bytes) sequencer h = cc
+leave_admits s client number (calls.GetSequencer bytes) sequencer h = cc
+leave_admits s client number (calls.SetSequencer bytes) sequencer h = cc
+leave_admits s client number (calls.CheckSequencer bytes) sequencer h = cc
+
 -- none of the client's calls waits: its last call, if it made one, has its reply
 answered_call : (o : Option (LastCall Reply)) (number : ℕ) → IsBehind o number → unanswered o ≡ 0
 answered_call None number h = refl
 answered_call (Some kept) number h = let is = h.1 in rw is refl
 
-none_outstanding : (s : MasterState) (client number : ℕ) → IsBehind (kept_of s.sessions client) number → HaveOneCall s → outstanding s client ≡ 0
-none_outstanding s client number h one = none_counts (outstanding s client) (unanswered (kept_of s.sessions client)) (one client) (answered_call (kept_of s.sessions client) number h)
+pub none_outstanding : (s : MasterState) (client number : ℕ) → IsBehind (kept_of s.sessions client) number → HaveOneCall s → outstanding s client ≡ 0
+none_outstanding s client number h one =
+    let n : ℕ = unanswered (kept_of s.sessions client) in
+    let none : n ≡ 0 = answered_call (kept_of s.sessions client) number h in
+    none_at_all client s.gate.waiting s.locks (none_counts (count_of is_call s.gate.waiting [] client) n (one.0 client) none) (none_counts (count_of is_other_call s.gate.waiting s.locks client) n (one.1 client) none)
 
 -- ---- a note
 
@@ -393,6 +418,21 @@ module _ (cell : List ℕ) (rows : Rows) where
       (queued_kept before (names_of touched) (tasks.Asked (task_of message)) (unnoted (λ x. x.recovering) (λ x n. refl) s note ∙ serving) admitted.room (unnoted (λ x. nat_le number_limit x.gate.pushed) (λ x n. refl) s note ∙ spare) names own in_range one
       (recorded_kept t client last none_noted noted))
 
+  -- a call by which a client ends its session, whose last call may wait for a lock
+  leaves_kept : (s : MasterState) (message : CallMessage) → IsBeside s message → nat_le number_limit s.gate.pushed ≡ false → is_client_number message.client ≡ true → is_live s.sessions message.client ≡ true → IsKept cell rows s → IsKept cell rows (waits s message None).0
+  leaves_kept s message beside spare in_range live k =
+      let client = message.client in
+      let last : LastCall Reply = record { number = message.number; reply = None } in
+      let before : MasterState = recorded s client last in
+      let admits = leave_admits s client message.number message.call message.sequencer beside.leave in
+      let passes : (admission_for s message).answer ≡ None = ap (λ (a : Admission). a.answer) admits in
+      let names : names_of None ≡ names_of (call_touched s.secret message.call) =
+      ap names_of (sym (ap (λ (a : Admission). a.touched) admits) ∙ touched_is_changed s client message.number message.call message.sequencer passes) in
+      let own : IsOwnCall s.secret client (works.Calls message.call message.sequencer) = own_call s client message.number message.call message.sequencer passes in
+      let one : HaveOneCall (with_call s message None) = one_beside s.gate.waiting s.locks s.sessions client last (s.gate.pushed + 1) [] (task_of message) refl refl live (ap not beside.leave) beside.alone k.one_call in
+      queued_kept before [] (tasks.Asked (task_of message)) beside.serving beside.room spare names own in_range one
+      (stepped_kept s client (keeping last) (λ b. refl) (λ b. refl) (λ b found h. h) (λ b. refl) (one_open s.gate.waiting s.locks s.sessions client last refl live k.one_call) k)
+
   -- a call that is answered at once
   answering_kept : (s : MasterState) (client : ℕ) (note : Option HandleNote) (last : LastCall Reply) → outstanding s client ≡ 0 → IsKept cell rows s → IsKept cell rows (recorded (with_note s note) client last)
   answering_kept s client note last none k = recorded_kept (with_note s note) client last (unnoted (λ x. outstanding x client) (λ x n. refl) s note ∙ none) (note_kept s note k)
@@ -424,6 +464,8 @@ module _ (cell : List ℕ) (rows : Rows) where
   case_kept s request (Repeated message kept heard is same) spare k in_range = k
   case_kept s request (OlderCall message kept heard is less) spare k in_range = k
   case_kept s request (Outstanding message kept heard is more none) spare k in_range = k
+  case_kept s request (LeavesBeside message heard beside) spare k in_range =
+      leaves_kept s message beside spare (client_of request _ heard.is_call in_range) heard.live k
   case_kept s request (Recovering message new recovering) spare k in_range = recorded_kept s message.client _ (none_of_new s request message new k) k
   case_kept s request (Answered message note answer new serving answered) spare k in_range = answering_kept s message.client note _ (none_of_new s request message new k) k
   case_kept s request (Granted message note answer name new serving granted) spare k in_range = granting_kept s message note answer name new.heard.live (none_of_new s request message new k) k

@@ -71,7 +71,10 @@ up_kept cell rows terms now h sessions locks names = record {
   sound_rows = h;
   waiting = refl;
   locks = locks_rebuilt cell rows terms now h locks;
-  one_call = λ client. at_most (sum_by (waits_count client) (values_of (locks_of rows now))) (unanswered (kept_of (sessions_of rows terms.lease now) client)) (nobody_outstanding rows now client);
+  one_call = (
+    λ client. at_most 0 (unanswered (kept_of (sessions_of rows terms.lease now) client)) refl,
+    λ client. at_most (sum_by (waits_count client) (values_of (locks_of rows now))) (unanswered (kept_of (sessions_of rows terms.lease now) client)) (nobody_outstanding rows now client),
+  );
   names_in_order = names;
   sessions_in_order = sessions;
   locks_in_order = locks;

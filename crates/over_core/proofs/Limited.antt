@@ -45,7 +45,7 @@ use Rattle.master_state.specs.Notices.{with_tellings}
 use Rattle.master_state.specs.Updates.{with_note, with_lock_put}
 use Rattle.cell_core.specs.declared.effects.Effect.{Effect}
 use Rattle.cell_core.specs.Cases.{TakeCase, taken_by}
-use Rattle.cell_core.specs.Cases.TakeCase.{StartRefused, StartRecovering, StartFull, StartQueued, OldBeat, BeatRefused, BeatParked, OldEpoch, NoSession, LeftBefore, Repeated, OlderCall, Outstanding, Recovering, Answered, Granted, Waits}
+use Rattle.cell_core.specs.Cases.TakeCase.{StartRefused, StartRecovering, StartFull, StartQueued, OldBeat, BeatRefused, BeatParked, OldEpoch, NoSession, LeftBefore, Repeated, OlderCall, Outstanding, LeavesBeside, Recovering, Answered, Granted, Waits}
 use Rattle.cell_core.specs.Effect.{effect}
 use Rattle.cell_core.specs.Room.{nodes_after, locks_after, IsWithin, KeepsWithin}
 use Rattle.cell_core.specs.Step.{take_step, queued, names_of, with_call, asking_for}
@@ -282,6 +282,7 @@ taken_same s request (LeftBefore message kept is same_epoch ended found number) 
 taken_same s request (Repeated message kept heard is same) = nothing_else s
 taken_same s request (OlderCall message kept heard is less) = nothing_else s
 taken_same s request (Outstanding message kept heard is more none) = nothing_else s
+taken_same s request (LeavesBeside message heard beside) = (refl, refl, refl)
 taken_same s request (Recovering message new recovering) = (refl, refl, refl)
 taken_same s request (Answered message note answer new serving answered) = noted_same s note
 taken_same s request (Granted message note answer name new serving granted) = noted_same s note
@@ -333,13 +334,13 @@ module _ (cell : List ℕ) (rows : Rows) (s : MasterState) (k : IsKept cell rows
       (not_more s.limits.max_bytes (content_bytes s.nodes) (content_bytes (remove_entry (is_at (slice_cmp nat_cmp idle.name)) s.nodes)) (gone_bytes s.nodes idle.name))
       (λ client. not_more s.limits.max_locks (claim_count client s.locks) (claim_count client (remove_entry (is_at (nat_cmp idle.instance)) s.locks)) (counted_gone client s.locks idle.instance))
   case_within (OfEnded front back asked call sequencer turn work gone) = same_stays s _ (refl, refl, refl)
-  case_within (Ended front back asked call sequencer note answer turn work live made) = noted_stays _ note (same_stays s _ (refl, refl, refl))
-  case_within (Applied front back asked call sequencer note change answer turn work live made) =
+  case_within (Ended front back asked call sequencer note answer turn work stays live made) = noted_stays _ note (same_stays s _ (refl, refl, refl))
+  case_within (Applied front back asked call sequencer note change answer turn work stays live made) =
       noted_stays _ note (by_effect s _ _ (made_within asked.client asked.number call sequencer _ made) refl refl refl)
-  case_within (Deleted front back asked call sequencer change instance waiters answer turn work live made) = by_effect s _ _ (made_within asked.client asked.number call sequencer _ made) refl refl refl
-  case_within (Locked front back asked call sequencer put claim answer turn work live made) = by_effect s _ _ (made_within asked.client asked.number call sequencer _ made) refl refl refl
-  case_within (Awaited front back asked call sequencer put turn work live made) = by_effect s _ _ (made_within asked.client asked.number call sequencer _ made) refl refl refl
-  case_within (Left front back asked call sequencer note leave answer turn work live made) =
+  case_within (Deleted front back asked call sequencer change instance waiters answer turn work stays live made) = by_effect s _ _ (made_within asked.client asked.number call sequencer _ made) refl refl refl
+  case_within (Locked front back asked call sequencer put claim answer turn work stays live made) = by_effect s _ _ (made_within asked.client asked.number call sequencer _ made) refl refl refl
+  case_within (Awaited front back asked call sequencer put turn work stays live made) = by_effect s _ _ (made_within asked.client asked.number call sequencer _ made) refl refl refl
+  case_within (Left front back asked call sequencer note leave answer turn work stays live made) =
       let t = noted_stays _ note (by_effect s _ _ (made_within asked.client asked.number call sequencer _ made) refl refl refl) in
       record { limits = t.limits; nodes = t.nodes; bytes = t.bytes; locks = t.locks }
 

@@ -2,7 +2,7 @@
 use Rattle.std.proofs.Common.{◌≡◌, ◌≢◌, ℕ, ◌+◌, ◌≤◌, List, [], ◌∷◌, ◌++◌, Bool, true, false, cond, Option, Some, None, refl, sym, ap, subst, ◌∙◌, arith}
 use Rattle.std.specs.Prelude.{◌&&◌, ◌||◌, ◌==◌, not, nat_le, is_none, filter, find}
 use Rattle.std.specs.Option.{option_map, option_map_or}
-use Rattle.std.specs.List.{AllByRecursion, list_any, sum_by}
+use Rattle.std.specs.List.{AllByRecursion, list_all, list_any, sum_by}
 use Rattle.std.specs.List.Sorted.{IsStrictlySortedBy}
 use Rattle.std.specs.Map.{keys_of, lookup, values_of, set_value}
 use Rattle.std.specs.BTreeMap.{is_at, insert_entry}
@@ -11,6 +11,8 @@ use Rattle.std.specs.Cmp.{nat_cmp_total}
 use Rattle.std.specs.Cmp.Lexicographic.{slice_cmp}
 use Rattle.std.proofs.lemmas.Bool.{and_parts, not-true}
 use Rattle.std.proofs.lemmas.Bool.Decides.{nat_tests}
+use Rattle.std.proofs.lemmas.List.Sums.{sum_by-cons}
+use Rattle.collections.proofs.Keys.{number_same}
 use Rattle.std.proofs.lemmas.Map.Lookups.{exact_unsigned}
 use Rattle.node_core.specs.Limits.{lock_delay_limit}
 use Rattle.node_core.specs.Nodes.{Nodes}
@@ -47,7 +49,8 @@ use Rattle.master_state.specs.State.{MasterState}
 use Rattle.master_parts.specs.StoredSessions.{row_of, session_rows}
 use Rattle.master_state.specs.Lookups.{session_of}
 use Rattle.master_state.specs.Updates.{with_locks, lock_changes}
-use Rattle.over_core.specs.Kept.{IsKept, AreLocksKept, IsLockKept, HaveOneCall, is_idle, is_there, claim_fits, waiter_fits, call_count, waits_count, outstanding, unanswered, is_unanswered}
+use Rattle.master_state.specs.CallsWaiting.{is_call}
+use Rattle.over_core.specs.Kept.{IsKept, AreLocksKept, IsLockKept, HaveOneCall, is_idle, is_there, claim_fits, waiter_fits, claim_count, is_other_call, work_count, waits_count, count_of, count_in, outstanding, unanswered, is_unanswered, AreOne}
 use Rattle.master_state.specs.Replies.{puts_of, turn_replies}
 use Rattle.master_state.specs.Lapses.{lapses_of, lapses_puts, lapses_replies}
 use Rattle.over_core.specs.SweepCase.{told, relocking, parted, without_session, parting_edits}
@@ -59,7 +62,7 @@ use Rattle.over_core.proofs.LocksKept.{rows_behind, puts_sound, puts_sorted, put
 use Rattle.over_core.proofs.LocksLapsed.{told_and_waiting, sorted_distinct, unconcerned, locks_among, puts_free, IsLapsing, lapsed_instances, lapsed_fit, lapsed_put, lapsed_waits, waits_in, other_kept}
 use Rattle.master_parts.proofs.FirstEntries.{all_of_found}
 use Rattle.over_core.proofs.NamedLocks.{all_kept, own_locks, named_put, puts_are, named_is_put, not_idle}
-use Rattle.over_core.proofs.OneCall.{AreOne, at_most_one, count_in, sum_put, one_put, one_same}
+use Rattle.over_core.proofs.OneCall.{at_most_one, one_if, none_in_gate, sum_put, one_put, one_same}
 use Rattle.over_core.proofs.RepliesKept.{told_of, told_of_all, turn_replies_are_to, lapses_replies_are_to, told_kept, AreTo, all_append}
 use Rattle.over_core.proofs.SessionReads.{lives_in, keeps_in, reads_step}
 use Rattle.lock_core.specs.declared.partings.Parting.{Parting}
@@ -118,17 +121,25 @@ none_then gate new old sum more e h k l = omega (arith, h, k, l)
 -- of a client that doesn't wait none waits behind it
 pub none_put : (waiting : List (Waiting Task)) (locks : LockTable) (instance : ℕ) (lock : LockState) (q : ℕ) → IsStrictlySortedBy nat_cmp (keys_of locks) → waits_count q lock ≤ waits_count q (lock_at locks instance) → count_in waiting locks q ≡ 0 → count_in waiting (with_lock locks instance lock) q ≡ 0
 none_put waiting locks instance lock q sorted less none =
-    none_then (sum_by (call_count q) waiting) (sum_by (waits_count q) (values_of (with_lock locks instance lock))) (waits_count q (lock_at locks instance)) (sum_by (waits_count q) (values_of locks)) (waits_count q lock) 0
+    none_then (sum_by (work_count is_call q) waiting) (sum_by (waits_count q) (values_of (with_lock locks instance lock))) (waits_count q (lock_at locks instance)) (sum_by (waits_count q) (values_of locks)) (waits_count q lock) 0
     (sum_put q locks instance lock sorted) less none
+
+-- where no call of a client waits in the gate
+pub of_quiet : (q : ℕ) (waiting : List (Waiting Task)) (locks : LockTable) → sum_by (work_count is_call q) waiting ≡ 0 → count_of is_other_call waiting locks q ≡ 0 → count_in waiting locks q ≡ 0
+of_quiet q waiting locks quiet none = rest_none (sum_by (work_count is_call q) waiting) (sum_by (work_count is_other_call q) waiting) (sum_by (waits_count q) (values_of locks)) quiet none
+  where
+    rest_none : (calls others waits : ℕ) → calls ≡ 0 → others + waits ≡ 0 → calls + waits ≡ 0
+    rest_none calls others waits h k = omega (arith, h, k)
 
 told_then : (gate new old sum more told e : ℕ) → new + old ≡ sum + more → told + more ≤ old → gate + sum ≤ e → e ≤ 1 → 1 ≤ told → gate + new ≡ 0
 told_then gate new old sum more told e h k l m n = omega (arith, h, k, l, m, n)
 
--- who is told that it got the lock, or can't get it, waits no longer
-pub told_put : (waiting : List (Waiting Task)) (locks : LockTable) (sessions : SessionTable Reply) (instance : ℕ) (turn : Turn) → IsStrictlySortedBy nat_cmp (keys_of locks) → ((q : ℕ) → told_of q turn + waits_count q turn.lock ≤ waits_count q (lock_at locks instance)) → AreOne waiting locks sessions → (q : ℕ) → 1 ≤ told_of q turn → count_in waiting (with_lock locks instance turn.lock) q ≡ 0
-told_put waiting locks sessions instance turn sorted waited one q some =
-    told_then (sum_by (call_count q) waiting) (sum_by (waits_count q) (values_of (with_lock locks instance turn.lock))) (waits_count q (lock_at locks instance)) (sum_by (waits_count q) (values_of locks)) (waits_count q turn.lock) (told_of q turn) (unanswered (kept_of sessions q))
-    (sum_put q locks instance turn.lock sorted) (waited q) (one q) (at_most_one (is_unanswered (kept_of sessions q))) some
+-- who is told that it got the lock, or can't get it, and of which no call waits in the gate, waits no longer
+pub told_put : (waiting : List (Waiting Task)) (locks : LockTable) (sessions : SessionTable Reply) (instance : ℕ) (turn : Turn) → IsStrictlySortedBy nat_cmp (keys_of locks) → ((q : ℕ) → told_of q turn + waits_count q turn.lock ≤ waits_count q (lock_at locks instance)) → AreOne waiting locks sessions → (q : ℕ) → 1 ≤ told_of q turn → sum_by (work_count is_call q) waiting ≡ 0 → count_in waiting (with_lock locks instance turn.lock) q ≡ 0
+told_put waiting locks sessions instance turn sorted waited one q some quiet =
+    of_quiet q waiting (with_lock locks instance turn.lock) quiet
+    (told_then (sum_by (work_count is_other_call q) waiting) (sum_by (waits_count q) (values_of (with_lock locks instance turn.lock))) (waits_count q (lock_at locks instance)) (sum_by (waits_count q) (values_of locks)) (waits_count q turn.lock) (told_of q turn) (unanswered (kept_of sessions q))
+    (sum_put q locks instance turn.lock sorted) (waited q) (one.1 q) (at_most_one (is_unanswered (kept_of sessions q))) some)
 
 second_less : (a b c : ℕ) → a + b ≤ c → b ≤ c
 second_less a b c h = omega (arith, h)
@@ -180,12 +191,12 @@ module _ (cell : List ℕ) (rows : Rows) (s : MasterState) (k : IsKept cell rows
       let new : LockTable = with_lock s.locks instance turn.lock in
       let same : with_lock s.locks put.instance put.lock ≡ new = ap (λ n. with_lock s.locks n put.lock) at ∙ ap (λ l. with_lock s.locks instance l) lock in
       let One : LockTable → Type 0 = λ ls. AreOne s.gate.waiting ls s.sessions in
-      let Told : LockTable → Type 0 = λ ls. (q : ℕ) → 1 ≤ told_of q turn → count_in s.gate.waiting ls q ≡ 0 in
+      let Told : LockTable → Type 0 = λ ls. (q : ℕ) → 1 ≤ told_of q turn → sum_by (work_count is_call q) s.gate.waiting ≡ 0 → count_in s.gate.waiting ls q ≡ 0 in
       let one : One (with_lock s.locks put.instance put.lock) = subst One (sym same) (turn_one s.gate.waiting s.locks s.sessions instance turn k.locks.in_order reopened_waits k.one_call) in
       let none : Told (with_lock s.locks put.instance put.lock) = subst Told (sym same) (told_put s.gate.waiting s.locks s.sessions instance turn k.locks.in_order reopened_waits k.one_call) in
       subst P (sym are)
       (told_kept cell (changed_rows rows (relocking s (put ∷ []))) (turn_replies s turn) (with_locks s (put ∷ []))
-      (turn_replies_are_to (λ q. outstanding (with_locks s (put ∷ [])) q ≡ 0) s turn none) (one_relocked cell rows s put k is one))
+      (turn_replies_are_to (λ q. outstanding (with_locks s (put ∷ [])) q ≡ 0) s turn (λ q some quiet. none q some (none_in_gate q s.gate.waiting quiet))) (one_relocked cell rows s put k is one))
 
   pub reopened_kept : IsKept cell (changed_rows rows (relocking s (puts_of s instance turn.lock))) (told (with_locks s (puts_of s instance turn.lock)) (turn_replies s turn))
   reopened_kept =
@@ -205,6 +216,40 @@ not_equal a b h same = absurd (grind (arith, nat_tests))
 dead_then : (o : Option (Session Reply)) → lives_in (option_map of_session.ended o) ≡ false
 dead_then None = refl
 dead_then (Some session) = refl
+
+both_none : (a b : ℕ) → a ≡ 0 → b ≡ 0 → a + b ≡ 0
+both_none a b h k = omega (arith, h, k)
+
+first_true : (a b c : Bool) → (a && b && c) ≡ true → a ≡ true
+first_true true b c h = refl
+first_true false b c h = cc
+
+-- who waits for a lock has a live session
+dead_claims : (sessions : SessionTable Reply) (client : ℕ) → is_live sessions client ≡ false → (claims : List Claim) → list_all (waiter_fits sessions) claims ≡ true → sum_by (claim_count client) claims ≡ 0
+dead_claims sessions client dead [] h = refl
+dead_claims sessions client dead (claim ∷ claims) h =
+    let t = and_parts (waiter_fits sessions claim) (list_all (waiter_fits sessions) claims) h in
+    let fits : claim_fits sessions claim.owner claim.hold ≡ true = (and_parts (is_client_number claim.owner.client) (claim_fits sessions claim.owner claim.hold) t.0).1 in
+    let lives : is_live sessions claim.owner.client ≡ true = first_true (is_live sessions claim.owner.client) (is_number claim.owner.handle) (nat_le claim.hold.delay lock_delay_limit) fits in
+    sum_by-cons (claim_count client) claim claims ∙ both_none (claim_count client claim) (sum_by (claim_count client) claims) (apart claim.owner.client lives) (dead_claims sessions client dead claims t.1)
+  where
+    apart : (q : ℕ) → is_live sessions q ≡ true → one_if (q == client) ≡ 0
+    apart q lives = (elim (q == client) as (λ b. (q == client) ≡ b → one_if b ≡ 0) [
+      | true ↦ (λ e.
+          let same : q ≡ client = number_same q client e in
+          let both : true ≡ false = sym lives ∙ ap (is_live sessions) same ∙ dead in
+          cc)
+      | false ↦ (λ e. refl)
+    ]) refl
+
+dead_waits : (sessions : SessionTable Reply) (client : ℕ) → is_live sessions client ≡ false → (locks : LockTable) → AllByRecursion (λ (e : ℕ × LockState). lock_at locks e.0 ≡ e.1) locks → ((n : ℕ) → list_all (waiter_fits sessions) (lock_at locks n).waiters ≡ true) → sum_by (waits_count client) (values_of locks) ≡ 0
+dead_waits sessions client dead locks own fits = by_entries locks own
+  where
+    by_entries : (es : LockTable) → AllByRecursion (λ (e : ℕ × LockState). lock_at locks e.0 ≡ e.1) es → sum_by (waits_count client) (values_of es) ≡ 0
+    by_entries [] h = refl
+    by_entries (e ∷ es) h =
+        let here : list_all (waiter_fits sessions) e.1.waiters ≡ true = ap (λ (l : LockState). list_all (waiter_fits sessions) l.waiters) (sym h.0) ∙ fits e.0 in
+        sum_by-cons (waits_count client) e.1 (values_of es) ∙ both_none (waits_count client e.1) (sum_by (waits_count client) (values_of es)) (dead_claims sessions client dead e.1.waiters here) (by_entries es h.1)
 
 module _ (parting : Parting) (cell : List ℕ) (rows : Rows) (s : MasterState) (k : IsKept cell rows s) (client : ℕ) (session : Session Reply) (found : session_of s client ≡ Some session) where
   abbrev put : stored.SessionRow
@@ -321,14 +366,15 @@ module _ (parting : Parting) (cell : List ℕ) (rows : Rows) (s : MasterState) (
   one_then : AreOne s.gate.waiting (with_locks s puts).locks new_sessions
   one_then =
       one_same s.gate.waiting (with_locks s puts).locks s.sessions new_sessions (λ q. reads_step keeps_in s.sessions client of_session.ended (λ before. refl) q)
-      (λ q. still_one (sum_by (call_count q) s.gate.waiting) (waits_in parting cell rows s client k q (with_locks s puts).locks) (told_of_all q (lapses_of parting s client)) (waits_in parting cell rows s client k q s.locks) (unanswered (kept_of s.sessions q)) (waits_less q) (k.one_call q))
+      (k.one_call.0, λ q. still_one (sum_by (work_count is_other_call q) s.gate.waiting) (waits_in parting cell rows s client k q (with_locks s puts).locks) (told_of_all q (lapses_of parting s client)) (waits_in parting cell rows s client k q s.locks) (unanswered (kept_of s.sessions q)) (waits_less q) (k.one_call.1 q))
 
   none_left : (gate new told old e : ℕ) → new + told ≤ old → gate + old ≤ e → e ≤ 1 → 1 ≤ told → gate + new ≡ 0
   none_left gate new told old e h l m n = omega (arith, h, l, m, n)
 
-  told_then_none : (q : ℕ) → 1 ≤ told_of_all q (lapses_of parting s client) → count_in s.gate.waiting (with_locks s puts).locks q ≡ 0
-  told_then_none q some =
-      none_left (sum_by (call_count q) s.gate.waiting) (waits_in parting cell rows s client k q (with_locks s puts).locks) (told_of_all q (lapses_of parting s client)) (waits_in parting cell rows s client k q s.locks) (unanswered (kept_of s.sessions q)) (waits_less q) (k.one_call q) (at_most_one (is_unanswered (kept_of s.sessions q))) some
+  pub told_then_none : (q : ℕ) → 1 ≤ told_of_all q (lapses_of parting s client) → sum_by (work_count is_call q) s.gate.waiting ≡ 0 → count_in s.gate.waiting (with_locks s puts).locks q ≡ 0
+  told_then_none q some quiet =
+      of_quiet q s.gate.waiting (with_locks s puts).locks quiet
+      (none_left (sum_by (work_count is_other_call q) s.gate.waiting) (waits_in parting cell rows s client k q (with_locks s puts).locks) (told_of_all q (lapses_of parting s client)) (waits_in parting cell rows s client k q s.locks) (unanswered (kept_of s.sessions q)) (waits_less q) (k.one_call.1 q) (at_most_one (is_unanswered (kept_of s.sessions q))) some)
 
   names_then : IsStrictlySortedBy (slice_cmp nat_cmp) (keys_of ended_rows.nodes)
   names_then = names_stay cell rows s puts k are_puts apart
@@ -358,20 +404,22 @@ module _ (parting : Parting) (cell : List ℕ) (rows : Rows) (s : MasterState) (
     own = k.own;
   }
 
-  less_none : (gate new told old : ℕ) → new + told ≤ old → gate + old ≡ 0 → gate + new ≡ 0
-  less_none gate new told old h l = omega (arith, h, l)
+  -- its client waits for no lock then, and so for nothing, if none of its calls waits in the gate
+  pub waits_for_none : sum_by (work_count is_call client) s.gate.waiting ≡ 0 → outstanding (with_locks (parted parting s client) puts) client ≡ 0
+  waits_for_none quiet =
+      both_none (sum_by (work_count is_call client) s.gate.waiting) (sum_by (waits_count client) (values_of (with_locks s puts).locks)) quiet
+      (dead_waits new_sessions client ended_is_dead (with_locks s puts).locks (own_locks (with_locks s puts).locks locks_kept.in_order) (λ n. (locks_kept.each n).waiters))
 
-  -- its client waits for nothing then, if it waited for nothing before
-  pub waits_for_none : count_in s.gate.waiting s.locks client ≡ 0 → outstanding (with_locks (parted parting s client) puts) client ≡ 0
-  waits_for_none none =
-      less_none (sum_by (call_count client) s.gate.waiting) (waits_in parting cell rows s client k client (with_locks s puts).locks) (told_of_all client (lapses_of parting s client)) (waits_in parting cell rows s client k client s.locks) (waits_less client) none
+  pub parted_kept : (replies : List Reply) → AreTo (λ q. outstanding (with_locks (parted parting s client) puts) q ≡ 0) replies → IsKept cell (changed_rows rows (parting_edits parting s client session.principal)) (told (with_locks (parted parting s client) puts) replies)
+  parted_kept replies none =
+      let P : Rows → Type 0 = λ r. IsKept cell r (told (with_locks (parted parting s client) puts) replies) in
+      subst P (sym ended_is)
+      (told_kept cell ended_rows replies (with_locks (parted parting s client) puts) none
+      (ended_kept cell ended_rows (record (with_locks s puts) { sessions = new_sessions }) client (ending_by parting) ended_kept_beside))
 
   pub without_session_kept : (own : List Reply) → AreTo (λ q. outstanding (with_locks (parted parting s client) puts) q ≡ 0) own → IsKept cell (changed_rows rows (parting_edits parting s client session.principal)) (without_session parting s client own)
   without_session_kept own waits =
-      let P : Rows → Type 0 = λ r. IsKept cell r (without_session parting s client own) in
       let Q : ℕ → Type 0 = λ q. outstanding (with_locks (parted parting s client) puts) q ≡ 0 in
       let others : List Reply = lapses_replies s (lapses_of parting s client) in
-      subst P (sym ended_is)
-      (told_kept cell ended_rows (own ++ others) (with_locks (parted parting s client) puts)
-      (all_append (λ (reply : Reply). Q reply.client) own others waits (lapses_replies_are_to Q s (lapses_of parting s client) told_then_none))
-      (ended_kept cell ended_rows (record (with_locks s puts) { sessions = new_sessions }) client (ending_by parting) ended_kept_beside))
+      parted_kept (own ++ others)
+      (all_append (λ (reply : Reply). Q reply.client) own others waits (lapses_replies_are_to Q s (lapses_of parting s client) (λ q some quiet. told_then_none q some (none_in_gate q s.gate.waiting quiet))))

@@ -155,12 +155,12 @@ sweep_told s (Reopens instance due) h =
     let turn = reopened (lock_at s.locks instance) in
     locks_told (map told_of s.rights) (lines.Reopened instance ∷ locked_lines instance turn) (tt, locked_of_no_right instance turn)
 sweep_told s (Tidies idle due) h = ap (λ told. Some told) (sym (asking_told (queued s (with_parent idle.name) (tasks.Tidies idle)) (with_parent idle.name)))
-sweep_told s (Ended front back asked call sequencer None answer turn work live made) h = refl
-sweep_told s (Ended front back asked call sequencer (Some note) answer turn work live made) h = refl
-sweep_told s (Applied front back asked call sequencer None change answer turn work live made) h = refl
-sweep_told s (Applied front back asked call sequencer (Some note) change answer turn work live made) h = refl
-sweep_told s (Left front back asked call sequencer None leave answer turn work live made) h = locks_told (map told_of s.rights) (leave_lines asked.client leave) (left_of_no_right asked.client leave)
-sweep_told s (Left front back asked call sequencer (Some note) leave answer turn work live made) h = locks_told (map told_of s.rights) (leave_lines asked.client leave) (left_of_no_right asked.client leave)
+sweep_told s (Ended front back asked call sequencer None answer turn work stays live made) h = refl
+sweep_told s (Ended front back asked call sequencer (Some note) answer turn work stays live made) h = refl
+sweep_told s (Applied front back asked call sequencer None change answer turn work stays live made) h = refl
+sweep_told s (Applied front back asked call sequencer (Some note) change answer turn work stays live made) h = refl
+sweep_told s (Left front back asked call sequencer None leave answer turn work stays live made) h = locks_told (map told_of s.rights) (leave_lines asked.client leave) (left_of_no_right asked.client leave)
+sweep_told s (Left front back asked call sequencer (Some note) leave answer turn work stays live made) h = locks_told (map told_of s.rights) (leave_lines asked.client leave) (left_of_no_right asked.client leave)
 sweep_told s _ h = refl
 
 -- ---- no line of a master that is up tells of another epoch
@@ -208,10 +208,10 @@ sweep_of_epoch s (Reopens instance due) =
     let turn = reopened (lock_at s.locks instance) in (tt, epoch_lines (locked_lines instance turn) (locked_of_no_right instance turn))
 sweep_of_epoch s (Started front back asked principal received turn work none) = (tt, tt)
 sweep_of_epoch s (Tidied front back idle turn still) = (tt, tt)
-sweep_of_epoch s (Applied front back asked call sequencer note change answer turn work live made) = (tt, tt)
-sweep_of_epoch s (Deleted front back asked call sequencer change instance waiters answer turn work live made) = (tt, tt)
-sweep_of_epoch s (Locked front back asked call sequencer put claim answer turn work live made) = (tt, tt)
-sweep_of_epoch s (Left front back asked call sequencer note leave answer turn work live made) = epoch_lines (leave_lines asked.client leave) (left_of_no_right asked.client leave)
+sweep_of_epoch s (Applied front back asked call sequencer note change answer turn work stays live made) = (tt, tt)
+sweep_of_epoch s (Deleted front back asked call sequencer change instance waiters answer turn work stays live made) = (tt, tt)
+sweep_of_epoch s (Locked front back asked call sequencer put claim answer turn work stays live made) = (tt, tt)
+sweep_of_epoch s (Left front back asked call sequencer note leave answer turn work stays live made) = epoch_lines (leave_lines asked.client leave) (left_of_no_right asked.client leave)
 sweep_of_epoch s _ = tt
 
 -- ---- the steps

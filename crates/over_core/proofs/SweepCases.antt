@@ -54,18 +54,16 @@ use Rattle.over_core.specs.declared.actions.Action.TheVariants as actions
 use Rattle.over_core.specs.declared.plans.Plan.{Plan}
 use Rattle.over_core.specs.declared.swept.Swept.{Swept}
 use Rattle.cell_core.specs.Outcomes.{left_put}
-use Rattle.master_state.specs.Replies.{puts_of, replies_to, reply_to, turn_replies}
-use Rattle.master_state.specs.Lapses.{lapses_of, lapses_puts, lapses_replies}
+use Rattle.master_state.specs.Replies.{puts_of}
+use Rattle.master_state.specs.Lapses.{lapses_of, lapses_puts}
 use Rattle.over_core.specs.SweepCase.{IsNextApplied, IsDueToEnd, IsDue, SweepCase, swept_by, relocking, swept_edits, rest, parting_edits, left_reply}
 use Rattle.over_core.specs.SweepCase.SweepCase.{Quiet, Recovers, Expires, Departed, AnswersBeat, TurnedAway, StartedAgain, Started, Reopens, Tidies, Spared, Tidied, OfEnded, Ended, Applied, Deleted, Locked, Awaited, Left}
 use Rattle.cell_core.proofs.EffectShapes.{Shape, effect_by, shape_of}
 use Rattle.cell_core.proofs.EffectShapes.Shape.{Ends, Applies, Deletes, Locks, Awaits, Leaves}
 use Rattle.lock_core.specs.declared.partings.Parting.TheVariants as partings
-use Rattle.lock_core.specs.declared.turns.Turn.{Turn}
 use Rattle.lock_core.specs.declared.turns.Lapse.{Lapse}
 use Rattle.tags_cell.specs.Messages.{is_leave}
 use Rattle.rows_cell.specs.declared.tables.Edit.TheVariants.{PutSession}
-use Rattle.tags_cell.specs.declared.messages.outs.CallResult.TheVariants as results
 
 -- one of the cases is what is done, and committed
 abbrev pub IsSwept : (s : MasterState) → MasterState × Swept → List Edit → Type 0
@@ -92,25 +90,10 @@ itself n = grind (arith, nat_tests)
 
 -- ---- what stands without the change that has its turn
 
--- the locks of a client, and who is answered of them, are the same
+-- the locks of a client are the same
 pub rest_puts : (s : MasterState) (front back : List (Waiting Task)) (lapses : List Lapse) → lapses_puts (rest s front back) lapses ≡ lapses_puts s lapses
 rest_puts s front back [] = refl
 rest_puts s front back (lapse ∷ lapses) = ap (λ (puts : List LockPut). puts_of s lapse.instance lapse.turn.lock ++ puts) (rest_puts s front back lapses)
-
-rest_to : (s : MasterState) (front back : List (Waiting Task)) (answer : CallResult) (claims : List Claim) → replies_to (rest s front back) answer claims ≡ replies_to s answer claims
-rest_to s front back answer [] = refl
-rest_to s front back answer (claim ∷ claims) = ap (λ (replies : List Reply). reply_to s answer claim.owner.client ++ replies) (rest_to s front back answer claims)
-
-rest_turn : (s : MasterState) (front back : List (Waiting Task)) (turn : Turn) → turn_replies (rest s front back) turn ≡ turn_replies s turn
-rest_turn s front back turn =
-    ap (λ (replies : List Reply). replies ++ replies_to (rest s front back) (results.Refused faults.Exhausted) turn.exhausted) (rest_to s front back results.Done turn.granted)
-    ∙ ap (λ (replies : List Reply). replies_to s results.Done turn.granted ++ replies) (rest_to s front back (results.Refused faults.Exhausted) turn.exhausted)
-
-pub rest_replies : (s : MasterState) (front back : List (Waiting Task)) (lapses : List Lapse) → lapses_replies (rest s front back) lapses ≡ lapses_replies s lapses
-rest_replies s front back [] = refl
-rest_replies s front back (lapse ∷ lapses) =
-    ap (λ (replies : List Reply). replies ++ lapses_replies (rest s front back) lapses) (rest_turn s front back lapse.turn)
-    ∙ ap (λ (replies : List Reply). turn_replies s lapse.turn ++ replies) (rest_replies s front back lapses)
 
 pub rest_edits : (s : MasterState) (front back : List (Waiting Task)) (client : ℕ) (principal : List ℕ) → parting_edits partings.Leave (rest s front back) client principal ≡ parting_edits partings.Leave s client principal
 rest_edits s front back client principal =
@@ -210,32 +193,32 @@ module _ (s : MasterState) (front : List (Waiting Task)) (w : Waiting Task) (bac
   -- what the plan for a call of this shape does
   abbrev IsDoneBy : Call → Option (List ℕ) → Shape → Type 0
   IsDoneBy call sequencer shape =
-      asked.work ≡ works.Calls call sequencer → is_live s asked.client ≡ true → effect (name_space s) (caller s asked.client) s.clock asked.number call sequencer ≡ effect_by shape
+      asked.work ≡ works.Calls call sequencer → is_leave call ≡ false → is_live s asked.client ≡ true → effect (name_space s) (caller s asked.client) s.clock asked.number call sequencer ≡ effect_by shape
       → IsPlan s w.number (plan_effect s asked.client asked.number (effect_by shape))
 
   ended_case : (call : Call) (sequencer : Option (List ℕ)) (note : Option HandleNote) (answer : CallResult) → IsDoneBy call sequencer (Ends note answer)
-  ended_case call sequencer None answer work live made = (Ended front back asked call sequencer None answer turn work live made, rw behind refl, refl)
-  ended_case call sequencer (Some note) answer work live made = (Ended front back asked call sequencer (Some note) answer turn work live made, rw behind refl, refl)
+  ended_case call sequencer None answer work stays live made = (Ended front back asked call sequencer None answer turn work stays live made, rw behind refl, refl)
+  ended_case call sequencer (Some note) answer work stays live made = (Ended front back asked call sequencer (Some note) answer turn work stays live made, rw behind refl, refl)
 
   applied_case : (call : Call) (sequencer : Option (List ℕ)) (note : Option HandleNote) (change : Mod) (next : ℕ) (answer : CallResult) → IsDoneBy call sequencer (Applies note (record { change = change; next_instance = next }) answer)
-  applied_case call sequencer None (Put name view) next answer work live made = (Applied front back asked call sequencer None (record { change = Put name view; next_instance = next }) answer turn work live made, rw behind refl, refl)
-  applied_case call sequencer None (Gone name) next answer work live made = (Applied front back asked call sequencer None (record { change = Gone name; next_instance = next }) answer turn work live made, rw behind refl, refl)
-  applied_case call sequencer (Some note) (Put name view) next answer work live made = (Applied front back asked call sequencer (Some note) (record { change = Put name view; next_instance = next }) answer turn work live made, rw behind refl, refl)
-  applied_case call sequencer (Some note) (Gone name) next answer work live made = (Applied front back asked call sequencer (Some note) (record { change = Gone name; next_instance = next }) answer turn work live made, rw behind refl, refl)
+  applied_case call sequencer None (Put name view) next answer work stays live made = (Applied front back asked call sequencer None (record { change = Put name view; next_instance = next }) answer turn work stays live made, rw behind refl, refl)
+  applied_case call sequencer None (Gone name) next answer work stays live made = (Applied front back asked call sequencer None (record { change = Gone name; next_instance = next }) answer turn work stays live made, rw behind refl, refl)
+  applied_case call sequencer (Some note) (Put name view) next answer work stays live made = (Applied front back asked call sequencer (Some note) (record { change = Put name view; next_instance = next }) answer turn work stays live made, rw behind refl, refl)
+  applied_case call sequencer (Some note) (Gone name) next answer work stays live made = (Applied front back asked call sequencer (Some note) (record { change = Gone name; next_instance = next }) answer turn work stays live made, rw behind refl, refl)
 
   deleted_case : (call : Call) (sequencer : Option (List ℕ)) (change : Mod) (next instance : ℕ) (waiters : List Claim) (answer : CallResult) → IsDoneBy call sequencer (Deletes (record { change = change; next_instance = next }) instance waiters answer)
-  deleted_case call sequencer (Put name view) next instance waiters answer work live made = (Deleted front back asked call sequencer (record { change = Put name view; next_instance = next }) instance waiters answer turn work live made, rw behind refl, refl)
-  deleted_case call sequencer (Gone name) next instance waiters answer work live made = (Deleted front back asked call sequencer (record { change = Gone name; next_instance = next }) instance waiters answer turn work live made, rw behind refl, refl)
+  deleted_case call sequencer (Put name view) next instance waiters answer work stays live made = (Deleted front back asked call sequencer (record { change = Put name view; next_instance = next }) instance waiters answer turn work stays live made, rw behind refl, refl)
+  deleted_case call sequencer (Gone name) next instance waiters answer work stays live made = (Deleted front back asked call sequencer (record { change = Gone name; next_instance = next }) instance waiters answer turn work stays live made, rw behind refl, refl)
 
   locked_case : (call : Call) (sequencer : Option (List ℕ)) (put : LockPut) (claim : Claim) (answer : CallResult) → IsDoneBy call sequencer (Locks put claim answer)
-  locked_case call sequencer put claim answer work live made = (Locked front back asked call sequencer put claim answer turn work live made, rw behind refl, bare (relocking s (put ∷ [])))
+  locked_case call sequencer put claim answer work stays live made = (Locked front back asked call sequencer put claim answer turn work stays live made, rw behind refl, bare (relocking s (put ∷ [])))
 
   awaited_case : (call : Call) (sequencer : Option (List ℕ)) (put : LockPut) → IsDoneBy call sequencer (Awaits put)
-  awaited_case call sequencer put work live made = (Awaited front back asked call sequencer put turn work live made, rw behind refl, bare (relocking s (put ∷ [])))
+  awaited_case call sequencer put work stays live made = (Awaited front back asked call sequencer put turn work stays live made, rw behind refl, bare (relocking s (put ∷ [])))
 
   left_case : (call : Call) (sequencer : Option (List ℕ)) (note : Option HandleNote) (leave : Leave) (answer : CallResult) → IsDoneBy call sequencer (Leaves note leave answer)
-  left_case call sequencer None leave answer work live made = (Left front back asked call sequencer None leave answer turn work live made, rw behind refl, bare (relocking s (left_put leave ∷ [])))
-  left_case call sequencer (Some note) leave answer work live made = (Left front back asked call sequencer (Some note) leave answer turn work live made, rw behind refl, bare (relocking s (left_put leave ∷ [])))
+  left_case call sequencer None leave answer work stays live made = (Left front back asked call sequencer None leave answer turn work stays live made, rw behind refl, bare (relocking s (left_put leave ∷ [])))
+  left_case call sequencer (Some note) leave answer work stays live made = (Left front back asked call sequencer (Some note) leave answer turn work stays live made, rw behind refl, bare (relocking s (left_put leave ∷ [])))
 
   shape_case : (call : Call) (sequencer : Option (List ℕ)) (shape : Shape) → IsDoneBy call sequencer shape
   shape_case call sequencer (Ends note answer) = ended_case call sequencer note answer
@@ -245,11 +228,11 @@ module _ (s : MasterState) (front : List (Waiting Task)) (w : Waiting Task) (bac
   shape_case call sequencer (Awaits put) = awaited_case call sequencer put
   shape_case call sequencer (Leaves note leave answer) = left_case call sequencer note leave answer
 
-  effect_case : (call : Call) (sequencer : Option (List ℕ)) → asked.work ≡ works.Calls call sequencer → is_live s asked.client ≡ true → IsPlan s w.number (plan_effect s asked.client asked.number (effect (name_space s) (caller s asked.client) s.clock asked.number call sequencer))
-  effect_case call sequencer work live =
+  effect_case : (call : Call) (sequencer : Option (List ℕ)) → asked.work ≡ works.Calls call sequencer → is_leave call ≡ false → is_live s asked.client ≡ true → IsPlan s w.number (plan_effect s asked.client asked.number (effect (name_space s) (caller s asked.client) s.clock asked.number call sequencer))
+  effect_case call sequencer work stays live =
       let t = shape_of s asked.client asked.number call sequencer in
       let P : Effect → Type 0 = λ effected. IsPlan s w.number (plan_effect s asked.client asked.number effected) in
-      subst P (sym t.1) (shape_case call sequencer t.0 work live t.1)
+      subst P (sym t.1) (shape_case call sequencer t.0 work stays live t.1)
 
   -- what is planned where the client ends its session
   departed_case : (call : Call) (sequencer : Option (List ℕ)) → asked.work ≡ works.Calls call sequencer → is_leave call ≡ true → is_live s asked.client ≡ true → IsPlan s w.number (plan_leave s asked.client asked.number)
@@ -263,7 +246,7 @@ module _ (s : MasterState) (front : List (Waiting Task)) (w : Waiting Task) (bac
   live_case : (call : Call) (sequencer : Option (List ℕ)) → asked.work ≡ works.Calls call sequencer → is_live s asked.client ≡ true → IsPlan s w.number (plan_live s asked.client asked.number call sequencer)
   live_case call sequencer work live =
       either s w.number (is_leave call) (plan_leave s asked.client asked.number) (plan_asked s asked.client asked.number call (effect (name_space s) (caller s asked.client) s.clock asked.number call sequencer))
-      (λ leave. departed_case call sequencer work leave live) (λ other. effect_case call sequencer work live)
+      (λ leave. departed_case call sequencer work leave live) (λ stays. effect_case call sequencer work stays live)
 
   call_case : (call : Call) (sequencer : Option (List ℕ)) → asked.work ≡ works.Calls call sequencer → IsPlan s w.number (plan_call s asked.client asked.number call sequencer)
   call_case call sequencer work =

@@ -1,5 +1,5 @@
 -- A master beside its rows.
-use Rattle.std.specs.Prelude.{◌≡◌, ℕ, ◌+◌, ◌≤◌, ◌==◌, nat_le, Bool, true, false, ◌&&◌, ◌||◌, List, [], ◌∷◌, All, Option, Some, None, is_none, if◌then◌else◌}
+use Rattle.std.specs.Prelude.{◌≡◌, ℕ, ◌+◌, ◌≤◌, ◌==◌, nat_le, Bool, true, false, not, ◌&&◌, ◌||◌, List, [], ◌∷◌, All, Option, Some, None, is_none, if◌then◌else◌}
 use Rattle.std.specs.Option.{option_map_or}
 use Rattle.std.specs.List.{list_all, list_any, sum_by}
 use Rattle.std.specs.List.Sorted.{IsStrictlySortedBy}
@@ -21,6 +21,8 @@ use Rattle.gate_core.specs.Gate.{IsOrderly}
 use Rattle.master_parts.specs.declared.pending.Task.{Task}
 use Rattle.master_parts.specs.declared.pending.Work.{Work}
 use Rattle.master_parts.specs.Calls.{bytes_of}
+use Rattle.master_state.specs.CallsWaiting.{is_by, is_call}
+use Rattle.tags_cell.specs.Messages.{is_leave}
 use Rattle.cell_core.specs.Names.{names_touched}
 use Rattle.tags_cell.specs.declared.messages.outs.Reply.{Reply}
 use Rattle.session_core.specs.declared.records.Session.{Session}
@@ -133,17 +135,14 @@ pub record AreLocksKept (rows : Rows) (s : MasterState) : Type 0 where
 
 -- ---- calls that have no reply yet
 
-abbrev pub is_call : Work → Bool
-is_call (works.Starts principal received) = false
-is_call (works.Calls call sequencer) = true
+-- a call, but not the one by which a client ends its session
+abbrev pub is_other_call : Work → Bool
+is_other_call (works.Starts principal received) = false
+is_other_call (works.Calls call sequencer) = not (is_leave call)
 
-abbrev pub is_call_by : ℕ → Task → Bool
-is_call_by client (tasks.Asked asked) = is_call asked.work && asked.client == client
-is_call_by client (tasks.Tidies idle) = false
-
--- one, where a change that waits in the gate is a call of the client
-abbrev pub call_count : ℕ → Waiting Task → ℕ
-call_count client waiting = if is_call_by client waiting.change.body then 1 else 0
+-- one, where a change that waits in the gate is work of this kind that the client asked for
+abbrev pub work_count : (Work → Bool) → ℕ → Waiting Task → ℕ
+work_count kind client waiting = if is_by kind client waiting.change.body then 1 else 0
 
 -- one, where it is the client that waits for a lock
 abbrev pub claim_count : ℕ → Claim → ℕ
@@ -152,9 +151,16 @@ claim_count client claim = if claim.owner.client == client then 1 else 0
 abbrev pub waits_count : ℕ → LockState → ℕ
 waits_count client lock = sum_by (claim_count client) lock.waiters
 
+-- how much work of this kind that a client asked for waits in the gate, and how many of its calls for a lock
+abbrev pub count_of : (Work → Bool) → List (Waiting Task) → LockTable → ℕ → ℕ
+count_of kind waiting locks client = sum_by (work_count kind client) waiting + sum_by (waits_count client) (values_of locks)
+
+abbrev pub count_in : List (Waiting Task) → LockTable → ℕ → ℕ
+count_in waiting locks client = count_of is_call waiting locks client
+
 -- how many calls of a client wait, in the gate or for a lock
 abbrev pub outstanding : MasterState → ℕ → ℕ
-outstanding s client = sum_by (call_count client) s.gate.waiting + sum_by (waits_count client) (values_of s.locks)
+outstanding s client = count_in s.gate.waiting s.locks client
 
 -- the last call of a client has no reply yet
 abbrev pub is_unanswered : Option (LastCall Reply) → Bool
@@ -163,9 +169,16 @@ is_unanswered kept = option_map_or (λ call. is_none call.reply) kept false
 abbrev pub unanswered : Option (LastCall Reply) → ℕ
 unanswered kept = if is_unanswered kept then 1 else 0
 
--- a client waits with one call at most, and then its last call has no reply yet
+-- one of each client at most, and then its last call has no reply yet
+abbrev pub AreOneOf : (Work → Bool) → List (Waiting Task) → LockTable → SessionTable Reply → Type 0
+AreOneOf kind waiting locks sessions = (client : ℕ) → count_of kind waiting locks client ≤ unanswered (kept_of sessions client)
+
+-- a client waits in the gate with one call at most; and in the gate or for a lock with one at most, beside the one by which it ends its session
+abbrev pub AreOne : List (Waiting Task) → LockTable → SessionTable Reply → Type 0
+AreOne waiting locks sessions = AreOneOf is_call waiting [] sessions × AreOneOf is_other_call waiting locks sessions
+
 abbrev pub HaveOneCall : MasterState → Type 0
-HaveOneCall s = (client : ℕ) → outstanding s client ≤ unanswered (kept_of s.sessions client)
+HaveOneCall s = AreOne s.gate.waiting s.locks s.sessions
 
 -- what the master knows of its rows is what they hold, and they are sound; and what it knows beside them fits
 pub record IsKept (cell : List ℕ) (rows : Rows) (s : MasterState) : Type 0 where

@@ -104,12 +104,12 @@ pub data SweepCase (s : MasterState) : Type 0 where
   OfEnded : (front back : List (Waiting Task)) (asked : WaitingRequest) (call : Call) (sequencer : Option (List ℕ)) → IsNextApplied s front (tasks.Asked asked) back → asked.work ≡ works.Calls call sequencer → is_live s asked.client ≡ false → SweepCase s
   -- the client ends its session
   Departed : (front back : List (Waiting Task)) (asked : WaitingRequest) (call : Call) (sequencer : Option (List ℕ)) (session : Session Reply) → IsNextApplied s front (tasks.Asked asked) back → asked.work ≡ works.Calls call sequencer → is_leave call ≡ true → session_of s asked.client ≡ Some session → session.live ≡ true → SweepCase s
-  Ended : (front back : List (Waiting Task)) (asked : WaitingRequest) (call : Call) (sequencer : Option (List ℕ)) (note : Option HandleNote) (answer : CallResult) → IsNextApplied s front (tasks.Asked asked) back → asked.work ≡ works.Calls call sequencer → is_live s asked.client ≡ true → effect (name_space s) (caller s asked.client) s.clock asked.number call sequencer ≡ record { note = note; change = None; locking = lockings.Nothing; answer = Some answer } → SweepCase s
-  Applied : (front back : List (Waiting Task)) (asked : WaitingRequest) (call : Call) (sequencer : Option (List ℕ)) (note : Option HandleNote) (change : Change) (answer : CallResult) → IsNextApplied s front (tasks.Asked asked) back → asked.work ≡ works.Calls call sequencer → is_live s asked.client ≡ true → effect (name_space s) (caller s asked.client) s.clock asked.number call sequencer ≡ record { note = note; change = Some change; locking = lockings.Nothing; answer = Some answer } → SweepCase s
-  Deleted : (front back : List (Waiting Task)) (asked : WaitingRequest) (call : Call) (sequencer : Option (List ℕ)) (change : Change) (instance : ℕ) (waiters : List Claim) (answer : CallResult) → IsNextApplied s front (tasks.Asked asked) back → asked.work ≡ works.Calls call sequencer → is_live s asked.client ≡ true → effect (name_space s) (caller s asked.client) s.clock asked.number call sequencer ≡ record { note = None; change = Some change; locking = lockings.Goes instance waiters; answer = Some answer } → SweepCase s
-  Locked : (front back : List (Waiting Task)) (asked : WaitingRequest) (call : Call) (sequencer : Option (List ℕ)) (put : LockPut) (claim : Claim) (answer : CallResult) → IsNextApplied s front (tasks.Asked asked) back → asked.work ≡ works.Calls call sequencer → is_live s asked.client ≡ true → effect (name_space s) (caller s asked.client) s.clock asked.number call sequencer ≡ record { note = None; change = None; locking = lockings.Takes put claim; answer = Some answer } → SweepCase s
-  Awaited : (front back : List (Waiting Task)) (asked : WaitingRequest) (call : Call) (sequencer : Option (List ℕ)) (put : LockPut) → IsNextApplied s front (tasks.Asked asked) back → asked.work ≡ works.Calls call sequencer → is_live s asked.client ≡ true → effect (name_space s) (caller s asked.client) s.clock asked.number call sequencer ≡ record { note = None; change = None; locking = lockings.Waits put; answer = None } → SweepCase s
-  Left : (front back : List (Waiting Task)) (asked : WaitingRequest) (call : Call) (sequencer : Option (List ℕ)) (note : Option HandleNote) (leave : Leave) (answer : CallResult) → IsNextApplied s front (tasks.Asked asked) back → asked.work ≡ works.Calls call sequencer → is_live s asked.client ≡ true → effect (name_space s) (caller s asked.client) s.clock asked.number call sequencer ≡ record { note = note; change = None; locking = lockings.Leaves leave; answer = Some answer } → SweepCase s
+  Ended : (front back : List (Waiting Task)) (asked : WaitingRequest) (call : Call) (sequencer : Option (List ℕ)) (note : Option HandleNote) (answer : CallResult) → IsNextApplied s front (tasks.Asked asked) back → asked.work ≡ works.Calls call sequencer → is_leave call ≡ false → is_live s asked.client ≡ true → effect (name_space s) (caller s asked.client) s.clock asked.number call sequencer ≡ record { note = note; change = None; locking = lockings.Nothing; answer = Some answer } → SweepCase s
+  Applied : (front back : List (Waiting Task)) (asked : WaitingRequest) (call : Call) (sequencer : Option (List ℕ)) (note : Option HandleNote) (change : Change) (answer : CallResult) → IsNextApplied s front (tasks.Asked asked) back → asked.work ≡ works.Calls call sequencer → is_leave call ≡ false → is_live s asked.client ≡ true → effect (name_space s) (caller s asked.client) s.clock asked.number call sequencer ≡ record { note = note; change = Some change; locking = lockings.Nothing; answer = Some answer } → SweepCase s
+  Deleted : (front back : List (Waiting Task)) (asked : WaitingRequest) (call : Call) (sequencer : Option (List ℕ)) (change : Change) (instance : ℕ) (waiters : List Claim) (answer : CallResult) → IsNextApplied s front (tasks.Asked asked) back → asked.work ≡ works.Calls call sequencer → is_leave call ≡ false → is_live s asked.client ≡ true → effect (name_space s) (caller s asked.client) s.clock asked.number call sequencer ≡ record { note = None; change = Some change; locking = lockings.Goes instance waiters; answer = Some answer } → SweepCase s
+  Locked : (front back : List (Waiting Task)) (asked : WaitingRequest) (call : Call) (sequencer : Option (List ℕ)) (put : LockPut) (claim : Claim) (answer : CallResult) → IsNextApplied s front (tasks.Asked asked) back → asked.work ≡ works.Calls call sequencer → is_leave call ≡ false → is_live s asked.client ≡ true → effect (name_space s) (caller s asked.client) s.clock asked.number call sequencer ≡ record { note = None; change = None; locking = lockings.Takes put claim; answer = Some answer } → SweepCase s
+  Awaited : (front back : List (Waiting Task)) (asked : WaitingRequest) (call : Call) (sequencer : Option (List ℕ)) (put : LockPut) → IsNextApplied s front (tasks.Asked asked) back → asked.work ≡ works.Calls call sequencer → is_leave call ≡ false → is_live s asked.client ≡ true → effect (name_space s) (caller s asked.client) s.clock asked.number call sequencer ≡ record { note = None; change = None; locking = lockings.Waits put; answer = None } → SweepCase s
+  Left : (front back : List (Waiting Task)) (asked : WaitingRequest) (call : Call) (sequencer : Option (List ℕ)) (note : Option HandleNote) (leave : Leave) (answer : CallResult) → IsNextApplied s front (tasks.Asked asked) back → asked.work ≡ works.Calls call sequencer → is_leave call ≡ false → is_live s asked.client ≡ true → effect (name_space s) (caller s asked.client) s.clock asked.number call sequencer ≡ record { note = note; change = None; locking = lockings.Leaves leave; answer = Some answer } → SweepCase s
 
 -- a change has left the gate; the others keep their order
 abbrev pub rest : MasterState → List (Waiting Task) → List (Waiting Task) → MasterState
@@ -192,22 +192,22 @@ swept_by s (Departed front back asked call sequencer session turn work leave fou
   told (with_locks (parted partings.Leave (rest s front back) asked.client) (lapses_puts s (lapses_of partings.Leave s asked.client))) (left_reply s asked ∷ lapses_replies s (lapses_of partings.Leave s asked.client)),
   swept_with (parting_lines partings.Leave s asked.client (lapses_of partings.Leave s asked.client)) (parting_replies partings.Leave s asked.client (left_reply s asked ∷ [])),
 )
-swept_by s (Ended front back asked call sequencer note answer turn work live made) =
+swept_by s (Ended front back asked call sequencer note answer turn work stays live made) =
     (ended (rest s front back) asked note answer, swept_with [] (replied_with s asked answer []))
-swept_by s (Applied front back asked call sequencer note change answer turn work live made) = (
+swept_by s (Applied front back asked call sequencer note change answer turn work stays live made) = (
   ended (mapped (rest s front back) change) asked note answer,
   swept_with (lines.Applied asked.client asked.number change.change (put_listing s.nodes change.change) ∷ []) (replied_with s asked answer []),
 )
-swept_by s (Deleted front back asked call sequencer change instance waiters answer turn work live made) = (
+swept_by s (Deleted front back asked call sequencer change instance waiters answer turn work stays live made) = (
   without_lock (told (ended (mapped (rest s front back) change) asked None answer) (replies_to s (results.Refused faults.StaleInstance) waiters)) (Some instance),
   swept_with (lines.Applied asked.client asked.number change.change (put_listing s.nodes change.change) ∷ []) (replied_with s asked answer (replies_to s (results.Refused faults.StaleInstance) waiters)),
 )
-swept_by s (Locked front back asked call sequencer put claim answer turn work live made) = (
+swept_by s (Locked front back asked call sequencer put claim answer turn work stays live made) = (
   ended (with_locks (rest s front back) (put ∷ [])) asked None answer,
   swept_with (locked_line put.instance put.lock.generation claim ∷ []) (replied_with s asked answer []),
 )
-swept_by s (Awaited front back asked call sequencer put turn work live made) = (with_locks (rest s front back) (put ∷ []), swept_with [] [])
-swept_by s (Left front back asked call sequencer note leave answer turn work live made) = (
+swept_by s (Awaited front back asked call sequencer put turn work stays live made) = (with_locks (rest s front back) (put ∷ []), swept_with [] [])
+swept_by s (Left front back asked call sequencer note leave answer turn work stays live made) = (
   told (ended (with_locks (rest s front back) (left_put leave ∷ [])) asked note answer) (turn_replies s leave.turn),
   swept_with (leave_lines asked.client leave) (replied_with s asked answer (turn_replies s leave.turn)),
 )
@@ -226,11 +226,11 @@ swept_edits s (Expires client session due) = parting_edits partings.Expiry s cli
 swept_edits s (Departed front back asked call sequencer session turn work leave found live) = parting_edits partings.Leave s asked.client session.principal
 swept_edits s (Started front back asked principal received turn work none) = PutSession asked.client (record { principal = principal; live = true }) ∷ []
 swept_edits s (Reopens instance due) = relocking s (puts_of s instance (reopened (lock_at s.locks instance)).lock)
-swept_edits s (Applied front back asked call sequencer _ change answer turn work live made) = edit_of change.change ∷ NextInstance change.next_instance ∷ []
-swept_edits s (Deleted front back asked call sequencer change instance waiters answer turn work live made) = edit_of change.change ∷ NextInstance change.next_instance ∷ []
+swept_edits s (Applied front back asked call sequencer _ change answer turn work stays live made) = edit_of change.change ∷ NextInstance change.next_instance ∷ []
+swept_edits s (Deleted front back asked call sequencer change instance waiters answer turn work stays live made) = edit_of change.change ∷ NextInstance change.next_instance ∷ []
 swept_edits s (Tidied front back idle turn still) = edit_of (Gone idle.name) ∷ NextInstance s.next_instance ∷ []
-swept_edits s (Locked front back asked call sequencer put claim answer turn work live made) = relocking s (put ∷ [])
+swept_edits s (Locked front back asked call sequencer put claim answer turn work stays live made) = relocking s (put ∷ [])
 -- one waiter more is no row
-swept_edits s (Awaited front back asked call sequencer put turn work live made) = relocking s (put ∷ [])
-swept_edits s (Left front back asked call sequencer _ leave answer turn work live made) = relocking s (left_put leave ∷ [])
+swept_edits s (Awaited front back asked call sequencer put turn work stays live made) = relocking s (put ∷ [])
+swept_edits s (Left front back asked call sequencer _ leave answer turn work stays live made) = relocking s (left_put leave ∷ [])
 swept_edits s _ = []

@@ -50,7 +50,7 @@ use Rattle.cell_core.specs.Outcomes.{put_listing, leave_lines, left_put}
 use Rattle.master_state.specs.Lapses.{lapses_lines, lapses_of, parting_lines}
 use Rattle.cell_core.specs.Cases.{TakeCase, taken_by}
 use Rattle.over_core.specs.SweepCase.{IsNextApplied, SweepCase, swept_by, rest, ended, mapped}
-use Rattle.cell_core.specs.Cases.TakeCase.{StartQueued, Answered, Granted, Waits}
+use Rattle.cell_core.specs.Cases.TakeCase.{StartQueued, LeavesBeside, Answered, Granted, Waits}
 use Rattle.over_core.specs.SweepCase.SweepCase.{Quiet, Recovers, Expires, Reopens, Tidies, Spared, Tidied, AnswersBeat, TurnedAway, StartedAgain, Started as StartedFirst, OfEnded, Ended, Applied, Deleted, Locked, Awaited, Left, Departed}
 use Rattle.over_core.specs.Kept.{IsKept, task_fits, waiting_fits}
 use Rattle.world_steps.specs.declared.steps.Step.{Step}
@@ -242,6 +242,8 @@ take_calls g s request (Waits message note touched new serving admitted) h k =
     let taken : WasTaken g t.epoch message.client message.number message.call message.sequencer = rw (epoch_note s note) (k message new.heard.is_call new.heard.epoch) in
     asking_calls g (with_call t message touched) (names_of touched)
     (calls_push g t.epoch t.gate.waiting (waits_as (t.gate.pushed + 1) (names_of touched) (tasks.Asked (task_of message))) (note_calls g s note h) taken)
+take_calls g s request (LeavesBeside message heard beside) h k =
+    calls_push g s.epoch s.gate.waiting (waits_as (s.gate.pushed + 1) [] (tasks.Asked (task_of message))) h (k message heard.is_call heard.epoch)
 take_calls g s request _ h k = h
 
 -- ---- a sweep
@@ -274,15 +276,15 @@ sweep_calls g s (TurnedAway front back asked principal received turn work may) h
 sweep_calls g s (StartedAgain front back asked principal received session turn work found live) h = (application_calls g s front (tasks.Asked asked) back turn h).1
 sweep_calls g s (StartedFirst front back asked principal received turn work none) h = (application_calls g s front (tasks.Asked asked) back turn h).1
 sweep_calls g s (OfEnded front back asked call sequencer turn work gone) h = (application_calls g s front (tasks.Asked asked) back turn h).1
-sweep_calls g s (Ended front back asked call sequencer note answer turn work live made) h = ended_calls g (rest s front back) asked note answer (application_calls g s front (tasks.Asked asked) back turn h).1
-sweep_calls g s (Applied front back asked call sequencer note change answer turn work live made) h =
+sweep_calls g s (Ended front back asked call sequencer note answer turn work stays live made) h = ended_calls g (rest s front back) asked note answer (application_calls g s front (tasks.Asked asked) back turn h).1
+sweep_calls g s (Applied front back asked call sequencer note change answer turn work stays live made) h =
     ended_calls g (mapped (rest s front back) change) asked note answer (application_calls g s front (tasks.Asked asked) back turn h).1
-sweep_calls g s (Deleted front back asked call sequencer change instance waiters answer turn work live made) h =
+sweep_calls g s (Deleted front back asked call sequencer change instance waiters answer turn work stays live made) h =
     ended_calls g (mapped (rest s front back) change) asked None answer (application_calls g s front (tasks.Asked asked) back turn h).1
-sweep_calls g s (Locked front back asked call sequencer put claim answer turn work live made) h =
+sweep_calls g s (Locked front back asked call sequencer put claim answer turn work stays live made) h =
     ended_calls g (with_locks (rest s front back) (put ∷ [])) asked None answer (application_calls g s front (tasks.Asked asked) back turn h).1
-sweep_calls g s (Awaited front back asked call sequencer put turn work live made) h = (application_calls g s front (tasks.Asked asked) back turn h).1
-sweep_calls g s (Left front back asked call sequencer note leave answer turn work live made) h =
+sweep_calls g s (Awaited front back asked call sequencer put turn work stays live made) h = (application_calls g s front (tasks.Asked asked) back turn h).1
+sweep_calls g s (Left front back asked call sequencer note leave answer turn work stays live made) h =
     ended_calls g (with_locks (rest s front back) (left_put leave ∷ [])) asked note answer (application_calls g s front (tasks.Asked asked) back turn h).1
 
 -- ---- a step
@@ -464,9 +466,9 @@ ended_split parting s whose before told client number change names e =
     parting_split parting (numbers_ending whose (ending_by parting) s.rights) others whose before told client number change names (quiet_silent others (lapses_of_locks parting whose (lapses_of parting s whose)).quiet) e
 
 of_application : (s : MasterState) (c : SweepCase s) (before told : List Line) (client number : ℕ) (change : Mod) (names : List (List ℕ)) → (swept_by s c).1.lines ≡ before ++ lines.Applied client number change names ∷ told → IsOfApplication s before client number change names
-of_application s (Applied front back asked call sequencer _ made answer turn work live does) before told client number change names e =
+of_application s (Applied front back asked call sequencer _ made answer turn work stays live does) before told client number change names e =
     of_call s front back asked call sequencer made.change before told client number change names turn work (ap change_of does) e
-of_application s (Deleted front back asked call sequencer made instance waiters answer turn work live does) before told client number change names e =
+of_application s (Deleted front back asked call sequencer made instance waiters answer turn work stays live does) before told client number change names e =
     of_call s front back asked call sequencer made.change before told client number change names turn work (ap change_of does) e
 of_application s (Tidied front back idle turn still) before told client number change names e = of_itself s idle before told client number change names still e
 of_application s (Recovers recovering heard) before told client number change names e =
@@ -482,9 +484,9 @@ of_application s (Reopens instance due) before told client number change names e
     let turn = reopened (lock_at s.locks instance) in
     let printed = lines.Reopened instance ∷ locked_lines instance turn in
     absurd (silent_split printed before told client number change names (quiet_silent printed (reopened_of_locks instance turn).quiet) e)
-of_application s (Locked front back asked call sequencer put claim answer turn work live made) before told client number change names e =
+of_application s (Locked front back asked call sequencer put claim answer turn work stays live made) before told client number change names e =
     absurd (silent_split (locked_line put.instance put.lock.generation claim ∷ []) before told client number change names (tt, tt) e)
-of_application s (Left front back asked call sequencer _ leave answer turn work live made) before told client number change names e =
+of_application s (Left front back asked call sequencer _ leave answer turn work stays live made) before told client number change names e =
     let printed = leave_lines asked.client leave in
     absurd (silent_split printed before told client number change names (quiet_silent printed (left_of_locks asked.client leave).quiet) e)
 of_application s _ before told client number change names e = absurd (no_split before told (lines.Applied client number change names) e)

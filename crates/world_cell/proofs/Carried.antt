@@ -1,6 +1,6 @@
 -- What holds of replies and of events, of those that a master keeps and of those that were sent, holds of them behind each step.
 use Rattle.std.proofs.Common.{◌≡◌, ℕ, ◌+◌, List, [], ◌∷◌, ◌++◌, Bool, true, false, cond, Option, Some, None, refl, sym, ap, subst, ◌∙◌, inl, inr, map, zero, suc, drop}
-use Rattle.std.specs.Prelude.{◌-◌, fold}
+use Rattle.std.specs.Prelude.{◌-◌, ◌&&◌, not, fold}
 use Rattle.std.specs.Option.{option_map, option_map_or}
 use Rattle.std.specs.List.{AllByRecursion, slice_get}
 use Rattle.std.specs.Map.{lookup}
@@ -45,9 +45,10 @@ use Rattle.master_state.specs.Updates.{with_note, with_kept_put}
 use Rattle.node_core.specs.Nodes.{with_parent}
 use Rattle.cell_core.specs.Step.{queued as queued_in, with_call, asking, asking_for, names_of}
 use Rattle.cell_core.specs.Cases.{TakeCase, taken_by}
-use Rattle.cell_core.specs.Cases.TakeCase.{StartQueued, BeatParked, LeftBefore, Repeated, Recovering, Answered, Granted, Waits}
+use Rattle.cell_core.specs.Cases.TakeCase.{StartQueued, BeatParked, LeftBefore, Repeated, LeavesBeside, Recovering, Answered, Granted, Waits}
 use Rattle.cell_core.specs.declared.effects.Effect.{Effect}
 use Rattle.cell_core.specs.Effect.{effect}
+use Rattle.master_state.specs.CallsWaiting.{has_call}
 use Rattle.master_state.specs.Replies.{kept_puts, sent, replies_to, reply_to, turn_replies}
 use Rattle.master_state.specs.Lapses.{lapses_replies, lapses_of}
 use Rattle.over_core.specs.SweepCase.{SweepCase, swept_by, gone_replies}
@@ -216,6 +217,7 @@ module _ (R : Reply → Type 0) (E : Event → Type 0) where
       keeping_holds (with_note s note).sessions (note_holds s note h) message.client (answered_by (reply_of (with_note s note) message.client message.number answer)) k.0
   taken_hold s request (Granted message note answer name new serving may) lost h k =
       keeping_holds (with_note s note).sessions (note_holds s note h) message.client (answered_by (stamped_reply (with_note s note) message.client message.number answer)) k.0
+  taken_hold s request (LeavesBeside message heard beside) lost h k = keeping_holds s.sessions h message.client (record { number = message.number; reply = None }) tt
   taken_hold s request (Waits message note touched new serving admitted) lost h k =
       asking_holds (with_call (with_note s note) message touched) (names_of touched)
       (keeping_holds (with_note s note).sessions (note_holds s note h) message.client (record { number = message.number; reply = None }) tt)
@@ -243,6 +245,7 @@ module _ (R : Reply → Type 0) (E : Event → Type 0) where
       (shows (reply_of (with_note s note) message.client message.number answer) shown, tt)
   taken_outs_hold s request (Granted message note answer name new serving may) shows h =
       (shows (stamped_reply (with_note s note) message.client message.number answer) (answer_shown s message.client message.number message.call message.sequencer answer may.is_answer), tt)
+  taken_outs_hold s request (LeavesBeside message heard beside) shows h = tt
   taken_outs_hold s request (Waits message _ touched new serving admitted) shows h = tt
   taken_outs_hold s request _ shows h = (tt, tt)
 
@@ -258,7 +261,7 @@ module _ (R : Reply → Type 0) (E : Event → Type 0) where
     late_hold answer [] shown = tt
     late_hold answer (claim ∷ claims) shown =
         both_hold R (reply_to s answer claim.owner.client) (replies_to s answer claims)
-        (to_hold answer claim.owner.client (is_client_number claim.owner.client) (kept_of s claim.owner.client) shown) (late_hold answer claims shown)
+        (to_hold answer claim.owner.client (is_client_number claim.owner.client && not (has_call claim.owner.client s.gate.waiting)) (kept_of s claim.owner.client) shown) (late_hold answer claims shown)
 
     turn_hold : (turn : Turn) → AllByRecursion R (turn_replies s turn)
     turn_hold turn =
@@ -284,18 +287,18 @@ module _ (R : Reply → Type 0) (E : Event → Type 0) where
   swept_outs_hold s (Tidied front back idle turn still) shows h = sent_hold (gone_replies s idle) (late_hold s shows (results.Refused faults.StaleInstance) (lock_at s.locks idle.instance).waiters tt)
   swept_outs_hold s (AnswersBeat client session beat due) shows h = (unacked_hold s.sessions h client, tt)
   swept_outs_hold s (OfEnded front back asked call sequencer turn work gone) shows h = tt
-  swept_outs_hold s (Ended front back asked call sequencer _ answer turn work live made) shows h =
+  swept_outs_hold s (Ended front back asked call sequencer _ answer turn work stays live made) shows h =
       (own_holds s shows asked.client asked.number call sequencer _ answer made refl, tt)
-  swept_outs_hold s (Applied front back asked call sequencer _ change answer turn work live made) shows h =
+  swept_outs_hold s (Applied front back asked call sequencer _ change answer turn work stays live made) shows h =
       (own_holds s shows asked.client asked.number call sequencer _ answer made refl, tt)
-  swept_outs_hold s (Deleted front back asked call sequencer change instance waiters answer turn work live made) shows h = (
+  swept_outs_hold s (Deleted front back asked call sequencer change instance waiters answer turn work stays live made) shows h = (
     own_holds s shows asked.client asked.number call sequencer _ answer made refl,
     sent_hold (replies_to s (results.Refused faults.StaleInstance) waiters) (late_hold s shows (results.Refused faults.StaleInstance) waiters tt),
   )
-  swept_outs_hold s (Locked front back asked call sequencer put claim answer turn work live made) shows h =
+  swept_outs_hold s (Locked front back asked call sequencer put claim answer turn work stays live made) shows h =
       (own_holds s shows asked.client asked.number call sequencer _ answer made refl, tt)
-  swept_outs_hold s (Awaited front back asked call sequencer put turn work live made) shows h = tt
-  swept_outs_hold s (Left front back asked call sequencer _ leave answer turn work live made) shows h = (
+  swept_outs_hold s (Awaited front back asked call sequencer put turn work stays live made) shows h = tt
+  swept_outs_hold s (Left front back asked call sequencer _ leave answer turn work stays live made) shows h = (
     own_holds s shows asked.client asked.number call sequencer _ answer made refl,
     sent_hold (turn_replies s leave.turn) (turn_hold s shows leave.turn),
   )
@@ -316,23 +319,23 @@ module _ (R : Reply → Type 0) (E : Event → Type 0) where
   swept_hold s (StartedAgain front back asked principal received session turn work found live) h k =
       stepped_holds s.sessions h asked.client (prolonged (s.clock + s.sessions.lease)) (λ session g. g)
   swept_hold s (Started front back asked principal received turn work none) h k = begun_holds s.sessions h asked.client principal (s.clock + s.sessions.lease)
-  swept_hold s (Ended front back asked call sequencer None answer turn work live made) h k =
+  swept_hold s (Ended front back asked call sequencer None answer turn work stays live made) h k =
       keeping_holds s.sessions h asked.client (answered_by (reply_of s asked.client asked.number answer)) k.0
-  swept_hold s (Ended front back asked call sequencer (Some note) answer turn work live made) h k =
+  swept_hold s (Ended front back asked call sequencer (Some note) answer turn work stays live made) h k =
       keeping_holds s.sessions h asked.client (answered_by (reply_of s asked.client asked.number answer)) k.0
-  swept_hold s (Applied front back asked call sequencer None change answer turn work live made) h k =
+  swept_hold s (Applied front back asked call sequencer None change answer turn work stays live made) h k =
       keeping_holds s.sessions h asked.client (answered_by (reply_of s asked.client asked.number answer)) k.0
-  swept_hold s (Applied front back asked call sequencer (Some note) change answer turn work live made) h k =
+  swept_hold s (Applied front back asked call sequencer (Some note) change answer turn work stays live made) h k =
       keeping_holds s.sessions h asked.client (answered_by (reply_of s asked.client asked.number answer)) k.0
-  swept_hold s (Deleted front back asked call sequencer change instance waiters answer turn work live made) h k =
+  swept_hold s (Deleted front back asked call sequencer change instance waiters answer turn work stays live made) h k =
       replies_hold (with_session s.sessions asked.client (keeping (answered_by (reply_of s asked.client asked.number answer)))) (replies_to s (results.Refused faults.StaleInstance) waiters)
       (keeping_holds s.sessions h asked.client (answered_by (reply_of s asked.client asked.number answer)) k.0) k.1
-  swept_hold s (Locked front back asked call sequencer put claim answer turn work live made) h k =
+  swept_hold s (Locked front back asked call sequencer put claim answer turn work stays live made) h k =
       keeping_holds s.sessions h asked.client (answered_by (reply_of s asked.client asked.number answer)) k.0
-  swept_hold s (Left front back asked call sequencer None leave answer turn work live made) h k =
+  swept_hold s (Left front back asked call sequencer None leave answer turn work stays live made) h k =
       replies_hold (with_session s.sessions asked.client (keeping (answered_by (reply_of s asked.client asked.number answer)))) (turn_replies s leave.turn)
       (keeping_holds s.sessions h asked.client (answered_by (reply_of s asked.client asked.number answer)) k.0) k.1
-  swept_hold s (Left front back asked call sequencer (Some note) leave answer turn work live made) h k =
+  swept_hold s (Left front back asked call sequencer (Some note) leave answer turn work stays live made) h k =
       replies_hold (with_session s.sessions asked.client (keeping (answered_by (reply_of s asked.client asked.number answer)))) (turn_replies s leave.turn)
       (keeping_holds s.sessions h asked.client (answered_by (reply_of s asked.client asked.number answer)) k.0) k.1
   swept_hold s _ h k = h

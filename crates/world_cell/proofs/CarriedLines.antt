@@ -280,11 +280,11 @@ module _ (R : Reply → Type 0) (E : Event → Type 0) where
   swept_tells s (Leaves front back asked call sequencer session turn work leave found live) = ended_tells partings.Leave s asked.client
   swept_tells s (Reopens instance due) = (tt, got_lines instance (reopened (lock_at s.locks instance)).lock.generation (reopened (lock_at s.locks instance)).granted)
   swept_tells s (StartedFirst front back asked principal received turn work none) = (tt, tt)
-  swept_tells s (Applied front back asked call sequencer _ change answer turn work live made) = (tt, tt)
-  swept_tells s (Deleted front back asked call sequencer change instance waiters answer turn work live made) = (tt, tt)
+  swept_tells s (Applied front back asked call sequencer _ change answer turn work stays live made) = (tt, tt)
+  swept_tells s (Deleted front back asked call sequencer change instance waiters answer turn work stays live made) = (tt, tt)
   swept_tells s (Tidied front back idle turn still) = (tt, tt)
-  swept_tells s (Locked front back asked call sequencer put claim answer turn work live made) = (tt, tt)
-  swept_tells s (Left front back asked call sequencer _ leave answer turn work live made) = left_lines asked.client leave
+  swept_tells s (Locked front back asked call sequencer put claim answer turn work stays live made) = (tt, tt)
+  swept_tells s (Left front back asked call sequencer _ leave answer turn work stays live made) = left_lines asked.client leave
   swept_tells s _ = tt
 
   -- ---- a step

@@ -47,7 +47,7 @@ use Rattle.client_core.specs.declared.plans.AskPlan.TheVariants as plans
 use Rattle.client_core.specs.State.{ClientState, new_client, note_in, note_live}
 use Rattle.client_core.specs.Handles.{handle_of, usable_handle, put_under, handles_behind, kept_behind}
 use Rattle.client_core.specs.Serves.{serve_answer, cached_served, read_served, share, entry_served, open_served}
-use Rattle.client_core.specs.Asks.{send_plan, served_or, open_plan, close_plan, poison_plan, node_plan, sequencer_plan, plan_of, message_of, with_call, with_shared, without_handle}
+use Rattle.client_core.specs.Asks.{send_plan, may_leave, served_or, open_plan, close_plan, poison_plan, node_plan, sequencer_plan, plan_of, message_of, with_call, with_shared, without_handle}
 use Rattle.client_core.specs.Poisons.{poisoned, with_poisoned}
 use Rattle.client_core.specs.Gives.{closed, sequenced, ended_plainly}
 use Rattle.client_core.specs.Cases.{AskCase, asked_in, BeatCase, beaten_in, GiveCase, given_in}
@@ -343,7 +343,7 @@ module _ (s : ClientState) where
   made_plan moment (asks.Node number node) = made_node moment number node (handle_of s.handles number) refl
   made_plan moment (asks.SetSequencer number sequencer) = made_sequencer number sequencer (usable_handle (handle_of s.handles number))
   made_plan moment (asks.CheckSequencer bytes) = made_send (calls.CheckSequencer bytes) None targets.Checking (λ number at. cc)
-  made_plan moment asks.Leave = made_send calls.Leave None targets.Leaving (λ number at. cc)
+  made_plan moment asks.Leave = elim (may_leave s) as (λ b. MadeBy s (cond b (Ok (plans.Send calls.Leave None targets.Leaving)) (Err faults.CallOutstanding))) [ true ↦ (λ number at. cc) | false ↦ tt ]
 
 -- it is the next call, which nobody sent before
 pub grips_sent : (sent : List Message) (s : ClientState) (moment : ℕ) (ask : Ask) (call : Call) (sequencer : Option (List ℕ)) (target : Target) → Grips sent s → plan_of s moment ask ≡ Ok (plans.Send call sequencer target) → call_of sent s.number (s.calls + 1) ≡ None → Grips (sent ++ ToMaster (message_of s call sequencer) ∷ []) (with_call s moment call sequencer target)

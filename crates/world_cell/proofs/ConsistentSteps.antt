@@ -53,7 +53,7 @@ use Rattle.over_core.specs.SweepCase.{SweepCase, swept_by, swept_edits, gone_rep
 use Rattle.over_core.proofs.KeptByTakes.{clock_kept}
 use Rattle.over_core.proofs.Limited.{taken_same, case_within}
 use Rattle.over_core.proofs.SweepCases.{action_tellings}
-use Rattle.cell_core.specs.Cases.TakeCase.{LeftBefore, Repeated, StartQueued, OldBeat, BeatRefused, BeatParked, OldEpoch, Answered, Granted, Waits}
+use Rattle.cell_core.specs.Cases.TakeCase.{LeftBefore, Repeated, StartQueued, OldBeat, BeatRefused, BeatParked, OldEpoch, LeavesBeside, Answered, Granted, Waits}
 use Rattle.cell_core.specs.Outcomes.{left_put}
 use Rattle.master_state.specs.Replies.{turn_replies, puts_of, replies_to}
 use Rattle.master_state.specs.Lapses.{lapses_of, lapses_puts, lapses_replies}
@@ -79,7 +79,6 @@ use Rattle.world_cell.proofs.MessagesGrow.{none_sent, none_out, request_more, ou
 use Rattle.world_cell.proofs.OneSession.{at_each, kept_in}
 use Rattle.world_cell.proofs.RelockedRows.{let_go, relocked_rows}
 use Rattle.world_cell.proofs.MasterFits.{fits_stays, tellings_fit, take_fits, sweep_fits}
-use Rattle.world_cell.proofs.AwaitedCalls.{awaits_unanswered, shows_own}
 use Rattle.world_cell.proofs.MembersFound.{some_same, own_member, other_member, at_members, each_found, at_each_member, all_found, moves_so, fair_at_once, fair_beside}
 use Rattle.world_steps.specs.Made.{WasMade, WasRefused}
 use Rattle.world_steps.proofs.AsRead.{made_doubts, made_sure, refused_doubts, refused_sure}
@@ -345,7 +344,7 @@ module _ (w : WorldState) (h : IsConsistent w) (now : ℕ) where
       all_consistent w up [] h up_later (none_fresh w up refl)
       (at_each_member (λ number. at_up now) w.clients (λ q x. IsMember (w.rows.epoch + 1) q x) (λ q x is.
       let t = stepped_later w.rows.epoch (w.rows.epoch + 1) q x next_epoch (h.clients q x is) in record { own = t.own; past = t.past; unstarted = t.unstarted; live = t.live; noted = t.noted }))
-      (record { queue = tt; kept = λ client kept is. no_kept client kept is; replies = λ client kept reply is of. no_kept client kept is; answers = λ client kept reply is of. no_kept client kept is; turns = λ client. (all_first now w.rows.sessions client).1; awaited = λ client waits. refl }) refl refl (least now)
+      (record { queue = tt; kept = λ client kept is. no_kept client kept is; replies = λ client kept reply is of. no_kept client kept is; answers = λ client kept reply is of. no_kept client kept is; turns = λ client. (all_first now w.rows.sessions client).1 }) refl refl (least now)
       (at_each_member (λ number. at_up now) w.clients (λ q x. IsFairSince now x) (λ q x is. fair_at_once now (at_up now x) refl refl))
 
 -- ---- a client joins
@@ -606,7 +605,7 @@ noted_at : (now : ℕ) (o : Option MasterState) (s : MasterState) → o ≡ Some
 noted_at now o s e k = rw e at k
 
 pub noted_fits : (w : WorldState) → IsConsistent w → (s : MasterState) → w.master ≡ Some s → FitsMessages w.messages (noted s w.clock)
-noted_fits w h s up = let f = fits_at w w.master s up h.fits in record { queue = f.queue; kept = f.kept; replies = f.replies; answers = f.answers; turns = f.turns; awaited = f.awaited }
+noted_fits w h s up = let f = fits_at w w.master s up h.fits in record { queue = f.queue; kept = f.kept; replies = f.replies; answers = f.answers; turns = f.turns }
 
 repeated_tells : (epoch : ℕ) (reply : Option Reply) → AreTellingIn epoch (repeated_reply reply).outs
 repeated_tells epoch None = tt
@@ -636,6 +635,7 @@ taken_tells s request (LeftBefore message kept request_is same_epoch ended is nu
 taken_tells s request (Repeated message kept heard is number) = repeated_tells s.epoch kept.reply
 taken_tells s request (StartQueued start is may serving room) = tt
 taken_tells s request (BeatParked beat is same taken) = tt
+taken_tells s request (LeavesBeside message heard beside) = tt
 taken_tells s request (Waits message _ touched new serving admitted) = tt
 taken_tells s request _ = (tt, tt)
 
@@ -656,9 +656,9 @@ swept_tells s (Tidied front back idle turn still) = replies_tell s.epoch (gone_r
 swept_tells s (StartedAgain front back asked principal received session turn work found live) = (least s.epoch, tt)
 swept_tells s (StartedFirst front back asked principal received turn work none) = (least s.epoch, tt)
 swept_tells s (OfEnded front back asked call sequencer turn work gone) = tt
-swept_tells s (Deleted front back asked call sequencer change instance waiters answer turn work live made) = (tt, replies_tell s.epoch (replies_to s (results.Refused faults.StaleInstance) waiters))
-swept_tells s (Awaited front back asked call sequencer put turn work live made) = tt
-swept_tells s (Left front back asked call sequencer _ leave answer turn work live made) = (tt, replies_tell s.epoch (turn_replies s leave.turn))
+swept_tells s (Deleted front back asked call sequencer change instance waiters answer turn work stays live made) = (tt, replies_tell s.epoch (replies_to s (results.Refused faults.StaleInstance) waiters))
+swept_tells s (Awaited front back asked call sequencer put turn work stays live made) = tt
+swept_tells s (Left front back asked call sequencer _ leave answer turn work stays live made) = (tt, replies_tell s.epoch (turn_replies s leave.turn))
 swept_tells s _ = (tt, tt)
 
 -- ---- the rows behind a sweep
@@ -673,12 +673,12 @@ swept_epoch rows s (Expires client session due) =
 swept_epoch rows s (Departed front back asked call sequencer session turn work leave found live) =
     (let_go rows (lock_changes s (lapses_puts s (lapses_of partings.Leave s asked.client))) asked.client (record { principal = session.principal; live = false })).beside.epoch
 swept_epoch rows s (Reopens instance due) = (relocked_rows rows (lock_changes s (puts_of s instance (reopened (lock_at s.locks instance)).lock))).beside.epoch
-swept_epoch rows s (Applied front back asked call sequencer _ change answer turn work live made) = mod_epoch rows change.change change.next_instance
-swept_epoch rows s (Deleted front back asked call sequencer change instance waiters answer turn work live made) = mod_epoch rows change.change change.next_instance
+swept_epoch rows s (Applied front back asked call sequencer _ change answer turn work stays live made) = mod_epoch rows change.change change.next_instance
+swept_epoch rows s (Deleted front back asked call sequencer change instance waiters answer turn work stays live made) = mod_epoch rows change.change change.next_instance
 swept_epoch rows s (Tidied front back idle turn still) = mod_epoch rows (Gone idle.name) s.next_instance
-swept_epoch rows s (Locked front back asked call sequencer put claim answer turn work live made) = (relocked_rows rows (lock_changes s (put ∷ []))).beside.epoch
-swept_epoch rows s (Awaited front back asked call sequencer put turn work live made) = (relocked_rows rows (lock_changes s (put ∷ []))).beside.epoch
-swept_epoch rows s (Left front back asked call sequencer _ leave answer turn work live made) = (relocked_rows rows (lock_changes s (left_put leave ∷ []))).beside.epoch
+swept_epoch rows s (Locked front back asked call sequencer put claim answer turn work stays live made) = (relocked_rows rows (lock_changes s (put ∷ []))).beside.epoch
+swept_epoch rows s (Awaited front back asked call sequencer put turn work stays live made) = (relocked_rows rows (lock_changes s (put ∷ []))).beside.epoch
+swept_epoch rows s (Left front back asked call sequencer _ leave answer turn work stays live made) = (relocked_rows rows (lock_changes s (left_put leave ∷ []))).beside.epoch
 swept_epoch rows s _ = refl
 
 -- ---- the moment that a master knows
@@ -699,12 +699,12 @@ taken_clock s request _ = refl
 
 pub swept_clock : (s : MasterState) (c : SweepCase s) → (swept_by s c).0.clock ≡ s.clock
 swept_clock s (Tidies idle due) = asking_clock (queued s (with_parent idle.name) (tasks.Tidies idle)) (with_parent idle.name)
-swept_clock s (Ended front back asked call sequencer None answer turn work live made) = refl
-swept_clock s (Ended front back asked call sequencer (Some note) answer turn work live made) = refl
-swept_clock s (Applied front back asked call sequencer None change answer turn work live made) = refl
-swept_clock s (Applied front back asked call sequencer (Some note) change answer turn work live made) = refl
-swept_clock s (Left front back asked call sequencer None leave answer turn work live made) = refl
-swept_clock s (Left front back asked call sequencer (Some note) leave answer turn work live made) = refl
+swept_clock s (Ended front back asked call sequencer None answer turn work stays live made) = refl
+swept_clock s (Ended front back asked call sequencer (Some note) answer turn work stays live made) = refl
+swept_clock s (Applied front back asked call sequencer None change answer turn work stays live made) = refl
+swept_clock s (Applied front back asked call sequencer (Some note) change answer turn work stays live made) = refl
+swept_clock s (Left front back asked call sequencer None leave answer turn work stays live made) = refl
+swept_clock s (Left front back asked call sequencer (Some note) leave answer turn work stays live made) = refl
 swept_clock s _ = refl
 
 module _ (w : WorldState) (h : IsConsistent w) (s : MasterState) (up : w.master ≡ Some s) where
@@ -717,8 +717,7 @@ module _ (w : WorldState) (h : IsConsistent w) (s : MasterState) (up : w.master 
       let sent : List Out = (taken_by (noted s w.clock) request c).1.outs in
       let new : WorldState = record w { master = Some (taken_by (noted s w.clock) request c).0; messages = w.messages ++ map ToClient sent } in
       let asked = λ (call : CallMessage) (e : request ≡ requests.Call call). h.named at call (found ∙ ap (λ r. Some r) e) in
-      let free = awaits_unanswered (noted s w.clock) (agrees_at w w.master s up h.master).one_call in
-      let fits = take_fits w.messages (noted s w.clock) request c (noted_fits w h s up) free asked in
+      let fits = take_fits w.messages (noted s w.clock) request c (noted_fits w h s up) asked in
       let clock = taken_clock (noted s w.clock) request c in
       let telling : AreTellingIn w.rows.epoch sent = subst (λ n. AreTellingIn n sent) (agrees_at w w.master s up h.master).epoch (taken_tells (noted s w.clock) request c) in
       let early = within in
@@ -734,8 +733,7 @@ module _ (w : WorldState) (h : IsConsistent w) (s : MasterState) (up : w.master 
       let stays : new.rows.epoch ≡ w.rows.epoch = swept_epoch w.rows (noted s w.clock) c in
       let epoch : s.epoch ≡ new.rows.epoch = (agrees_at w w.master s up h.master).epoch ∙ sym stays in
       let telling : AreTellingIn new.rows.epoch sent = subst (λ n. AreTellingIn n sent) epoch (swept_tells (noted s w.clock) c) in
-      let own = shows_own (noted s w.clock) (agrees_at w w.master s up h.master).own in
-      let fits = tellings_fit w.messages (swept_by (noted s w.clock) c).0 (action_tellings (noted s w.clock) action) (sweep_fits w.messages (noted s w.clock) c (noted_fits w h s up) own) in
+      let fits = tellings_fit w.messages (swept_by (noted s w.clock) c).0 (action_tellings (noted s w.clock) action) (sweep_fits w.messages (noted s w.clock) c (noted_fits w h s up)) in
       let no_less : w.rows.epoch ≤ new.rows.epoch = omega (arith, stays) in
       let clock = swept_clock (noted s w.clock) c in
       let early = within in

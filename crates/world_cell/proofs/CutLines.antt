@@ -60,5 +60,5 @@ swept_kept s (Expires client session due) = inl (parting_kept partings.Expiry cl
 swept_kept s (Departed front back asked call sequencer session turn work leave found live) =
     inl (parting_kept partings.Leave asked.client (numbers_ending asked.client endings.Leave s.rights) (lapses_of partings.Leave s asked.client))
 swept_kept s (Reopens instance due) = inl (reopened_of_locks instance (reopened (lock_at s.locks instance))).kept
-swept_kept s (Left front back asked call sequencer _ leave answer turn work live made) = inl (left_of_locks asked.client leave).kept
+swept_kept s (Left front back asked call sequencer _ leave answer turn work stays live made) = inl (left_of_locks asked.client leave).kept
 swept_kept s _ = inl refl

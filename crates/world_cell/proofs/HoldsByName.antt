@@ -135,24 +135,24 @@ module _ (cell : List ℕ) (rows : Rows) (s : MasterState) (k : IsKept cell rows
   case_goes (StartedAgain front back asked principal received session turn work found live) = same (StartedAgain front back asked principal received session turn work found live) refl refl
   case_goes (Started front back asked principal received turn work none) = same (Started front back asked principal received turn work none) refl refl
   case_goes (OfEnded front back asked call sequencer turn work gone) = same (OfEnded front back asked call sequencer turn work gone) refl refl
-  case_goes (Ended front back asked call sequencer None answer turn work live made) = same (Ended front back asked call sequencer None answer turn work live made) refl refl
-  case_goes (Ended front back asked call sequencer (Some note) answer turn work live made) = same (Ended front back asked call sequencer (Some note) answer turn work live made) refl refl
-  case_goes (Applied front back asked call sequencer None change answer turn work live made) =
+  case_goes (Ended front back asked call sequencer None answer turn work stays live made) = same (Ended front back asked call sequencer None answer turn work stays live made) refl refl
+  case_goes (Ended front back asked call sequencer (Some note) answer turn work stays live made) = same (Ended front back asked call sequencer (Some note) answer turn work stays live made) refl refl
+  case_goes (Applied front back asked call sequencer None change answer turn work stays live made) =
       let P : Effect → Type 0 = GivesBy s in
       let gives = subst P made (effect_gives s asked.client asked.number call sequencer) in
-      changes (Applied front back asked call sequencer None change answer turn work live made) change.change change.next_instance refl refl gives.given gives.next
-  case_goes (Applied front back asked call sequencer (Some note) change answer turn work live made) =
+      changes (Applied front back asked call sequencer None change answer turn work stays live made) change.change change.next_instance refl refl gives.given gives.next
+  case_goes (Applied front back asked call sequencer (Some note) change answer turn work stays live made) =
       let P : Effect → Type 0 = GivesBy s in
       let gives = subst P made (effect_gives s asked.client asked.number call sequencer) in
-      changes (Applied front back asked call sequencer (Some note) change answer turn work live made) change.change change.next_instance refl refl gives.given gives.next
-  case_goes (Deleted front back asked call sequencer change instance waiters answer turn work live made) =
+      changes (Applied front back asked call sequencer (Some note) change answer turn work stays live made) change.change change.next_instance refl refl gives.given gives.next
+  case_goes (Deleted front back asked call sequencer change instance waiters answer turn work stays live made) =
       let P : Effect → Type 0 = GivesBy s in
       let gives = subst P made (effect_gives s asked.client asked.number call sequencer) in
-      changes (Deleted front back asked call sequencer change instance waiters answer turn work live made) change.change change.next_instance refl refl gives.given gives.next
-  case_goes (Locked front back asked call sequencer put claim answer turn work live made) = same (Locked front back asked call sequencer put claim answer turn work live made) refl refl
-  case_goes (Awaited front back asked call sequencer put turn work live made) = same (Awaited front back asked call sequencer put turn work live made) refl refl
-  case_goes (Left front back asked call sequencer None leave answer turn work live made) = same (Left front back asked call sequencer None leave answer turn work live made) refl refl
-  case_goes (Left front back asked call sequencer (Some note) leave answer turn work live made) = same (Left front back asked call sequencer (Some note) leave answer turn work live made) refl refl
+      changes (Deleted front back asked call sequencer change instance waiters answer turn work stays live made) change.change change.next_instance refl refl gives.given gives.next
+  case_goes (Locked front back asked call sequencer put claim answer turn work stays live made) = same (Locked front back asked call sequencer put claim answer turn work stays live made) refl refl
+  case_goes (Awaited front back asked call sequencer put turn work stays live made) = same (Awaited front back asked call sequencer put turn work stays live made) refl refl
+  case_goes (Left front back asked call sequencer None leave answer turn work stays live made) = same (Left front back asked call sequencer None leave answer turn work stays live made) refl refl
+  case_goes (Left front back asked call sequencer (Some note) leave answer turn work stays live made) = same (Left front back asked call sequencer (Some note) leave answer turn work stays live made) refl refl
 
 -- ---- a step
 

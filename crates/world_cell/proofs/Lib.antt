@@ -12,11 +12,8 @@ pub mod MessagesGrow
 pub mod GrantsSent
 pub mod OpensNamed
 pub mod AnswersSent
-pub mod LockWaiters
-pub mod LockMoves
 pub mod LateReplies
 pub mod MasterFits
-pub mod AwaitedCalls
 pub mod ConsistentSteps
 pub mod RepliesSent
 pub mod ClientHolds

@@ -1,6 +1,6 @@
 -- Replies to those that waited for a lock: none may be kept in a cache, and a slice shows nothing of them.
 use Rattle.std.proofs.Common.{◌≡◌, ℕ, Bool, true, false, cond, List, [], ◌∷◌, ◌++◌, map, Option, Some, None, refl, ◌∙◌}
-use Rattle.std.specs.Prelude.{fold}
+use Rattle.std.specs.Prelude.{◌&&◌, not, fold}
 use Rattle.std.specs.Option.{option_map_or}
 use Rattle.std.specs.List.{AllByRecursion}
 use Rattle.node_core.specs.declared.refusals.Fault.TheVariants as faults
@@ -19,6 +19,7 @@ use Rattle.lock_core.specs.declared.turns.Turn.{Turn}
 use Rattle.master_state.specs.declared.updates.KeptPut.{KeptPut}
 use Rattle.master_state.specs.State.{MasterState}
 use Rattle.master_state.specs.Lookups.{kept_of, reply_of}
+use Rattle.master_state.specs.CallsWaiting.{has_call}
 use Rattle.master_state.specs.Updates.{with_kept_put}
 use Rattle.master_state.specs.Replies.{sent, reply_to, replies_to, turn_replies}
 use Rattle.master_state.specs.Lapses.{lapses_replies}
@@ -45,7 +46,7 @@ pub waiters_unstamped : (s : MasterState) (answer : CallResult) (claims : List C
 waiters_unstamped s answer [] = tt
 waiters_unstamped s answer (claim ∷ claims) =
     unstamped_both (reply_to s answer claim.owner.client) (replies_to s answer claims)
-    (one_unstamped s answer claim.owner.client (is_client_number claim.owner.client) (kept_of s claim.owner.client)) (waiters_unstamped s answer claims)
+    (one_unstamped s answer claim.owner.client (is_client_number claim.owner.client && not (has_call claim.owner.client s.gate.waiting)) (kept_of s claim.owner.client)) (waiters_unstamped s answer claims)
 
 pub application_unstamped : (s : MasterState) (turn : Turn) → AreUnstamped (turn_replies s turn)
 application_unstamped s turn =

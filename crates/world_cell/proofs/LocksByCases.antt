@@ -318,38 +318,38 @@ module _ (cell : List ℕ) (rows : Rows) (s : MasterState) (k : IsKept cell rows
   case_grows (StartedAgain front back asked principal received session turn work found live) l = same_grown (StartedAgain front back asked principal received session turn work found live) refl refl refl l
   case_grows (Started front back asked principal received turn work none) l = same_grown (Started front back asked principal received turn work none) refl refl refl l
   case_grows (OfEnded front back asked call sequencer turn work gone) l = same_grown (OfEnded front back asked call sequencer turn work gone) refl refl refl l
-  case_grows (Ended front back asked call sequencer None answer turn work live made) l = same_grown (Ended front back asked call sequencer None answer turn work live made) refl refl refl l
-  case_grows (Ended front back asked call sequencer (Some note) answer turn work live made) l = same_grown (Ended front back asked call sequencer (Some note) answer turn work live made) refl refl refl l
-  case_grows (Applied front back asked call sequencer None change answer turn work live made) l =
+  case_grows (Ended front back asked call sequencer None answer turn work stays live made) l = same_grown (Ended front back asked call sequencer None answer turn work stays live made) refl refl refl l
+  case_grows (Ended front back asked call sequencer (Some note) answer turn work stays live made) l = same_grown (Ended front back asked call sequencer (Some note) answer turn work stays live made) refl refl refl l
+  case_grows (Applied front back asked call sequencer None change answer turn work stays live made) l =
       let P : Effect → Type 0 = GivesBy s in
       let gives = subst P made (effect_gives s asked.client asked.number call sequencer) in
-      changed_grows cell rows s (swept_by s (Applied front back asked call sequencer None change answer turn work live made)).0 k change.change change.next_instance gives.given gives.next refl refl refl l
-  case_grows (Applied front back asked call sequencer (Some note) change answer turn work live made) l =
+      changed_grows cell rows s (swept_by s (Applied front back asked call sequencer None change answer turn work stays live made)).0 k change.change change.next_instance gives.given gives.next refl refl refl l
+  case_grows (Applied front back asked call sequencer (Some note) change answer turn work stays live made) l =
       let P : Effect → Type 0 = GivesBy s in
       let gives = subst P made (effect_gives s asked.client asked.number call sequencer) in
-      changed_grows cell rows s (swept_by s (Applied front back asked call sequencer (Some note) change answer turn work live made)).0 k change.change change.next_instance gives.given gives.next refl refl refl l
-  case_grows (Deleted front back asked call sequencer change instance waiters answer turn work live made) l =
+      changed_grows cell rows s (swept_by s (Applied front back asked call sequencer (Some note) change answer turn work stays live made)).0 k change.change change.next_instance gives.given gives.next refl refl refl l
+  case_grows (Deleted front back asked call sequencer change instance waiters answer turn work stays live made) l =
       let P : Effect → Type 0 = GivesBy s in
       let Q : Effect → Type 0 = Raises s in
       let gives = subst P made (effect_gives s asked.client asked.number call sequencer) in
       let gone = subst Q made (effect_raises s asked.client asked.number call sequencer) in
-      deleted_grows cell rows s (swept_by s (Deleted front back asked call sequencer change instance waiters answer turn work live made)).0 k change.change change.next_instance gone gives.next l
-  case_grows (Locked front back asked call sequencer put claim answer turn work live made) l =
+      deleted_grows cell rows s (swept_by s (Deleted front back asked call sequencer change instance waiters answer turn work stays live made)).0 k change.change change.next_instance gone gives.next l
+  case_grows (Locked front back asked call sequencer put claim answer turn work stays live made) l =
       let Q : Effect → Type 0 = Raises s in
       let rises = subst Q made (effect_raises s asked.client asked.number call sequencer) in
-      put_grown (Locked front back asked call sequencer put claim answer turn work live made) (put ∷ []) refl refl refl (rises, tt) l
-  case_grows (Awaited front back asked call sequencer put turn work live made) l =
+      put_grown (Locked front back asked call sequencer put claim answer turn work stays live made) (put ∷ []) refl refl refl (rises, tt) l
+  case_grows (Awaited front back asked call sequencer put turn work stays live made) l =
       let Q : Effect → Type 0 = Raises s in
       let rises = subst Q made (effect_raises s asked.client asked.number call sequencer) in
-      put_grown (Awaited front back asked call sequencer put turn work live made) (put ∷ []) refl refl refl (rises, tt) l
-  case_grows (Left front back asked call sequencer None leave answer turn work live made) l =
+      put_grown (Awaited front back asked call sequencer put turn work stays live made) (put ∷ []) refl refl refl (rises, tt) l
+  case_grows (Left front back asked call sequencer None leave answer turn work stays live made) l =
       let Q : Effect → Type 0 = Raises s in
       let rises = subst Q made (effect_raises s asked.client asked.number call sequencer) in
-      put_grown (Left front back asked call sequencer None leave answer turn work live made) (left_put leave ∷ []) refl refl refl (rises, tt) l
-  case_grows (Left front back asked call sequencer (Some note) leave answer turn work live made) l =
+      put_grown (Left front back asked call sequencer None leave answer turn work stays live made) (left_put leave ∷ []) refl refl refl (rises, tt) l
+  case_grows (Left front back asked call sequencer (Some note) leave answer turn work stays live made) l =
       let Q : Effect → Type 0 = Raises s in
       let rises = subst Q made (effect_raises s asked.client asked.number call sequencer) in
-      put_grown (Left front back asked call sequencer (Some note) leave answer turn work live made) (left_put leave ∷ []) refl refl refl (rises, tt) l
+      put_grown (Left front back asked call sequencer (Some note) leave answer turn work stays live made) (left_put leave ∷ []) refl refl refl (rises, tt) l
 
 -- ---- the moment is noted
 

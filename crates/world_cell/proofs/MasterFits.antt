@@ -1,15 +1,10 @@
 -- What waits and what is kept fits the messages, whatever the master takes or sweeps.
-use Rattle.std.proofs.Common.{◌≡◌, ◌≢◌, ℕ, ◌+◌, List, [], ◌∷◌, ◌++◌, true, false, cond, Option, Some, None, refl, sym, ap, ◌∙◌, inl, inr, arith, subst, map}
-use Rattle.std.specs.Prelude.{◌⊎◌, ◌==◌, ◌||◌, is_none}
+use Rattle.std.proofs.Common.{◌≡◌, ◌≢◌, ℕ, ◌+◌, List, [], ◌∷◌, ◌++◌, Bool, true, false, cond, Option, Some, None, refl, sym, ap, ◌∙◌, inl, inr, arith, subst, map}
+use Rattle.std.specs.Prelude.{◌⊎◌, ◌==◌, ◌&&◌, ◌||◌}
 use Rattle.std.specs.Option.{option_map_or}
-use Rattle.std.specs.List.{AllByRecursion, list_any}
-use Rattle.std.specs.BTreeMap.{is_at}
-use Rattle.std.specs.Ordering.{nat_cmp}
+use Rattle.std.specs.List.{AllByRecursion}
 use Rattle.std.proofs.lemmas.Bool.Decides.{nat_tests}
 use Rattle.std.proofs.lemmas.List.{append-nil}
-use Rattle.std.proofs.lemmas.List.Folds.{list_any-append}
-use Rattle.tags_cell.specs.Handles.{read_handle}
-use Rattle.tags_cell.specs.declared.handles.Handle.{Handle}
 use Rattle.tags_cell.specs.declared.messages.calls.Call.{Call}
 use Rattle.tags_cell.specs.declared.messages.requests.Request.{Request}
 use Rattle.tags_cell.specs.declared.messages.requests.Request.TheVariants as requests
@@ -26,8 +21,7 @@ use Rattle.rights_core.specs.Rights as of_rights
 use Rattle.rights_core.specs.declared.endings.Ending.TheVariants as endings
 use Rattle.gate_core.specs.declared.pending.Waiting.{Waiting}
 use Rattle.gate_core.specs.Gate.{GateState}
-use Rattle.lock_core.specs.declared.claims.Claim.{Claim}
-use Rattle.lock_core.specs.Turns.{is_of_client, reopened}
+use Rattle.lock_core.specs.Turns.{reopened}
 use Rattle.lock_core.specs.Locks.{lock_at}
 use Rattle.session_core.specs.declared.records.LastCall.{LastCall}
 use Rattle.session_core.specs.declared.records.Session.{Session}
@@ -44,11 +38,9 @@ use Rattle.master_parts.specs.declared.pending.Task.TheVariants as tasks
 use Rattle.master_parts.specs.declared.pending.Work.{Work}
 use Rattle.master_parts.specs.declared.pending.Work.TheVariants as works
 use Rattle.master_parts.specs.declared.notices.SessionEvent.{SessionEvent}
-use Rattle.master_state.specs.NameSpace.{name_space, caller}
 use Rattle.master_state.specs.Notices.{with_telling, with_tellings}
 use Rattle.master_state.specs.State.{MasterState}
 use Rattle.master_state.specs.Lookups.{session_of, kept_of, is_live, reply_of, stamped_reply, acknowledgement}
-use Rattle.master_parts.specs.Calls.{bytes_of}
 use Rattle.master_parts.specs.Answered.{answered_by}
 use Rattle.node_core.specs.Nodes.{with_parent}
 use Rattle.cell_core.specs.declared.asking.TouchedNames.{TouchedNames}
@@ -58,11 +50,9 @@ use Rattle.cell_core.specs.Ephemerals.{tidied}
 use Rattle.cell_core.specs.Cases.{IsBehind, TakeCase, taken_by}
 use Rattle.cell_core.specs.Names.{name_asked}
 use Rattle.cell_core.proofs.Told.{told_is_shown}
-use Rattle.cell_core.specs.Cases.TakeCase.{StartQueued, BeatParked, Recovering, Answered, Granted, Waits}
-use Rattle.cell_core.specs.declared.effects.Effect.{Effect}
+use Rattle.cell_core.specs.Cases.TakeCase.{StartQueued, BeatParked, LeavesBeside, Recovering, Answered, Granted, Waits}
 use Rattle.cell_core.specs.declared.effects.Leave.{Leave}
-use Rattle.cell_core.specs.Effect.{effect}
-use Rattle.over_core.specs.Kept.{is_unanswered}
+use Rattle.master_state.specs.CallsWaiting.{is_by, is_call, has_call}
 use Rattle.master_state.specs.Replies.{replies_to, turn_replies, puts_of}
 use Rattle.cell_core.specs.Outcomes.{left_put}
 use Rattle.master_state.specs.Lapses.{lapses_of, lapses_puts, lapses_replies}
@@ -71,11 +61,9 @@ use Rattle.over_core.specs.SweepCase.SweepCase.{Quiet, Recovers, Expires, Reopen
 use Rattle.world_steps.specs.declared.mail.Message.{Message}
 use Rattle.world_steps.specs.declared.mail.Message.TheVariants.{ToClient}
 use Rattle.world_steps.specs.Messages.{call_of}
-use Rattle.world_cell.specs.Consistent.{put_waiting, put_task, waiting, IsWaiting, IsLastInTurn, IsInTurn, IsOfMessage, IsTaskOfMessage, AreOfMessages, WasSent, IsReplyTo, awaits_lock, OpensAs, IsAnswer, FitsMessages}
+use Rattle.world_cell.specs.Consistent.{put_waiting, put_task, waiting, IsWaiting, IsLastInTurn, IsInTurn, IsOfMessage, IsTaskOfMessage, AreOfMessages, WasSent, IsReplyTo, OpensAs, IsAnswer, FitsMessages}
 use Rattle.world_cell.proofs.MessagesGrow.{call_stays}
 use Rattle.world_cell.proofs.LateReplies.{IsLate, AreLate, replies_late, application_late, lapses_late}
-use Rattle.world_cell.proofs.LockMoves.{MovesLocks, effect_moves}
-use Rattle.world_cell.proofs.LockWaiters.{or_cases, ComesFrom, reopened_comes, waits_at, ArePutFor, puts_await, puts_for, lapses_for, removed_awaits}
 use Rattle.world_cell.proofs.OpensNamed.{answer_opens}
 use Rattle.world_cell.proofs.AnswersSent.{answer_stays, plain_answer, told_answer, answered_opens, applied_opens}
 use Rattle.world_cell.proofs.OneSession.{at_each, same, kept_in, each_apart, each_session, each_with_new, each_issued, answered_so}
@@ -102,14 +90,13 @@ IsKeptSent sent epoch secret client o = (kept : LastCall Reply) → kept_in o �
 all_kept : (sent : List Message) (s : MasterState) → FitsMessages sent s → (client : ℕ) → IsKeptSent sent s.epoch s.secret client (session_of s client)
 all_kept sent s h client kept is = record { was = h.kept client kept is; replied = λ reply of. h.replies client kept reply is of; answers = λ reply of. h.answers client kept reply is of }
 
-fits_by : (sent : List Message) (s : MasterState) → AreOfMessages sent s.epoch s.gate.waiting → ((client : ℕ) → IsKeptSent sent s.epoch s.secret client (session_of s client)) → ((client : ℕ) → IsInTurn (session_of s client) (waiting client s.gate.waiting)) → ((client : ℕ) → awaits_lock client s.locks ≡ true → waiting client s.gate.waiting ≡ []) → FitsMessages sent s
-fits_by sent s queue kept turns awaited = record {
+fits_by : (sent : List Message) (s : MasterState) → AreOfMessages sent s.epoch s.gate.waiting → ((client : ℕ) → IsKeptSent sent s.epoch s.secret client (session_of s client)) → ((client : ℕ) → IsInTurn (session_of s client) (waiting client s.gate.waiting)) → FitsMessages sent s
+fits_by sent s queue kept turns = record {
   queue = queue;
   kept = λ client now is. (kept client now is).was;
   replies = λ client now reply is. (kept client now is).replied reply;
   answers = λ client now reply is. (kept client now is).answers reply;
   turns = turns;
-  awaited = awaited;
 }
 
 -- a call that waits, and one that has its reply
@@ -150,11 +137,11 @@ queue_stays xs ys epoch (w ∷ ws) h = (task_stays xs ys epoch w.change.body h.0
 pub fits_stays : (xs ys : List Message) (s : MasterState) → FitsMessages xs s → FitsMessages (xs ++ ys) s
 fits_stays xs ys s h =
     fits_by (xs ++ ys) s (queue_stays xs ys s.epoch s.gate.waiting h.queue)
-    (λ client kept is. later_kept xs ys s.epoch s.secret client kept (all_kept xs s h client kept is)) h.turns h.awaited
+    (λ client kept is. later_kept xs ys s.epoch s.secret client kept (all_kept xs s h client kept is)) h.turns
 
 -- other rights
 right_fits : (sent : List Message) (s : MasterState) (rights : List CacheRight) → FitsMessages sent s → FitsMessages sent (record s { rights = rights })
-right_fits sent s rights h = record { queue = h.queue; kept = h.kept; replies = h.replies; answers = h.answers; turns = h.turns; awaited = h.awaited }
+right_fits sent s rights h = record { queue = h.queue; kept = h.kept; replies = h.replies; answers = h.answers; turns = h.turns }
 
 -- ---- the queue
 
@@ -201,11 +188,6 @@ pub none_waits : (o : Option (Session Reply)) (number : ℕ) (numbers : List ℕ
 none_waits None number numbers h k = h
 none_waits (Some session) number numbers h k = none_kept session.kept number numbers h k
 
--- nor is it without a reply
-unanswered_behind : (o : Option (LastCall Reply)) (number : ℕ) → IsBehind o number → is_unanswered o ≡ true → ⊥
-unanswered_behind None number behind h = cc
-unanswered_behind (Some kept) number behind h = let e : false ≡ true = subst (λ (o : Option Reply). is_none o ≡ true) behind.1 h in cc
-
 -- ---- a step of a session
 
 -- what is kept of it decides
@@ -220,7 +202,6 @@ module _ (sent : List Message) (s : MasterState) (h : FitsMessages sent s) where
       (each_session (λ q o. IsKeptSent sent s.epoch s.secret q o) s.sessions client (all_kept sent s h) step (λ session is was e. all_kept sent s h client was (ap kept_in is ∙ sym (kept session) ∙ e)))
       (each_session (λ q o. IsInTurn o (waiting q s.gate.waiting)) s.sessions client h.turns step
       (λ session is. same_turn session (step session) (waiting client s.gate.waiting) (kept session) (subst (λ o. IsInTurn o (waiting client s.gate.waiting)) is (h.turns client))))
-      h.awaited
 
   prolonged_fits : (client moment : ℕ) → FitsMessages sent (record s { sessions = with_session s.sessions client (prolonged moment) })
   prolonged_fits client moment = stepped_fits client (prolonged moment) (λ session. refl)
@@ -232,7 +213,7 @@ module _ (sent : List Message) (s : MasterState) (h : FitsMessages sent s) where
   issued_fits asked =
       fits_by sent (record s { sessions = issued_by asked s.sessions }) h.queue
       (each_issued (λ q o. IsKeptSent sent s.epoch s.secret q o) (λ q number session k. k) asked s.sessions (all_kept sent s h))
-      (each_issued (λ q o. IsInTurn o (waiting q s.gate.waiting)) (λ q number session k. same_turn session (issued_through number session) (waiting q s.gate.waiting) refl k) asked s.sessions h.turns) h.awaited
+      (each_issued (λ q o. IsInTurn o (waiting q s.gate.waiting)) (λ q number session k. same_turn session (issued_through number session) (waiting q s.gate.waiting) refl k) asked s.sessions h.turns)
 
   expired_fits : (client : ℕ) → FitsMessages sent (record s { sessions = with_session s.sessions client of_session.ended })
   expired_fits client = stepped_fits client of_session.ended (λ session. refl)
@@ -243,7 +224,6 @@ module _ (sent : List Message) (s : MasterState) (h : FitsMessages sent s) where
       (each_with_new (λ q o. IsKeptSent sent s.epoch s.secret q o) s.sessions client (all_kept sent s h) (session_until principal true moment) (λ was e. cc))
       (each_with_new (λ q o. IsInTurn o (waiting q s.gate.waiting)) s.sessions client h.turns (session_until principal true moment)
       (subst (λ o. IsInTurn o (waiting client s.gate.waiting)) none (h.turns client)))
-      h.awaited
 
   -- a call of the client is recorded
   is_recorded : (client : ℕ) (kept : LastCall Reply) → IsKeptAs sent s.epoch s.secret client kept → (q : ℕ) → IsKeptSent sent s.epoch s.secret q (session_of (recorded s client kept) q)
@@ -255,17 +235,16 @@ module _ (sent : List Message) (s : MasterState) (h : FitsMessages sent s) where
   answered_by_fits : (client : ℕ) (reply : Reply) → IsKeptAs sent s.epoch s.secret client (answered_by reply) → waiting client s.gate.waiting ≡ [] → FitsMessages sent (recorded s client (answered_by reply))
   answered_by_fits client reply as_it none =
       fits_by sent (recorded s client (answered_by reply)) h.queue (is_recorded client (answered_by reply) as_it)
-      (each_session (λ q o. IsInTurn o (waiting q s.gate.waiting)) s.sessions client h.turns (keeping (answered_by reply)) (λ session is. none)) h.awaited
+      (each_session (λ q o. IsInTurn o (waiting q s.gate.waiting)) s.sessions client h.turns (keeping (answered_by reply)) (λ session is. none))
 
   -- what becomes of locks
-  locks_fit : (puts : List LockPut) → ArePutFor (λ q. waiting q s.gate.waiting ≡ []) puts → FitsMessages sent (with_locks s puts)
-  locks_fit puts from = record {
+  locks_fit : (puts : List LockPut) → FitsMessages sent (with_locks s puts)
+  locks_fit puts = record {
     queue = h.queue;
     kept = h.kept;
     replies = h.replies;
     answers = h.answers;
     turns = h.turns;
-    awaited = puts_await (λ q. waiting q s.gate.waiting ≡ []) puts s.locks from h.awaited;
   }
 
   without_fits : (gone : Option ℕ) → FitsMessages sent (without_lock s gone)
@@ -276,7 +255,6 @@ module _ (sent : List Message) (s : MasterState) (h : FitsMessages sent s) where
     replies = h.replies;
     answers = h.answers;
     turns = h.turns;
-    awaited = λ client waits. h.awaited client (removed_awaits client (is_at (nat_cmp instance)) s.locks waits);
   }
 
 -- what clients are told of keeps what is kept of calls
@@ -308,13 +286,32 @@ kept_late sent s reply h late =
     replied_kept sent s.epoch s.secret reply.client reply.number reply was (record { to = refl; answered = refl })
     (plain_answer sent s.secret reply was.call was.found late.unstamped (late.opens was.call.call))
 
+-- of a client of which no call waits for its turn no number waits
+not_put : (q whose number : ℕ) (work : Work) (xs : List ℕ) → (is_call work && whose == q) ≡ false → put_waiting q whose number work xs ≡ xs
+not_put q whose number (works.Starts principal received) xs h = refl
+not_put q whose number (works.Calls call sequencer) xs h = let apart : (whose == q) ≡ false = h in rw apart refl
+
+not_tasked : (q : ℕ) (task : Task) (xs : List ℕ) → is_by is_call q task ≡ false → put_task q task xs ≡ xs
+not_tasked q (tasks.Asked asked) xs h = not_put q asked.client asked.number asked.work xs h
+not_tasked q (tasks.Tidies idle) xs h = refl
+
+neither : (a b : Bool) → (a || b) ≡ false → (a ≡ false) × (b ≡ false)
+neither true b h = cc
+neither false b h = (refl, h)
+
+pub none_called : (q : ℕ) (ws : List (Waiting Task)) → has_call q ws ≡ false → waiting q ws ≡ []
+none_called q [] h = refl
+none_called q (w ∷ ws) h =
+    let t = neither (is_by is_call q w.change.body) (has_call q ws) h in
+    not_tasked q w.change.body (waiting q ws) t.0 ∙ none_called q ws t.1
+
 all_late : (sent : List Message) (s t : MasterState) (replies : List Reply) → FitsMessages sent s → t.epoch ≡ s.epoch → t.secret ≡ s.secret → ((q : ℕ) → waiting q s.gate.waiting ≡ [] → waiting q t.gate.waiting ≡ []) → AreLate s replies → AllByRecursion (IsKeptLate sent t) replies
 all_late sent s t [] h epoch secret fewer late = tt
 all_late sent s t (reply ∷ replies) h epoch secret fewer late =
     let kept = kept_late sent s reply h late.0 in (
       record {
         as_it = subst (λ e. IsKeptAs sent e t.secret reply.client (answered_by reply)) (sym epoch) (subst (λ x. IsKeptAs sent s.epoch x reply.client (answered_by reply)) (sym secret) kept);
-        none = fewer reply.client (h.awaited reply.client late.0.awaits);
+        none = fewer reply.client (none_called reply.client s.gate.waiting late.0.quiet);
       },
       all_late sent s t replies h epoch secret fewer late.1,
     )
@@ -332,7 +329,7 @@ live_session s client session live is =
 
 pub fits_note : (sent : List Message) (s : MasterState) (note : Option HandleNote) → FitsMessages sent s → FitsMessages sent (with_note s note)
 fits_note sent s None h = h
-fits_note sent s (Some note) h = record { queue = h.queue; kept = h.kept; replies = h.replies; answers = h.answers; turns = h.turns; awaited = h.awaited }
+fits_note sent s (Some note) h = record { queue = h.queue; kept = h.kept; replies = h.replies; answers = h.answers; turns = h.turns }
 
 -- who is asked for a name keeps its calls
 asking_fits : (sent : List Message) (s : MasterState) (names : List (List ℕ)) → FitsMessages sent s → FitsMessages sent (asking_for s names)
@@ -369,7 +366,7 @@ module _ (sent : List Message) (s : MasterState) (client number : ℕ) (h : Fits
   kept_fits reply to answers was =
       let kept : LastCall Reply = record { number = number; reply = Some reply } in
       fits_by sent (recorded s client kept) h.queue (is_recorded sent s h client kept (replied_kept sent s.epoch s.secret client number reply was to answers))
-      (each_session (λ q o. IsInTurn o (waiting q s.gate.waiting)) s.sessions client h.turns (keeping kept) (λ session is. free)) h.awaited
+      (each_session (λ q o. IsInTurn o (waiting q s.gate.waiting)) s.sessions client h.turns (keeping kept) (λ session is. free))
 
   -- by what may not be kept in a cache
   replied_fits : (result : CallResult) (was : WasSent sent s.epoch client number) → OpensAs was.call.call result → FitsMessages sent (replied s client number result).0
@@ -377,15 +374,8 @@ module _ (sent : List Message) (s : MasterState) (client number : ℕ) (h : Fits
       let reply = reply_of s client number result in
       kept_fits reply (record { to = refl; answered = refl }) (plain_answer sent s.secret reply was.call was.found refl opens) was
 
--- whoever waits for a lock has a call without a reply
-abbrev pub AreUnanswered : MasterState → Type 0
-AreUnanswered s = (client : ℕ) → awaits_lock client s.locks ≡ true → is_unanswered (kept_of s client) ≡ true
-
--- a call that comes to wait for its turn; where its client waits for a lock, the call that is kept has no reply
-module _ (sent : List Message) (s : MasterState) (message : CallMessage) (h : FitsMessages sent s) (live : is_live s message.client ≡ true) (behind : IsBehind (kept_of s message.client) message.number) (unanswered : AreUnanswered s) (found : call_of sent message.client message.number ≡ Some (record message { epoch = s.epoch })) where
-  uncalled : waiting message.client s.gate.waiting ≡ []
-  uncalled = none_waits (session_of s message.client) message.number (waiting message.client s.gate.waiting) (h.turns message.client) behind
-
+-- a call that comes to wait for its turn, of a client of which none waits for it
+module _ (sent : List Message) (s : MasterState) (message : CallMessage) (h : FitsMessages sent s) (live : is_live s message.client ≡ true) (uncalled : waiting message.client s.gate.waiting ≡ []) (found : call_of sent message.client message.number ≡ Some (record message { epoch = s.epoch })) where
   called_fits : (touched : Option TouchedNames) → FitsMessages sent (with_call s message touched)
   called_fits touched =
       let client = message.client in
@@ -402,9 +392,6 @@ module _ (sent : List Message) (s : MasterState) (message : CallMessage) (h : Fi
       (λ q apart. subst (λ xs. IsInTurn (session_of s q) xs) (sym (same q apart)) (h.turns q))
       (λ none. absurd (no_session s client live none))
       (λ session is. inl own))
-      (at_each (λ q. awaits_lock q s.locks ≡ true → waiting q (s.gate.waiting ++ w ∷ []) ≡ []) client
-      (λ waits. absurd (unanswered_behind (kept_of s client) number behind (unanswered client waits)))
-      (λ q apart waits. same q apart ∙ h.awaited q waits))
 
   waits_fits : (touched : Option TouchedNames) → FitsMessages sent (waits s message touched).0
   waits_fits touched = asking_fits sent (with_call s message touched) (names_of touched) (called_fits touched)
@@ -427,7 +414,6 @@ start_fits sent s client number principal received h =
       replies = h.replies;
       answers = h.answers;
       turns = λ q. subst (λ xs. IsInTurn (session_of s q) xs) (sym (waiting_append q s.gate.waiting (w ∷ []) ∙ append-nil (waiting q s.gate.waiting))) (h.turns q);
-      awaited = λ q waits. waiting_append q s.gate.waiting (w ∷ []) ∙ append-nil (waiting q s.gate.waiting) ∙ h.awaited q waits;
     }
 
 -- the deletion of a node that nobody holds open
@@ -441,7 +427,6 @@ tidies_fits sent s idle h =
       replies = h.replies;
       answers = h.answers;
       turns = λ q. subst (λ xs. IsInTurn (session_of s q) xs) (sym (same q)) (h.turns q);
-      awaited = λ q waits. same q ∙ h.awaited q waits;
     })
 
 -- it acknowledges, and is parked
@@ -450,45 +435,48 @@ beat_fits sent s beat h =
     right_fits sent (record s { sessions = with_session s.sessions beat.client (beaten beat s.clock) }) (of_rights.ended beat.client (acknowledgement beat) s.rights)
     (stepped_fits sent s h beat.client (beaten beat s.clock) (λ session. refl))
 
-unanswered_note : (s : MasterState) (note : Option HandleNote) → AreUnanswered s → AreUnanswered (with_note s note)
-unanswered_note s None h = h
-unanswered_note s (Some note) h = h
+uncalled_note : (s : MasterState) (note : Option HandleNote) (client : ℕ) → waiting client s.gate.waiting ≡ [] → waiting client (with_note s note).gate.waiting ≡ []
+uncalled_note s None client h = h
+uncalled_note s (Some note) client h = h
 
 -- the request was sent, if it is a call
 abbrev pub WasAsked : List Message → Request → Type 0
 WasAsked sent request = (call : CallMessage) → request ≡ requests.Call call → call_of sent call.client call.number ≡ Some call
 
 -- what the master sends is behind all messages
-pub take_fits : (sent : List Message) (s : MasterState) (request : Request) (c : TakeCase s request) → FitsMessages sent s → AreUnanswered s → WasAsked sent request → FitsMessages (sent ++ map ToClient (taken_by s request c).1.outs) (taken_by s request c).0
-take_fits sent s request (StartQueued start is may serving room) h free asked =
+pub take_fits : (sent : List Message) (s : MasterState) (request : Request) (c : TakeCase s request) → FitsMessages sent s → WasAsked sent request → FitsMessages (sent ++ map ToClient (taken_by s request c).1.outs) (taken_by s request c).0
+take_fits sent s request (StartQueued start is may serving room) h asked =
     fits_stays sent [] (queued s [] (tasks.Asked (record { client = start.client; number = start.number; work = works.Starts start.principal s.clock }))) (start_fits sent s start.client start.number start.principal s.clock h)
-take_fits sent s request (BeatParked beat is epoch taken) h free asked = fits_stays sent [] (parked s beat) (beat_fits sent s beat h)
-take_fits sent s request (Recovering message new recovering) h free asked =
+take_fits sent s request (BeatParked beat is epoch taken) h asked = fits_stays sent [] (parked s beat) (beat_fits sent s beat h)
+take_fits sent s request (LeavesBeside message heard beside) h asked =
+    fits_stays sent [] (waits s message None).0
+    (waits_fits sent s message h heard.live (none_called message.client s.gate.waiting beside.alone) (rw (← heard.epoch) (asked message heard.is_call)) None)
+take_fits sent s request (Recovering message new recovering) h asked =
     let step = replied s message.client message.number (results.Refused faults.Recovering) in
     fits_stays sent (map ToClient step.1.outs) step.0
     (replied_fits sent s message.client message.number h new.heard.live new.behind (results.Refused faults.Recovering)
     (record { call = message; found = asked message new.heard.is_call; same = new.heard.epoch }) tt)
-take_fits sent s request (Answered message note answer new serving answered) h free asked =
+take_fits sent s request (Answered message note answer new serving answered) h asked =
     let t = with_note s note in
     let epoch : message.epoch ≡ t.epoch = new.heard.epoch ∙ sym (epoch_note s note) in
     let step = replied t message.client message.number answer in
     fits_stays sent (map ToClient step.1.outs) step.0
     (replied_fits sent t message.client message.number (fits_note sent s note h) (live_note s note message.client new.heard.live) (behind_note s note message.client message.number new.behind) answer
     (record { call = message; found = asked message new.heard.is_call; same = epoch }) (answered_opens s message note answer answered))
-take_fits sent s request (Granted message note answer name new serving may) h free asked =
+take_fits sent s request (Granted message note answer name new serving may) h asked =
     let t = with_note s note in
     let epoch : message.epoch ≡ t.epoch = new.heard.epoch ∙ sym (epoch_note s note) in
     granting_fits sent t message.client message.number answer name (fits_note sent s note h) (live_note s note message.client new.heard.live) (behind_note s note message.client message.number new.behind)
     (record { call = message; found = asked message new.heard.is_call; same = epoch })
     (ap (λ secret. name_asked secret message.call) (secret_note s note) ∙ (told_is_shown s message.client message.number message.call message.sequencer name answer may.is_told may.is_answer).0)
     (answer_opens s message.client message.number message.call message.sequencer answer may.is_answer)
-take_fits sent s request (Waits message note touched new serving admitted) h free asked =
+take_fits sent s request (Waits message note touched new serving admitted) h asked =
     let t = with_note s note in
     let epoch : message.epoch ≡ t.epoch = new.heard.epoch ∙ sym (epoch_note s note) in
     fits_stays sent [] (waits t message touched).0
-    (waits_fits sent t message (fits_note sent s note h) (live_note s note message.client new.heard.live) (behind_note s note message.client message.number new.behind) (unanswered_note s note free)
+    (waits_fits sent t message (fits_note sent s note h) (live_note s note message.client new.heard.live) (uncalled_note s note message.client (none_waits (session_of s message.client) message.number (waiting message.client s.gate.waiting) (h.turns message.client) new.behind))
     (rw (← epoch) (asked message new.heard.is_call)) touched)
-take_fits sent s request c h free asked = fits_stays sent (map ToClient (taken_by s request c).1.outs) s h
+take_fits sent s request c h asked = fits_stays sent (map ToClient (taken_by s request c).1.outs) s h
 
 -- ---- a sweep
 
@@ -552,21 +540,9 @@ queue_at : (sent : List Message) (epoch : ℕ) (front : List (Waiting Task)) (w 
 queue_at sent epoch [] w back h = (h.0, h.1)
 queue_at sent epoch (x ∷ front) w back h = let t = queue_at sent epoch front w back h.1 in (t.0, (h.0, t.1))
 
--- a call that waits shows a handle of its client
-abbrev pub ShowsOwn : MasterState → Type 0
-ShowsOwn s = (front back : List (Waiting Task)) (asked : WaitingRequest) (call : Call) (sequencer : Option (List ℕ)) (handle : Handle) → IsNextApplied s front (tasks.Asked asked) back → asked.work ≡ works.Calls call sequencer → read_handle s.secret (bytes_of call) ≡ Some handle → handle.client ≡ asked.client
-
--- behind those that wait there is one more
-waits_behind : (q : ℕ) (waiters : List Claim) (claim : Claim) → list_any (λ c. is_of_client q c.owner) (waiters ++ claim ∷ []) ≡ true → (list_any (λ c. is_of_client q c.owner) waiters ≡ true) ⊎ (claim.owner.client ≡ q)
-waits_behind q waiters claim h =
-    elim (or_cases (list_any (λ c. is_of_client q c.owner) waiters) (is_of_client q claim.owner || false) (sym (list_any-append (λ c. is_of_client q c.owner) waiters (claim ∷ [])) ∙ h)) [
-      | inl before ↦ inl before
-      | inr own ↦ elim (or_cases (is_of_client q claim.owner) false own) [ inl is ↦ inr (same claim.owner.client q is) | inr none ↦ cc ]
-    ]
-
 -- the map changes
 mapped_fits : (sent : List Message) (s : MasterState) (change : Change) → FitsMessages sent s → FitsMessages sent (mapped s change)
-mapped_fits sent s change h = record { queue = h.queue; kept = h.kept; replies = h.replies; answers = h.answers; turns = h.turns; awaited = h.awaited }
+mapped_fits sent s change h = record { queue = h.queue; kept = h.kept; replies = h.replies; answers = h.answers; turns = h.turns }
 
 -- a change leaves the gate
 module _ (sent : List Message) (s : MasterState) (front : List (Waiting Task)) (task : Task) (back : List (Waiting Task)) (turn : IsNextApplied s front task back) (h : FitsMessages sent s) where
@@ -589,9 +565,6 @@ module _ (sent : List Message) (s : MasterState) (front : List (Waiting Task)) (
       let t = none_of_both (waiting q front) (put_task q task (waiting q back)) (sym (waited_before q) ∙ none) in
       waiting_append q front back ∙ ap (λ xs. xs ++ waiting q back) t.0 ∙ none_tasked q task (waiting q back) t.1
 
-  fewer_awaited : (q : ℕ) → awaits_lock q s.locks ≡ true → waiting q (front ++ back) ≡ []
-  fewer_awaited q waits = fewer q (h.awaited q waits)
-
   -- one that is no client's call
   uncalled_left : ((q : ℕ) → put_task q task (waiting q back) ≡ waiting q back) → FitsMessages sent (rest s front back)
   uncalled_left uncalled = record {
@@ -600,7 +573,6 @@ module _ (sent : List Message) (s : MasterState) (front : List (Waiting Task)) (
     replies = h.replies;
     answers = h.answers;
     turns = λ q. others q (uncalled q);
-    awaited = fewer_awaited;
   }
 
 -- what the cell does by itself
@@ -615,9 +587,6 @@ module _ (sent : List Message) (s : MasterState) (front : List (Waiting Task)) (
 
   start_left : (principal : List ℕ) (received : ℕ) → asked.work ≡ works.Starts principal received → FitsMessages sent (rest s front back)
   start_left principal received work = uncalled_left sent s front (tasks.Asked asked) back turn h (λ q. ap (λ x. put_waiting q asked.client asked.number x (waiting q back)) work)
-
-  none_awaited : (q : ℕ) → awaits_lock q s.locks ≡ true → waiting q (front ++ back) ≡ []
-  none_awaited = fewer_awaited sent s front (tasks.Asked asked) back turn h
 
   module _ (call : Call) (sequencer : Option (List ℕ)) (work : asked.work ≡ works.Calls call sequencer) where
     pub call_application : IsItsTurn (kept_of s asked.client) asked.number (waiting asked.client front) (waiting asked.client back)
@@ -639,7 +608,6 @@ module _ (sent : List Message) (s : MasterState) (front : List (Waiting Task)) (
       turns = at_each (λ q. IsInTurn (session_of s q) (waiting q (front ++ back))) asked.client
           (subst (λ xs. IsInTurn (session_of s asked.client) xs) (sym none_left) (left_turn (session_of s asked.client)))
           (λ q apart. others sent s front (tasks.Asked asked) back turn h q (waits_other q asked.client asked.number asked.work (waiting q back) apart));
-      awaited = none_awaited;
     }
 
     -- or with one
@@ -652,111 +620,85 @@ module _ (sent : List Message) (s : MasterState) (front : List (Waiting Task)) (
           let was : WasSent sent s.epoch asked.client asked.number = record { call = record { client = asked.client; epoch = s.epoch; number = asked.number; call = call; sequencer = sequencer }; found = application_sent call sequencer work; same = refl } in
           replied_kept sent s.epoch s.secret asked.client asked.number reply was (record { to = refl; answered = refl }) (plain_answer sent s.secret reply was.call was.found refl opens)
 
-      replied_left : (puts : List LockPut) → ArePutFor (λ q. waiting q (front ++ back) ≡ []) puts → FitsMessages sent (recorded (with_locks (rest s front back) puts) asked.client (answered_by reply))
-      replied_left puts from =
-          answered_by_fits sent (with_locks (rest s front back) puts) (locks_fit sent (rest s front back) call_left puts from) asked.client reply its_reply none_left
+      replied_left : (puts : List LockPut) → FitsMessages sent (recorded (with_locks (rest s front back) puts) asked.client (answered_by reply))
+      replied_left puts =
+          answered_by_fits sent (with_locks (rest s front back) puts) (locks_fit sent (rest s front back) call_left puts) asked.client reply its_reply none_left
 
       -- behind the end of its session
-      parted_left : (parting : Parting) → ArePutFor (λ q. waiting q (front ++ back) ≡ []) (lapses_puts s (lapses_of parting s asked.client)) → FitsMessages sent (recorded (with_locks (parted parting (rest s front back) asked.client) (lapses_puts s (lapses_of parting s asked.client))) asked.client (answered_by reply))
-      parted_left parting from =
+      parted_left : (parting : Parting) → FitsMessages sent (recorded (with_locks (parted parting (rest s front back) asked.client) (lapses_puts s (lapses_of parting s asked.client))) asked.client (answered_by reply))
+      parted_left parting =
           let r : MasterState = rest s front back in
           let t : MasterState = parted parting r asked.client in
           let puts = lapses_puts s (lapses_of parting s asked.client) in
           let over = right_fits sent (record r { sessions = with_session r.sessions asked.client of_session.ended }) (of_rights.ended asked.client (ending_by parting) s.rights) (expired_fits sent r call_left asked.client) in
-          answered_by_fits sent (with_locks t puts) (locks_fit sent t over puts from) asked.client reply its_reply none_left
+          answered_by_fits sent (with_locks t puts) (locks_fit sent t over puts) asked.client reply its_reply none_left
 
-    -- ---- what becomes of locks
-
-    pub moved : (made : Effect) → effect (name_space s) (caller s asked.client) s.clock asked.number call sequencer ≡ made → ShowsOwn s → MovesLocks s asked.client made.locking
-    moved made is own =
-        subst (λ (e : Effect). MovesLocks s asked.client e.locking) is (effect_moves s asked.client asked.number call sequencer (λ handle shown. own front back asked call sequencer handle turn work shown))
-
-    taken_for : (put : LockPut) → put.lock.waiters ≡ (lock_at s.locks put.instance).waiters → ArePutFor (λ q. waiting q (front ++ back) ≡ []) (put ∷ [])
-    taken_for put same = (λ q waits. none_awaited q (waits_at q put.instance s.locks (subst (λ ws. list_any (λ claim. is_of_client q claim.owner) ws ≡ true) same waits)), tt)
-
-    awaited_for : (put : LockPut) (claim : Claim) → put.lock.waiters ≡ (lock_at s.locks put.instance).waiters ++ claim ∷ [] → claim.owner.client ≡ asked.client → ArePutFor (λ q. waiting q (front ++ back) ≡ []) (put ∷ [])
-    awaited_for put claim same own = (
-      λ q waits. elim (waits_behind q (lock_at s.locks put.instance).waiters claim (subst (λ ws. list_any (λ c. is_of_client q c.owner) ws ≡ true) same waits)) [
-        | inl before ↦ none_awaited q (waits_at q put.instance s.locks before)
-        | inr is ↦ subst (λ n. waiting n (front ++ back) ≡ []) (sym own ∙ is) none_left
-      ],
-      tt,
-    )
-
-    left_for : (leave : Leave) → ComesFrom (lock_at s.locks leave.instance).waiters leave.turn → ArePutFor (λ q. waiting q (front ++ back) ≡ []) (left_put leave ∷ [])
-    left_for leave comes = (λ q waits. none_awaited q (waits_at q leave.instance s.locks (comes.left (λ claim. is_of_client q claim.owner) waits)), tt)
-
-pub sweep_fits : (sent : List Message) (s : MasterState) (c : SweepCase s) → FitsMessages sent s → ShowsOwn s → FitsMessages sent (swept_by s c).0
-sweep_fits sent s (Quiet none) h own = h
-sweep_fits sent s (Recovers recovering heard) h own = record { queue = h.queue; kept = h.kept; replies = h.replies; answers = h.answers; turns = h.turns; awaited = h.awaited }
-sweep_fits sent s (Expires client session due) h own =
+pub sweep_fits : (sent : List Message) (s : MasterState) (c : SweepCase s) → FitsMessages sent s → FitsMessages sent (swept_by s c).0
+sweep_fits sent s (Quiet none) h = h
+sweep_fits sent s (Recovers recovering heard) h = record { queue = h.queue; kept = h.kept; replies = h.replies; answers = h.answers; turns = h.turns }
+sweep_fits sent s (Expires client session due) h =
     let t = parted partings.Expiry s client in
     let puts = lapses_puts s (lapses_of partings.Expiry s client) in
     let replies = lapses_replies s (lapses_of partings.Expiry s client) in
     let ended = right_fits sent (record s { sessions = with_session s.sessions client of_session.ended }) (of_rights.ended client endings.Expiry s.rights) (expired_fits sent s h client) in
-    told_fits sent (with_locks t puts) replies (locks_fit sent t ended puts (lapses_for (λ q. waiting q s.gate.waiting ≡ []) partings.Expiry s client s.locks h.awaited))
-    (all_late sent s (with_locks t puts) replies h refl refl (λ q none. none) (lapses_late s partings.Expiry client s.locks (λ q waits. waits)))
-sweep_fits sent s (Reopens instance due) h own =
+    told_fits sent (with_locks t puts) replies (locks_fit sent t ended puts)
+    (all_late sent s (with_locks t puts) replies h refl refl (λ q none. none) (lapses_late s (lapses_of partings.Expiry s client)))
+sweep_fits sent s (Reopens instance due) h =
     let lock = lock_at s.locks instance in
     let turn = reopened lock in
     let puts = puts_of s instance turn.lock in
     told_fits sent (with_locks s puts) (turn_replies s turn)
-    (locks_fit sent s h puts (puts_for (λ q. waiting q s.gate.waiting ≡ []) s instance turn.lock (λ q waits. h.awaited q (waits_at q instance s.locks ((reopened_comes lock).left (λ claim. is_of_client q claim.owner) waits)))))
-    (all_late sent s (with_locks s puts) (turn_replies s turn) h refl refl (λ q none. none) (application_late s lock.waiters turn (reopened_comes lock) (λ q waits. waits_at q instance s.locks waits)))
-sweep_fits sent s (Tidies idle due) h own = tidies_fits sent s idle h
-sweep_fits sent s (Spared front back idle turn held) h own = tidied_left sent s front idle back turn h
-sweep_fits sent s (Tidied front back idle turn still) h own =
+    (locks_fit sent s h puts)
+    (all_late sent s (with_locks s puts) (turn_replies s turn) h refl refl (λ q none. none) (application_late s turn))
+sweep_fits sent s (Tidies idle due) h = tidies_fits sent s idle h
+sweep_fits sent s (Spared front back idle turn held) h = tidied_left sent s front idle back turn h
+sweep_fits sent s (Tidied front back idle turn still) h =
     let t : MasterState = mapped (rest s front back) (gone_change s idle) in
     let replies = gone_replies s idle in
     without_fits sent (told t replies)
     (told_fits sent t replies (mapped_fits sent (rest s front back) (gone_change s idle) (tidied_left sent s front idle back turn h))
     (all_late sent s t replies h refl refl (fewer sent s front (tasks.Tidies idle) back turn h)
-    (replies_late s (results.Refused faults.StaleInstance) (lock_at s.locks idle.instance).waiters (λ x. tt) (λ q waits. waits_at q idle.instance s.locks waits))))
+    (replies_late s (results.Refused faults.StaleInstance) (lock_at s.locks idle.instance).waiters (λ x. tt))))
     (Some idle.instance)
-sweep_fits sent s (AnswersBeat client session beat due) h own = answered_fits sent s h client s.sessions.lease s.clock
-sweep_fits sent s (TurnedAway front back asked principal received turn work may) h own = start_left sent s front asked back turn h principal received work
-sweep_fits sent s (StartedAgain front back asked principal received session turn work found live) h own =
+sweep_fits sent s (AnswersBeat client session beat due) h = answered_fits sent s h client s.sessions.lease s.clock
+sweep_fits sent s (TurnedAway front back asked principal received turn work may) h = start_left sent s front asked back turn h principal received work
+sweep_fits sent s (StartedAgain front back asked principal received session turn work found live) h =
     let t : MasterState = record s { sessions = with_session s.sessions asked.client (prolonged (s.clock + s.sessions.lease)) } in
     start_left sent t front asked back (record { number = turn.number; touched = turn.touched; waited = turn.waited; free = turn.free }) (prolonged_fits sent s h asked.client (s.clock + s.sessions.lease)) principal received work
-sweep_fits sent s (StartedFirst front back asked principal received turn work none) h own =
+sweep_fits sent s (StartedFirst front back asked principal received turn work none) h =
     let t : MasterState = record s { sessions = with_new s.sessions asked.client (session_until principal true (s.clock + s.sessions.lease)) } in
     start_left sent t front asked back (record { number = turn.number; touched = turn.touched; waited = turn.waited; free = turn.free }) (begun_fits sent s h asked.client principal (s.clock + s.sessions.lease) none) principal received work
-sweep_fits sent s (OfEnded front back asked call sequencer turn work gone) h own = call_left sent s front asked back turn h call sequencer work
-sweep_fits sent s (Departed front back asked call sequencer session turn work leave found live) h own =
+sweep_fits sent s (OfEnded front back asked call sequencer turn work gone) h = call_left sent s front asked back turn h call sequencer work
+sweep_fits sent s (Departed front back asked call sequencer session turn work leave found live) h =
     let puts = lapses_puts s (lapses_of partings.Leave s asked.client) in
     let replies = lapses_replies s (lapses_of partings.Leave s asked.client) in
     let t : MasterState = recorded (with_locks (parted partings.Leave (rest s front back) asked.client) puts) asked.client (answered_by (reply_of s asked.client asked.number results.Done)) in
     told_fits sent t replies
-    (parted_left sent s front asked back turn h call sequencer work results.Done tt partings.Leave (lapses_for (λ q. waiting q (front ++ back) ≡ []) partings.Leave s asked.client s.locks (none_awaited sent s front asked back turn h)))
-    (all_late sent s t replies h refl refl (fewer sent s front (tasks.Asked asked) back turn h) (lapses_late s partings.Leave asked.client s.locks (λ q waits. waits)))
-sweep_fits sent s (Ended front back asked call sequencer note answer turn work live made) h own =
+    (parted_left sent s front asked back turn h call sequencer work results.Done tt partings.Leave)
+    (all_late sent s t replies h refl refl (fewer sent s front (tasks.Asked asked) back turn h) (lapses_late s (lapses_of partings.Leave s asked.client)))
+sweep_fits sent s (Ended front back asked call sequencer note answer turn work stays live made) h =
     fits_note sent (recorded (rest s front back) asked.client (answered_by (reply_of s asked.client asked.number answer))) note
-    (replied_left sent s front asked back turn h call sequencer work answer (applied_opens s asked.client asked.number call sequencer _ answer made refl) [] tt)
-sweep_fits sent s (Applied front back asked call sequencer note change answer turn work live made) h own =
-    let f = replied_left sent s front asked back turn h call sequencer work answer (applied_opens s asked.client asked.number call sequencer _ answer made refl) [] tt in
+    (replied_left sent s front asked back turn h call sequencer work answer (applied_opens s asked.client asked.number call sequencer _ answer made refl) [])
+sweep_fits sent s (Applied front back asked call sequencer note change answer turn work stays live made) h =
+    let f = replied_left sent s front asked back turn h call sequencer work answer (applied_opens s asked.client asked.number call sequencer _ answer made refl) [] in
     fits_note sent (recorded (mapped (rest s front back) change) asked.client (answered_by (reply_of s asked.client asked.number answer))) note (mapped_fits sent _ change f)
-sweep_fits sent s (Deleted front back asked call sequencer change instance waiters answer turn work live made) h own =
-    let f = replied_left sent s front asked back turn h call sequencer work answer (applied_opens s asked.client asked.number call sequencer _ answer made refl) [] tt in
+sweep_fits sent s (Deleted front back asked call sequencer change instance waiters answer turn work stays live made) h =
+    let f = replied_left sent s front asked back turn h call sequencer work answer (applied_opens s asked.client asked.number call sequencer _ answer made refl) [] in
     let t : MasterState = ended (mapped (rest s front back) change) asked None answer in
     let replies = replies_to s (results.Refused faults.StaleInstance) waiters in
-    let same = moved sent s front asked back turn h call sequencer work _ made own in
     without_fits sent (told t replies)
     (told_fits sent t replies (mapped_fits sent _ change f)
     (all_late sent s t replies h refl refl (fewer sent s front (tasks.Asked asked) back turn h)
-    (replies_late s (results.Refused faults.StaleInstance) waiters (λ x. tt) (λ q waits. waits_at q instance s.locks (subst (λ ws. list_any (λ claim. is_of_client q claim.owner) ws ≡ true) same waits)))))
+    (replies_late s (results.Refused faults.StaleInstance) waiters (λ x. tt))))
     (Some instance)
-sweep_fits sent s (Locked front back asked call sequencer put claim answer turn work live made) h own =
+sweep_fits sent s (Locked front back asked call sequencer put claim answer turn work stays live made) h =
     replied_left sent s front asked back turn h call sequencer work answer (applied_opens s asked.client asked.number call sequencer _ answer made refl) (put ∷ [])
-    (taken_for sent s front asked back turn h call sequencer work put (moved sent s front asked back turn h call sequencer work _ made own))
-sweep_fits sent s (Awaited front back asked call sequencer put turn work live made) h own =
-    let claim = moved sent s front asked back turn h call sequencer work _ made own in
+sweep_fits sent s (Awaited front back asked call sequencer put turn work stays live made) h =
     locks_fit sent (rest s front back) (call_left sent s front asked back turn h call sequencer work) (put ∷ [])
-    (awaited_for sent s front asked back turn h call sequencer work put claim.0 claim.1 claim.2)
-sweep_fits sent s (Left front back asked call sequencer note leave answer turn work live made) h own =
-    let comes = moved sent s front asked back turn h call sequencer work _ made own in
+sweep_fits sent s (Left front back asked call sequencer note leave answer turn work stays live made) h =
     let t : MasterState = recorded (with_locks (rest s front back) (left_put leave ∷ [])) asked.client (answered_by (reply_of s asked.client asked.number answer)) in
     told_fits sent (with_note t note) (turn_replies s leave.turn)
-    (fits_note sent t note (replied_left sent s front asked back turn h call sequencer work answer (applied_opens s asked.client asked.number call sequencer _ answer made refl) (left_put leave ∷ []) (left_for sent s front asked back turn h call sequencer work leave comes)))
+    (fits_note sent t note (replied_left sent s front asked back turn h call sequencer work answer (applied_opens s asked.client asked.number call sequencer _ answer made refl) (left_put leave ∷ [])))
     (all_late sent s (with_note t note) (turn_replies s leave.turn) h (epoch_note t note) (secret_note t note)
     (λ q none. ap (λ (g : GateState Task). waiting q g.waiting) (gate_note t note) ∙ fewer sent s front (tasks.Asked asked) back turn h q none)
-    (application_late s (lock_at s.locks leave.instance).waiters leave.turn comes (λ q waits. waits_at q leave.instance s.locks waits)))
+    (application_late s leave.turn))

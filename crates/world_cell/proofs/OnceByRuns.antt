@@ -1,6 +1,6 @@
 -- Why each call is applied at most once.
 use Rattle.std.proofs.Common.{◌≡◌, ℕ, ◌+◌, ◌≤◌, List, [], ◌∷◌, ◌++◌, Bool, true, false, cond, Option, Some, None, Result, Ok, Err, refl, sym, ap, ◌∙◌, inl, inr, arith, eqb, subst, map}
-use Rattle.std.specs.Prelude.{◌==◌}
+use Rattle.std.specs.Prelude.{◌==◌, ◌&&◌, not}
 use Rattle.std.specs.Option.{option_map_or}
 use Rattle.std.specs.List.{AllByRecursion}
 use Rattle.tags_cell.specs.Numbers.{is_client_number}
@@ -46,13 +46,14 @@ use Rattle.master_parts.specs.Answered.{answered_by}
 use Rattle.node_core.specs.Nodes.{with_parent}
 use Rattle.cell_core.specs.Step.{recorded, queued, with_call, asking, asking_for, names_of}
 use Rattle.cell_core.specs.Cases.{IsBehind, TakeCase, taken_by}
+use Rattle.master_state.specs.CallsWaiting.{has_call}
 use Rattle.master_state.specs.Replies.{replies_to, turn_replies, locked_lines, puts_of}
 use Rattle.cell_core.specs.Outcomes.{leave_lines, left_put}
 use Rattle.master_state.specs.Lapses.{lapses_lines, lapses_of, lapses_puts, lapses_replies, parting_lines}
 use Rattle.cell_core.specs.declared.effects.Leave.{Leave}
 use Rattle.over_core.specs.SweepCase.{IsNextApplied, SweepCase, swept_by, rest, ended, mapped, told, parted, gone_change, gone_replies}
 use Rattle.over_core.proofs.SweepCases.{action_tellings}
-use Rattle.cell_core.specs.Cases.TakeCase.{StartRefused, OldBeat, BeatRefused, BeatParked, OldEpoch, NoSession, LeftBefore, Repeated, OlderCall, Outstanding, Recovering, Answered, Granted, Waits}
+use Rattle.cell_core.specs.Cases.TakeCase.{StartRefused, OldBeat, BeatRefused, BeatParked, OldEpoch, NoSession, LeftBefore, Repeated, OlderCall, Outstanding, LeavesBeside, Recovering, Answered, Granted, Waits}
 use Rattle.over_core.specs.SweepCase.SweepCase.{Quiet, Recovers, Expires, Reopens, Tidies, Spared, Tidied, AnswersBeat, TurnedAway, StartedAgain, Started as StartedFirst, OfEnded, Ended, Applied, Deleted, Locked, Awaited, Left, Departed}
 use Rattle.world_steps.specs.declared.steps.Step.{Step}
 use Rattle.client_core.specs.State.{ClientState}
@@ -192,9 +193,19 @@ asking_past sent s [] client last h = h
 asking_past sent s (name ∷ names) client last h =
     asking_past sent (asking s name) names client last (same_past sent s.epoch client (kept_of s client) _ last (kept_issued (clients_to_ask name s.rights) s.sessions client) h)
 
+-- a call beside one that waits is above it
+beside_above : (sent : List Message) (epoch client number : ℕ) (o : Option (LastCall Reply)) (kept : LastCall Reply) (last : Option ℕ) → o ≡ Some kept → kept.reply ≡ None → kept.number < number → PastKept sent epoch client o last → IsAbove last number
+beside_above sent epoch client number o kept None is none more h = tt
+beside_above sent epoch client number o kept (Some l) is none more h =
+    let there : PastKept sent epoch client (Some kept) (Some l) = subst (λ x. PastKept sent epoch client x (Some l)) is h in
+    let k : PastResult kept.number None (Some l) = subst (λ x. PastResult kept.number x (Some l)) none there in omega (arith, k, more)
+
 take_past : (sent : List Message) (s : MasterState) (request : Request) (c : TakeCase s request) (client : ℕ) (last : Option ℕ) → WasAsked sent request → PastMaster sent client s last → PastMaster sent client (taken_by s request c).0 last
 take_past sent s request (BeatParked beat is epoch taken) client last asked h =
     same_past sent s.epoch client (kept_of s client) _ last (kept_stays s.sessions beat.client (beaten beat s.clock) (λ session. refl) client) h
+take_past sent s request (LeavesBeside message heard beside) client last asked h =
+    put_past sent s message.client client (record { number = message.number; reply = None }) last heard.live
+    (λ is. beside_above sent s.epoch message.client message.number (kept_of s message.client) beside.kept last beside.found beside.none beside.more (subst (λ q. PastMaster sent q s last) (sym is) h)) h
 take_past sent s request (Recovering message new recovering) client last asked h =
     put_past sent s message.client client (answered_by (reply_of s message.client message.number (results.Refused faults.Recovering))) last new.heard.live
     (λ is. above_from last message.number (call_above sent s client last message new.behind (asked message new.heard.is_call) new.heard.epoch h is)) h
@@ -314,7 +325,7 @@ module _ (s : MasterState) (client : ℕ) (last : Option ℕ) (from : (kept : La
   claims_from answer [] = tt
   claims_from answer (claim ∷ claims) =
       let whose = claim.owner.client in
-      from_both client last _ (replies_to s answer claims) (one_from answer whose (is_client_number whose) (kept_of s whose) refl) (claims_from answer claims)
+      from_both client last _ (replies_to s answer claims) (one_from answer whose (is_client_number whose && not (has_call whose s.gate.waiting)) (kept_of s whose) refl) (claims_from answer claims)
 
   pub turn_from : (turn : Turn) → AreFrom client last (turn_replies s turn)
   turn_from turn =
@@ -453,22 +464,22 @@ module _ (sent : List Message) (s : MasterState) (client : ℕ) (last : Option �
   sweep_past (StartedFirst front back asked principal received turn work none) =
       record { rises = tt; past = same_past sent s.epoch client (kept_of s client) _ last (kept_begins s.sessions asked.client (session_until principal true (s.clock + s.sessions.lease)) none refl client) h }
   sweep_past (OfEnded front back asked call sequencer turn work gone) = record { rises = tt; past = h }
-  sweep_past (Ended front back asked call sequencer note answer turn work live made) =
+  sweep_past (Ended front back asked call sequencer note answer turn work stays live made) =
       record { rises = tt; past = unapplied_past (rest s front back) front back asked call sequencer note answer refl refl live turn work }
-  sweep_past (Applied front back asked call sequencer note change answer turn work live made) =
+  sweep_past (Applied front back asked call sequencer note change answer turn work stays live made) =
       let t = applied_past (mapped (rest s front back) change) front back asked call sequencer note answer refl refl live turn work (asked.client == client) refl in
       record { rises = t.rises; past = t.past }
-  sweep_past (Deleted front back asked call sequencer change instance waiters answer turn work live made) =
+  sweep_past (Deleted front back asked call sequencer change instance waiters answer turn work stays live made) =
       let m = mapped (rest s front back) change in
       let t = applied_past m front back asked call sequencer None answer refl refl live turn work (asked.client == client) refl in
       let next : Option ℕ = last_after last (cond (asked.client == client) (asked.number ∷ []) []) in
       let answer_all = results.Refused faults.StaleInstance in
       record { rises = t.rises; past = told_past sent (ended m asked None answer) client next (replies_to s answer_all waiters) (claims_from s client next t.from answer_all waiters) t.past }
-  sweep_past (Locked front back asked call sequencer put claim answer turn work live made) =
+  sweep_past (Locked front back asked call sequencer put claim answer turn work stays live made) =
       record { rises = tt; past = unapplied_past (with_locks (rest s front back) (put ∷ [])) front back asked call sequencer None answer refl refl live turn work }
-  sweep_past (Awaited front back asked call sequencer put turn work live made) = record { rises = tt; past = h }
-  sweep_past (Left front back asked call sequencer note leave answer turn work live made) =
-      let c : SweepCase s = Left front back asked call sequencer note leave answer turn work live made in
+  sweep_past (Awaited front back asked call sequencer put turn work stays live made) = record { rises = tt; past = h }
+  sweep_past (Left front back asked call sequencer note leave answer turn work stays live made) =
+      let c : SweepCase s = Left front back asked call sequencer note leave answer turn work stays live made in
       let t = with_locks (rest s front back) (left_put leave ∷ []) in
       none_on (swept_by s c).1.lines (swept_by s c).0 (left_applied client asked.client leave)
       (told_past sent (ended t asked note answer) client last (turn_replies s leave.turn) (turn_from s client last still_from leave.turn)
@@ -497,16 +508,16 @@ counted_put w h s front back asked call sequencer client last turn work fits cou
     ]) refl
 
 applied_counted : (w : WorldState) (h : IsConsistent w) (s : MasterState) (c : SweepCase s) (client : ℕ) (last : Option ℕ) → 1 ≤ client → FitsMessages w.messages s → IsCounted w client last → IsCounted w client (last_after last (applied client (swept_by s c).1.lines))
-applied_counted w h s (Applied front back asked call sequencer _ change answer turn work live made) client last some fits counted =
+applied_counted w h s (Applied front back asked call sequencer _ change answer turn work stays live made) client last some fits counted =
     counted_put w h s front back asked call sequencer client last turn work fits counted
-applied_counted w h s (Deleted front back asked call sequencer change instance waiters answer turn work live made) client last some fits counted =
+applied_counted w h s (Deleted front back asked call sequencer change instance waiters answer turn work stays live made) client last some fits counted =
     counted_put w h s front back asked call sequencer client last turn work fits counted
 applied_counted w h s (Expires whose session due) client last some fits counted = subst (λ numbers. IsCounted w client (last_after last numbers)) (sym (lapses_applied partings.Expiry client s whose)) counted
 applied_counted w h s (Departed front back asked call sequencer session turn work leave found live) client last some fits counted =
     subst (λ numbers. IsCounted w client (last_after last numbers)) (sym (lapses_applied partings.Leave client s asked.client)) counted
 applied_counted w h s (Reopens instance due) client last some fits counted =
     subst (λ numbers. IsCounted w client (last_after last numbers)) (sym (reopened_applied client instance (reopened (lock_at s.locks instance)))) counted
-applied_counted w h s (Left front back asked call sequencer _ leave answer turn work live made) client last some fits counted = subst (λ numbers. IsCounted w client (last_after last numbers)) (sym (left_applied client asked.client leave)) counted
+applied_counted w h s (Left front back asked call sequencer _ leave answer turn work stays live made) client last some fits counted = subst (λ numbers. IsCounted w client (last_after last numbers)) (sym (left_applied client asked.client leave)) counted
 applied_counted w h s (Tidied front back idle turn still) client last some fits counted = subst (λ numbers. IsCounted w client (last_after last numbers)) (sym (own_applied client (gone_change s idle).change [] some)) counted
 applied_counted w h s _ client last some fits counted = counted
 

@@ -1,6 +1,5 @@
 -- Of a consistent world, behind each step, each reply that was sent is to a call that was sent before.
-use Rattle.std.proofs.Common.{◌≡◌, ℕ, true, false, List, [], ◌∷◌, ◌++◌, Option, Some, None, refl, sym, ap, ◌∙◌, inl, inr, subst, map}
-use Rattle.std.specs.List.{list_any}
+use Rattle.std.proofs.Common.{◌≡◌, ℕ, false, List, [], ◌∷◌, ◌++◌, Option, Some, None, refl, sym, ap, ◌∙◌, inl, inr, subst, map}
 use Rattle.node_core.specs.declared.refusals.Fault.TheVariants as faults
 use Rattle.node_core.specs.declared.lines.Line.{Line}
 use Rattle.node_core.specs.declared.views.Mod.{Mod}
@@ -19,13 +18,13 @@ use Rattle.tags_cell.specs.declared.messages.outs.Out.TheVariants as outs
 use Rattle.tags_cell.specs.declared.messages.outs.Reply.{Reply}
 use Rattle.session_core.specs.declared.records.LastCall.{LastCall}
 use Rattle.cell_core.proofs.Told.{told_is_shown}
-use Rattle.lock_core.specs.Turns.{is_of_client, reopened}
+use Rattle.lock_core.specs.Turns.{reopened}
 use Rattle.lock_core.specs.Locks.{lock_at}
 use Rattle.master_state.specs.State.{MasterState}
 use Rattle.master_state.specs.Updates.{edit_of, lock_changes, with_note}
 use Rattle.master_state.specs.Lookups.{kept_of, reply_of, stamped_reply, repeated_reply, noted}
 use Rattle.cell_core.specs.Cases.{TakeCase, taken_by}
-use Rattle.cell_core.specs.Cases.TakeCase.{StartQueued, BeatParked, LeftBefore, Repeated, Recovering, Answered, Granted, Waits}
+use Rattle.cell_core.specs.Cases.TakeCase.{StartQueued, BeatParked, LeftBefore, Repeated, LeavesBeside, Recovering, Answered, Granted, Waits}
 use Rattle.master_parts.specs.declared.pending.WaitingRequest.{WaitingRequest}
 use Rattle.master_parts.specs.declared.pending.Task.{Task}
 use Rattle.master_parts.specs.declared.pending.Task.TheVariants as tasks
@@ -43,10 +42,8 @@ use Rattle.world_steps.specs.Messages.{out_at, call_of}
 use Rattle.world_steps.specs.World.{WorldState}
 use Rattle.world_cell.specs.Consistent.{OpensAs, IsAnswer, FitsMessages, IsConsistent}
 use Rattle.world_cell.proofs.MessagesGrow.{out_more, out_among, one_no_out}
-use Rattle.world_cell.proofs.LockWaiters.{reopened_comes, waits_at}
 use Rattle.world_cell.proofs.LateReplies.{IsLate, AreLate, replies_late, application_late, lapses_late}
-use Rattle.world_cell.proofs.MasterFits.{WasAsked, ShowsOwn, secret_note, application_sent, moved}
-use Rattle.world_cell.proofs.AwaitedCalls.{shows_own}
+use Rattle.world_cell.proofs.MasterFits.{WasAsked, secret_note, application_sent}
 use Rattle.world_cell.proofs.AnswersSent.{answer_stays, plain_answer, told_answer, answered_opens, applied_opens, AreAnswers, answer_at}
 use Rattle.world_cell.proofs.OpensNamed.{answer_opens}
 use Rattle.world_cell.proofs.RelockedRows.{let_go, relocked_rows}
@@ -76,6 +73,7 @@ taken_answers sent s request (StartQueued start is may serving room) h asked = t
 taken_answers sent s request (BeatParked beat is epoch taken) h asked = tt
 taken_answers sent s request (LeftBefore message kept request_is same_epoch ended is same) h asked = sends_again sent s message.client kept kept.reply h is refl
 taken_answers sent s request (Repeated message kept heard is same) h asked = sends_again sent s message.client kept kept.reply h is refl
+taken_answers sent s request (LeavesBeside message heard beside) h asked = tt
 taken_answers sent s request (Recovering message new recovering) h asked = sends_plain sent s message.client message.number (results.Refused faults.Recovering) message (asked message new.heard.is_call) tt
 taken_answers sent s request (Answered message note answer new serving answered) h asked =
     subst (λ secret. Sends sent secret (outs.Reply (reply_of (with_note s note) message.client message.number answer) ∷ [])) (secret_note s note)
@@ -111,38 +109,36 @@ module _ (sent : List Message) (s : MasterState) (front : List (Waiting Task)) (
       let found = application_sent sent s front asked back turn h call sequencer work in
       (answer_stays sent more s.secret reply (plain_answer sent s.secret reply (record { client = asked.client; epoch = s.epoch; number = asked.number; call = call; sequencer = sequencer }) found refl opens), late_answers sent more s replies h late)
 
-pub swept_answers : (sent : List Message) (s : MasterState) (c : SweepCase s) → FitsMessages sent s → ShowsOwn s → Sends sent s.secret (swept_by s c).1.outs
-swept_answers sent s (Quiet none) h own = tt
-swept_answers sent s (Recovers recovering heard) h own = tt
-swept_answers sent s (Expires client session due) h own = sends_late sent s (lapses_replies s (lapses_of partings.Expiry s client)) h (lapses_late s partings.Expiry client s.locks (λ q waits. waits))
-swept_answers sent s (Departed front back asked call sequencer session turn work leave found live) h own =
+pub swept_answers : (sent : List Message) (s : MasterState) (c : SweepCase s) → FitsMessages sent s → Sends sent s.secret (swept_by s c).1.outs
+swept_answers sent s (Quiet none) h = tt
+swept_answers sent s (Recovers recovering heard) h = tt
+swept_answers sent s (Expires client session due) h = sends_late sent s (lapses_replies s (lapses_of partings.Expiry s client)) h (lapses_late s (lapses_of partings.Expiry s client))
+swept_answers sent s (Departed front back asked call sequencer session turn work leave found live) h =
     application_answers sent s front asked back turn h call sequencer work results.Done (lapses_replies s (lapses_of partings.Leave s asked.client)) tt
-    (lapses_late s partings.Leave asked.client s.locks (λ q waits. waits))
-swept_answers sent s (Reopens instance due) h own =
+    (lapses_late s (lapses_of partings.Leave s asked.client))
+swept_answers sent s (Reopens instance due) h =
     let lock = lock_at s.locks instance in
-    sends_late sent s (turn_replies s (reopened lock)) h (application_late s lock.waiters (reopened lock) (reopened_comes lock) (λ q waits. waits_at q instance s.locks waits))
-swept_answers sent s (Tidies idle due) h own = tt
-swept_answers sent s (Spared front back idle turn held) h own = tt
-swept_answers sent s (Tidied front back idle turn still) h own =
-    sends_late sent s (gone_replies s idle) h (replies_late s (results.Refused faults.StaleInstance) (lock_at s.locks idle.instance).waiters (λ x. tt) (λ q waits. waits_at q idle.instance s.locks waits))
-swept_answers sent s (OfEnded front back asked call sequencer turn work gone) h own = tt
-swept_answers sent s (Ended front back asked call sequencer _ answer turn work live made) h own =
+    sends_late sent s (turn_replies s (reopened lock)) h (application_late s (reopened lock))
+swept_answers sent s (Tidies idle due) h = tt
+swept_answers sent s (Spared front back idle turn held) h = tt
+swept_answers sent s (Tidied front back idle turn still) h =
+    sends_late sent s (gone_replies s idle) h (replies_late s (results.Refused faults.StaleInstance) (lock_at s.locks idle.instance).waiters (λ x. tt))
+swept_answers sent s (OfEnded front back asked call sequencer turn work gone) h = tt
+swept_answers sent s (Ended front back asked call sequencer _ answer turn work stays live made) h =
     application_answers sent s front asked back turn h call sequencer work answer [] (applied_opens s asked.client asked.number call sequencer _ answer made refl) tt
-swept_answers sent s (Applied front back asked call sequencer _ change answer turn work live made) h own =
+swept_answers sent s (Applied front back asked call sequencer _ change answer turn work stays live made) h =
     application_answers sent s front asked back turn h call sequencer work answer [] (applied_opens s asked.client asked.number call sequencer _ answer made refl) tt
-swept_answers sent s (Deleted front back asked call sequencer change instance waiters answer turn work live made) h own =
+swept_answers sent s (Deleted front back asked call sequencer change instance waiters answer turn work stays live made) h =
     let gone = results.Refused faults.StaleInstance in
-    let same = moved sent s front asked back turn h call sequencer work _ made own in
     application_answers sent s front asked back turn h call sequencer work answer (replies_to s gone waiters) (applied_opens s asked.client asked.number call sequencer _ answer made refl)
-    (replies_late s gone waiters (λ x. tt) (λ q waits. waits_at q instance s.locks (subst (λ ws. list_any (λ claim. is_of_client q claim.owner) ws ≡ true) same waits)))
-swept_answers sent s (Locked front back asked call sequencer put claim answer turn work live made) h own =
+    (replies_late s gone waiters (λ x. tt))
+swept_answers sent s (Locked front back asked call sequencer put claim answer turn work stays live made) h =
     application_answers sent s front asked back turn h call sequencer work answer [] (applied_opens s asked.client asked.number call sequencer _ answer made refl) tt
-swept_answers sent s (Awaited front back asked call sequencer put turn work live made) h own = tt
-swept_answers sent s (Left front back asked call sequencer _ leave answer turn work live made) h own =
-    let comes = moved sent s front asked back turn h call sequencer work _ made own in
+swept_answers sent s (Awaited front back asked call sequencer put turn work stays live made) h = tt
+swept_answers sent s (Left front back asked call sequencer _ leave answer turn work stays live made) h =
     application_answers sent s front asked back turn h call sequencer work answer (turn_replies s leave.turn) (applied_opens s asked.client asked.number call sequencer _ answer made refl)
-    (application_late s (lock_at s.locks leave.instance).waiters leave.turn comes (λ q waits. waits_at q leave.instance s.locks waits))
-swept_answers sent s _ h own = (tt, tt)
+    (application_late s leave.turn)
+swept_answers sent s _ h = (tt, tt)
 
 -- ---- the cell's secret stays
 
@@ -156,12 +152,12 @@ swept_secret rows s (Expires client session due) =
 swept_secret rows s (Departed front back asked call sequencer session turn work leave found live) =
     (let_go rows (lock_changes s (lapses_puts s (lapses_of partings.Leave s asked.client))) asked.client (record { principal = session.principal; live = false })).beside.secret
 swept_secret rows s (Reopens instance due) = (relocked_rows rows (lock_changes s (puts_of s instance (reopened (lock_at s.locks instance)).lock))).beside.secret
-swept_secret rows s (Applied front back asked call sequencer _ change answer turn work live made) = mod_secret rows change.change change.next_instance
-swept_secret rows s (Deleted front back asked call sequencer change instance waiters answer turn work live made) = mod_secret rows change.change change.next_instance
+swept_secret rows s (Applied front back asked call sequencer _ change answer turn work stays live made) = mod_secret rows change.change change.next_instance
+swept_secret rows s (Deleted front back asked call sequencer change instance waiters answer turn work stays live made) = mod_secret rows change.change change.next_instance
 swept_secret rows s (Tidied front back idle turn still) = mod_secret rows (Gone idle.name) s.next_instance
-swept_secret rows s (Locked front back asked call sequencer put claim answer turn work live made) = (relocked_rows rows (lock_changes s (put ∷ []))).beside.secret
-swept_secret rows s (Awaited front back asked call sequencer put turn work live made) = (relocked_rows rows (lock_changes s (put ∷ []))).beside.secret
-swept_secret rows s (Left front back asked call sequencer _ leave answer turn work live made) = (relocked_rows rows (lock_changes s (left_put leave ∷ []))).beside.secret
+swept_secret rows s (Locked front back asked call sequencer put claim answer turn work stays live made) = (relocked_rows rows (lock_changes s (put ∷ []))).beside.secret
+swept_secret rows s (Awaited front back asked call sequencer put turn work stays live made) = (relocked_rows rows (lock_changes s (put ∷ []))).beside.secret
+swept_secret rows s (Left front back asked call sequencer _ leave answer turn work stays live made) = (relocked_rows rows (lock_changes s (left_put leave ∷ []))).beside.secret
 swept_secret rows s _ = refl
 
 -- ---- the messages behind a step
@@ -215,7 +211,7 @@ replies_answer old step new printed h (Sweeps t) =
     let s = noted t.master old.clock in
     subst AllReplied (sym t.is) (subst (λ (secret : List ℕ). AllAnswer (old.messages ++ map ToClient (swept_by s t.case).1.outs) secret) (sym (swept_secret old.rows s t.case))
     (more_answer old.messages (swept_by s t.case).1.outs old.rows.secret h.answers
-    (subst (λ (secret : List ℕ). Sends old.messages secret (swept_by s t.case).1.outs) (secret_at old h t.master t.is_up) (swept_answers old.messages s t.case (noted_fits old h t.master t.is_up) (shows_own s (agrees_at old old.master t.master t.is_up h.master).own)))))
+    (subst (λ (secret : List ℕ). Sends old.messages secret (swept_by s t.case).1.outs) (secret_at old h t.master t.is_up) (swept_answers old.messages s t.case (noted_fits old h t.master t.is_up)))))
 replies_answer old step new printed h (GoesDown d) = subst AllReplied (sym d.is) h.answers
 replies_answer old step new printed h (CutsSweep k) =
     let t = k.sweeps in

@@ -122,13 +122,13 @@ swept_tells rows s (Departed front back asked call sequencer session turn work l
 swept_tells rows s (Reopens instance due) =
     let turn = reopened (lock_at s.locks instance) in
     relocked_tells rows (lock_changes s (puts_of s instance turn.lock)) (lines.Reopened instance ∷ locked_lines instance turn) (reopened_of_locks instance turn)
-swept_tells rows s (Applied front back asked call sequencer _ change answer turn work live made) = mod_tells rows asked.client asked.number change.change (put_listing s.nodes change.change) change.next_instance
-swept_tells rows s (Deleted front back asked call sequencer change instance waiters answer turn work live made) = mod_tells rows asked.client asked.number change.change (put_listing s.nodes change.change) change.next_instance
+swept_tells rows s (Applied front back asked call sequencer _ change answer turn work stays live made) = mod_tells rows asked.client asked.number change.change (put_listing s.nodes change.change) change.next_instance
+swept_tells rows s (Deleted front back asked call sequencer change instance waiters answer turn work stays live made) = mod_tells rows asked.client asked.number change.change (put_listing s.nodes change.change) change.next_instance
 swept_tells rows s (Tidied front back idle turn still) = mod_tells rows 0 0 (Gone idle.name) [] s.next_instance
-swept_tells rows s (Locked front back asked call sequencer put claim answer turn work live made) =
+swept_tells rows s (Locked front back asked call sequencer put claim answer turn work stays live made) =
     relocked_tells rows (lock_changes s (put ∷ [])) (locked_line put.instance put.lock.generation claim ∷ []) (record { quiet = (tt, tt, tt); others = (tt, tt); kept = refl })
-swept_tells rows s (Awaited front back asked call sequencer put turn work live made) = relocked_tells rows (lock_changes s (put ∷ [])) [] (record { quiet = tt; others = tt; kept = refl })
-swept_tells rows s (Left front back asked call sequencer _ leave answer turn work live made) =
+swept_tells rows s (Awaited front back asked call sequencer put turn work stays live made) = relocked_tells rows (lock_changes s (put ∷ [])) [] (record { quiet = tt; others = tt; kept = refl })
+swept_tells rows s (Left front back asked call sequencer _ leave answer turn work stays live made) =
     relocked_tells rows (lock_changes s (left_put leave ∷ [])) (leave_lines asked.client leave) (left_of_locks asked.client leave)
 swept_tells rows s _ = record { is_map = refl; is_epoch = refl }
 

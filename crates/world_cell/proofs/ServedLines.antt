@@ -306,11 +306,11 @@ swept_other s (Expires client session due) = ended_other partings.Expiry s clien
 swept_other s (Leaves front back asked call sequencer session turn work leave found live) = ended_other partings.Leave s asked.client
 swept_other s (Reopens instance due) = (reopened_of_locks instance (reopened (lock_at s.locks instance))).others
 swept_other s (StartedFirst front back asked principal received turn work none) = (tt, tt)
-swept_other s (Applied front back asked call sequencer _ change answer turn work live made) = (tt, tt)
-swept_other s (Deleted front back asked call sequencer change instance waiters answer turn work live made) = (tt, tt)
+swept_other s (Applied front back asked call sequencer _ change answer turn work stays live made) = (tt, tt)
+swept_other s (Deleted front back asked call sequencer change instance waiters answer turn work stays live made) = (tt, tt)
 swept_other s (Tidied front back idle turn still) = (tt, tt)
-swept_other s (Locked front back asked call sequencer put claim answer turn work live made) = (tt, tt)
-swept_other s (Left front back asked call sequencer _ leave answer turn work live made) = (left_of_locks asked.client leave).others
+swept_other s (Locked front back asked call sequencer put claim answer turn work stays live made) = (tt, tt)
+swept_other s (Left front back asked call sequencer _ leave answer turn work stays live made) = (left_of_locks asked.client leave).others
 swept_other s _ = tt
 
 -- ---- a step

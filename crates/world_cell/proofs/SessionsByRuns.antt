@@ -126,13 +126,13 @@ swept_tells client rows s (Reopens instance due) =
     let turn = reopened (lock_at s.locks instance) in
     relocked_tells client rows (lock_changes s (puts_of s instance turn.lock)) (lines.Reopened instance ∷ locked_lines instance turn) (reopened_of_locks instance turn)
 swept_tells client rows s (StartedFirst front back asked principal received turn work none) = put_lives client asked.client (record { principal = principal; live = true }) rows
-swept_tells client rows s (Applied front back asked call sequencer _ change answer turn work live made) = mod_lives client rows change.change change.next_instance
-swept_tells client rows s (Deleted front back asked call sequencer change instance waiters answer turn work live made) = mod_lives client rows change.change change.next_instance
+swept_tells client rows s (Applied front back asked call sequencer _ change answer turn work stays live made) = mod_lives client rows change.change change.next_instance
+swept_tells client rows s (Deleted front back asked call sequencer change instance waiters answer turn work stays live made) = mod_lives client rows change.change change.next_instance
 swept_tells client rows s (Tidied front back idle turn still) = mod_lives client rows (Gone idle.name) s.next_instance
-swept_tells client rows s (Locked front back asked call sequencer put claim answer turn work live made) =
+swept_tells client rows s (Locked front back asked call sequencer put claim answer turn work stays live made) =
     relocked_tells client rows (lock_changes s (put ∷ [])) (locked_line put.instance put.lock.generation claim ∷ []) (record { quiet = (tt, tt, tt); others = (tt, tt); kept = refl })
-swept_tells client rows s (Awaited front back asked call sequencer put turn work live made) = relocked_tells client rows (lock_changes s (put ∷ [])) [] (record { quiet = tt; others = tt; kept = refl })
-swept_tells client rows s (Left front back asked call sequencer _ leave answer turn work live made) =
+swept_tells client rows s (Awaited front back asked call sequencer put turn work stays live made) = relocked_tells client rows (lock_changes s (put ∷ [])) [] (record { quiet = tt; others = tt; kept = refl })
+swept_tells client rows s (Left front back asked call sequencer _ leave answer turn work stays live made) =
     relocked_tells client rows (lock_changes s (left_put leave ∷ [])) (leave_lines asked.client leave) (left_of_locks asked.client leave)
 swept_tells client rows s _ = refl
 

@@ -54,7 +54,7 @@ module _ (w : WorldState) (fits : IsConsistent w) (c : ℕ) (x : List ℕ) where
   leaves_off s up front back asked call sequencer turn work leave =
       let there = noted s w.clock in
       let f : FitsMessages w.messages s = subst (Fits w) up fits.fits in
-      let queue : FitsMessages w.messages there = record { queue = f.queue; kept = f.kept; replies = f.replies; answers = f.answers; turns = f.turns; awaited = f.awaited } in
+      let queue : FitsMessages w.messages there = record { queue = f.queue; kept = f.kept; replies = f.replies; answers = f.answers; turns = f.turns } in
       let sent = fits.sent asked.client asked.number (record { client = asked.client; epoch = s.epoch; number = asked.number; call = call; sequencer = sequencer }) (application_sent w.messages there front asked back turn queue call sequencer work) in
       ap (λ o. (client_of x o).off) sent.joined ∙ sent.leaves leave
 

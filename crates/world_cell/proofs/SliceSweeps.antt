@@ -867,17 +867,17 @@ module _ (x : List ℕ) (w : WorldState) (s : MasterState) (knows : IsKnown w s)
       (λ own. subst (λ (z : ℕ). Goes z x w s (left_rows front back asked turn call sequencer session work leave found live) (left_master front back asked turn call sequencer session work leave found live) (sent (left_answers front back asked turn call sequencer session work leave found live))) (sym (is_same c asked.client own))
       (own_leave front back asked turn call sequencer session work leave found live (off front back asked call sequencer turn work leave)))
       (λ other. other_leave front back asked turn call sequencer session work leave found live c other)
-  sweep_by off c (Ended front back asked call sequencer note answer turn work live made) = replies front back asked turn c w.rows (rest s front back) note answer [] (plain_rows front back (tasks.Asked asked) turn c) tt refl refl refl refl s.epoch
-  sweep_by off c (Applied front back asked call sequencer note change answer turn work live made) =
+  sweep_by off c (Ended front back asked call sequencer note answer turn work stays live made) = replies front back asked turn c w.rows (rest s front back) note answer [] (plain_rows front back (tasks.Asked asked) turn c) tt refl refl refl refl s.epoch
+  sweep_by off c (Applied front back asked call sequencer note change answer turn work stays live made) =
       replies front back asked turn c (changed_rows w.rows (edit_of change.change ∷ NextInstance change.next_instance ∷ [])) (mapped (rest s front back) change) note answer []
       (changed_rows_of front back asked turn c call sequencer change work (ap (λ e. e.change) made)) tt refl refl refl refl s.epoch
-  sweep_by off c (Deleted front back asked call sequencer change instance waiters answer turn work live made) =
+  sweep_by off c (Deleted front back asked call sequencer change instance waiters answer turn work stays live made) =
       replies front back asked turn c (changed_rows w.rows (edit_of change.change ∷ NextInstance change.next_instance ∷ [])) (mapped (rest s front back) change) None answer (replies_to s (results.Refused faults.StaleInstance) waiters)
       (changed_rows_of front back asked turn c call sequencer change work (ap (λ e. e.change) made)) (waiters_unstamped s (results.Refused faults.StaleInstance) waiters) refl refl refl refl s.epoch
-  sweep_by off c (Locked front back asked call sequencer put claim answer turn work live made) =
+  sweep_by off c (Locked front back asked call sequencer put claim answer turn work stays live made) =
       replies front back asked turn c (changed_rows w.rows (relocking s (put ∷ []))) (with_locks (rest s front back) (put ∷ [])) None answer [] (relocked_rows_of front back (tasks.Asked asked) turn c (put ∷ [])) tt refl refl refl refl s.epoch
-  sweep_by off c (Awaited front back asked call sequencer put turn work live made) = awaits front back (tasks.Asked asked) turn c (put ∷ [])
-  sweep_by off c (Left front back asked call sequencer note leave answer turn work live made) =
+  sweep_by off c (Awaited front back asked call sequencer put turn work stays live made) = awaits front back (tasks.Asked asked) turn c (put ∷ [])
+  sweep_by off c (Left front back asked call sequencer note leave answer turn work stays live made) =
       replies front back asked turn c (changed_rows w.rows (relocking s (left_put leave ∷ []))) (with_locks (rest s front back) (left_put leave ∷ [])) note answer (turn_replies s leave.turn)
       (relocked_rows_of front back (tasks.Asked asked) turn c (left_put leave ∷ [])) (application_unstamped s leave.turn) refl refl refl refl s.epoch
 

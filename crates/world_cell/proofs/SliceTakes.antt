@@ -35,7 +35,7 @@ use Rattle.cell_core.specs.declared.asking.TouchedNames.{TouchedNames}
 use Rattle.cell_core.specs.Step.{replied, granting, queued, waits, parked, is_cachable}
 use Rattle.cell_core.specs.Names.{name_asked, shown_by}
 use Rattle.cell_core.specs.Cases.{IsHeard, IsGranted, TakeCase, taken_by}
-use Rattle.cell_core.specs.Cases.TakeCase.{StartQueued, BeatParked, LeftBefore, Repeated, Recovering, Answered, Granted, Waits}
+use Rattle.cell_core.specs.Cases.TakeCase.{StartQueued, BeatParked, LeftBefore, Repeated, LeavesBeside, Recovering, Answered, Granted, Waits}
 use Rattle.cell_core.proofs.Told.{told_is_shown}
 use Rattle.over_core.specs.Kept.{IsKept}
 use Rattle.world_steps.specs.Messages.{request_at, call_of}
@@ -305,6 +305,7 @@ module _ (c : ℕ) (x : List ℕ) (w : WorldState) (s : MasterState) (knows : Is
       beat_comes x w s knows beat c (beat_sent beat.client w.messages at (requests.Beat beat) (as_beat x w s knows beat) (sent ∙ ap (λ r. Some r) is) (λ beats. first_in (beat.client == beat.client) (as_beat x w s knows beat) beats (same_test beat.client beat.client refl))) same taken
   take_by at request (LeftBefore message kept request_is same_epoch ended is same) sent = repeats message.client kept kept.reply is refl
   take_by at request (Repeated message kept heard is same) sent = repeats message.client kept kept.reply is refl
+  take_by at request (LeavesBeside message heard beside) sent = queues None message None beside.serving
   take_by at request (Recovering message new recovering) sent = replies None message.client message.number (results.Refused faults.Recovering)
   take_by at request (Answered message note answer new serving answered) sent = replies note message.client message.number answer
   take_by at request (Granted message note answer name new serving granted) sent = grants at request note message answer name sent new.heard serving granted
@@ -317,7 +318,7 @@ behind_take w s request case = record w { master = Some (taken_by (noted s w.clo
 
 heard_then : (w : WorldState) (s : MasterState) → IsHeardOf w s → IsHeardOf w (noted s w.clock)
 heard_then w s heard_of = record {
-  fits = record { queue = heard_of.fits.queue; kept = heard_of.fits.kept; replies = heard_of.fits.replies; answers = heard_of.fits.answers; turns = heard_of.fits.turns; awaited = heard_of.fits.awaited };
+  fits = record { queue = heard_of.fits.queue; kept = heard_of.fits.kept; replies = heard_of.fits.replies; answers = heard_of.fits.answers; turns = heard_of.fits.turns };
   named = heard_of.named;
   room = heard_of.room;
 }

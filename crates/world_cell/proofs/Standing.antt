@@ -217,30 +217,30 @@ module _ (cell : List ℕ) (rows : Rows) (s : MasterState) (k : IsKept cell rows
   case_stands (StartedAgain front back asked principal received session turn work found live) = same_stands (StartedAgain front back asked principal received session turn work found live) refl refl
   case_stands (Started front back asked principal received turn work none) = same_stands (Started front back asked principal received turn work none) refl refl
   case_stands (OfEnded front back asked call sequencer turn work gone) = same_stands (OfEnded front back asked call sequencer turn work gone) refl refl
-  case_stands (Ended front back asked call sequencer None answer turn work live made) = same_stands (Ended front back asked call sequencer None answer turn work live made) refl refl
-  case_stands (Ended front back asked call sequencer (Some note) answer turn work live made) = same_stands (Ended front back asked call sequencer (Some note) answer turn work live made) refl refl
-  case_stands (Applied front back asked call sequencer None change answer turn work live made) =
+  case_stands (Ended front back asked call sequencer None answer turn work stays live made) = same_stands (Ended front back asked call sequencer None answer turn work stays live made) refl refl
+  case_stands (Ended front back asked call sequencer (Some note) answer turn work stays live made) = same_stands (Ended front back asked call sequencer (Some note) answer turn work stays live made) refl refl
+  case_stands (Applied front back asked call sequencer None change answer turn work stays live made) =
       let P : Effect → Type 0 = GivesBy s in
       let Q : Effect → Type 0 = IsFaithful s in
       let gives = subst P made (effect_gives s asked.client asked.number call sequencer) in
       let faithful = subst Q made (effect_faithful s asked.client asked.number call sequencer) in
-      changed_stands (Applied front back asked call sequencer None change answer turn work live made) change refl refl faithful.0 gives.next
-  case_stands (Applied front back asked call sequencer (Some note) change answer turn work live made) =
+      changed_stands (Applied front back asked call sequencer None change answer turn work stays live made) change refl refl faithful.0 gives.next
+  case_stands (Applied front back asked call sequencer (Some note) change answer turn work stays live made) =
       let P : Effect → Type 0 = GivesBy s in
       let Q : Effect → Type 0 = IsFaithful s in
       let gives = subst P made (effect_gives s asked.client asked.number call sequencer) in
       let faithful = subst Q made (effect_faithful s asked.client asked.number call sequencer) in
-      changed_stands (Applied front back asked call sequencer (Some note) change answer turn work live made) change refl refl faithful.0 gives.next
-  case_stands (Deleted front back asked call sequencer change at waiters answer turn work live made) =
+      changed_stands (Applied front back asked call sequencer (Some note) change answer turn work stays live made) change refl refl faithful.0 gives.next
+  case_stands (Deleted front back asked call sequencer change at waiters answer turn work stays live made) =
       let P : Effect → Type 0 = GivesBy s in
       let Q : Effect → Type 0 = IsFaithful s in
       let gives = subst P made (effect_gives s asked.client asked.number call sequencer) in
       let faithful = subst Q made (effect_faithful s asked.client asked.number call sequencer) in
-      changed_stands (Deleted front back asked call sequencer change at waiters answer turn work live made) change refl refl faithful.0 gives.next
-  case_stands (Locked front back asked call sequencer put claim answer turn work live made) = same_stands (Locked front back asked call sequencer put claim answer turn work live made) refl refl
-  case_stands (Awaited front back asked call sequencer put turn work live made) = same_stands (Awaited front back asked call sequencer put turn work live made) refl refl
-  case_stands (Left front back asked call sequencer None leave answer turn work live made) = same_stands (Left front back asked call sequencer None leave answer turn work live made) refl refl
-  case_stands (Left front back asked call sequencer (Some note) leave answer turn work live made) = same_stands (Left front back asked call sequencer (Some note) leave answer turn work live made) refl refl
+      changed_stands (Deleted front back asked call sequencer change at waiters answer turn work stays live made) change refl refl faithful.0 gives.next
+  case_stands (Locked front back asked call sequencer put claim answer turn work stays live made) = same_stands (Locked front back asked call sequencer put claim answer turn work stays live made) refl refl
+  case_stands (Awaited front back asked call sequencer put turn work stays live made) = same_stands (Awaited front back asked call sequencer put turn work stays live made) refl refl
+  case_stands (Left front back asked call sequencer None leave answer turn work stays live made) = same_stands (Left front back asked call sequencer None leave answer turn work stays live made) refl refl
+  case_stands (Left front back asked call sequencer (Some note) leave answer turn work stays live made) = same_stands (Left front back asked call sequencer (Some note) leave answer turn work stays live made) refl refl
 
 -- ---- what an update puts is there
 

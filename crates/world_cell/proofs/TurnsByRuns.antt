@@ -40,7 +40,7 @@ use Rattle.master_state.specs.Replies.{replies_to, turn_replies, puts_of}
 use Rattle.master_state.specs.State.{MasterState}
 use Rattle.master_state.specs.Updates.{with_locks, with_note}
 use Rattle.cell_core.specs.Cases.{IsBehind, TakeCase, taken_by}
-use Rattle.cell_core.specs.Cases.TakeCase.{StartRefused, StartRecovering, StartFull, StartQueued, OldBeat, BeatRefused, BeatParked, OldEpoch, NoSession, LeftBefore, Repeated, OlderCall, Outstanding, Recovering, Answered, Granted, Waits}
+use Rattle.cell_core.specs.Cases.TakeCase.{StartRefused, StartRecovering, StartFull, StartQueued, OldBeat, BeatRefused, BeatParked, OldEpoch, NoSession, LeftBefore, Repeated, OlderCall, Outstanding, LeavesBeside, Recovering, Answered, Granted, Waits}
 use Rattle.cell_core.specs.Outcomes.{left_put}
 use Rattle.cell_core.specs.Step.{recorded, queued, with_call, task_of, asking, asking_for, names_of}
 use Rattle.cell_core.proofs.AskedFor.{asks_only}
@@ -59,7 +59,7 @@ use Rattle.world_cell.specs.Runs.{Run}
 use Rattle.world_cell.specs.Turns.{waits_in, HaveOneTurn}
 use Rattle.world_cell.proofs.ClocksByRuns.{run_consistent}
 use Rattle.world_cell.proofs.ConsistentSteps.{case_later, noted_fits, all_first}
-use Rattle.world_cell.proofs.MasterFits.{call_application, WasAsked, live_note, behind_note, epoch_note, fits_note, waits_as, waiting_append, waits_own, waits_other, none_waits}
+use Rattle.world_cell.proofs.MasterFits.{call_application, WasAsked, live_note, behind_note, epoch_note, waits_as, waiting_append, waits_own, waits_other, none_waits, none_called}
 use Rattle.world_cell.proofs.MessagesGrow.{call_more, no_call}
 use Rattle.world_cell.proofs.OnceByRuns.{IsFrom, IsCounted, counted_later, AreFrom, claims_from, turn_from, lapses_from, sending_above}
 use Rattle.world_cell.proofs.OneSession.{same, other, kept_in, each_session, kept_own, kept_other, kept_stays, kept_issued, kept_begins, answered_so}
@@ -110,6 +110,11 @@ call_past sent t client n message behind found of h is =
     let k : PastMaster sent message.client t n = rw (← is) at h in
     new_past sent t.epoch message.client message.number (kept_of t message.client) n message behind found of k
 
+-- so is one beside a call that waits
+beside_past : (sent : List Message) (epoch client number : ℕ) (o : Option (LastCall Reply)) (kept : LastCall Reply) (n : ℕ) → o ≡ Some kept → kept.number < number → IsPast sent epoch client o n → n < number
+beside_past sent epoch client number o kept n is more h =
+    let k : n ≤ kept.number = subst (λ x. IsPast sent epoch client x n) is h in omega (arith, k, more)
+
 put_past : (sent : List Message) (s : MasterState) (whose client : ℕ) (kept : LastCall Reply) (n : ℕ) → is_live s whose ≡ true → (whose ≡ client → n ≤ kept.number) → PastMaster sent client s n → IsPast sent s.epoch client (kept_of (recorded s whose kept) client) n
 put_past sent s whose client kept n live own h =
     (elim (eqb client whose) as (λ b. eqb client whose ≡ b → IsPast sent s.epoch client (kept_of (recorded s whose kept) client) n) [
@@ -135,6 +140,9 @@ asking_past sent s (name ∷ names) client n h =
 take_past : (sent : List Message) (s : MasterState) (request : Request) (c : TakeCase s request) (client n : ℕ) → WasAsked sent request → PastMaster sent client s n → PastMaster sent client (taken_by s request c).0 n
 take_past sent s request (BeatParked beat is epoch taken) client n asked h =
     same_past sent s.epoch client (kept_of s client) _ n (kept_stays s.sessions beat.client (beaten beat s.clock) (λ session. refl) client) h
+take_past sent s request (LeavesBeside message heard beside) client n asked h =
+    put_past sent s message.client client (record { number = message.number; reply = None }) n heard.live
+    (λ is. weaker n message.number (beside_past sent s.epoch message.client message.number (kept_of s message.client) beside.kept n beside.found beside.more (subst (λ q. PastMaster sent q s n) (sym is) h))) h
 take_past sent s request (Recovering message new recovering) client n asked h =
     put_past sent s message.client client (answered_by (reply_of s message.client message.number (results.Refused faults.Recovering))) n new.heard.live
     (λ is. weaker n message.number (call_past sent s client n message new.behind (asked message new.heard.is_call) new.heard.epoch h is)) h
@@ -222,19 +230,19 @@ module _ (sent : List Message) (s : MasterState) (client n : ℕ) (fits : FitsMe
   sweep_past (StartedFirst front back asked principal received turn work none) =
       same_past sent s.epoch client (kept_of s client) _ n (kept_begins s.sessions asked.client (session_until principal true (s.clock + s.sessions.lease)) none refl client) h
   sweep_past (OfEnded front back asked call sequencer turn work gone) = h
-  sweep_past (Ended front back asked call sequencer note answer turn work live made) =
+  sweep_past (Ended front back asked call sequencer note answer turn work stays live made) =
       end_past (rest s front back) asked note answer refl refl live (turn_past front back asked call sequencer turn work)
-  sweep_past (Applied front back asked call sequencer note change answer turn work live made) =
+  sweep_past (Applied front back asked call sequencer note change answer turn work stays live made) =
       end_past (mapped (rest s front back) change) asked note answer refl refl live (turn_past front back asked call sequencer turn work)
-  sweep_past (Deleted front back asked call sequencer change instance waiters answer turn work live made) =
+  sweep_past (Deleted front back asked call sequencer change instance waiters answer turn work stays live made) =
       let m = mapped (rest s front back) change in
       let gone = results.Refused faults.StaleInstance in
       told_past sent (ended m asked None answer) client n (replies_to s gone waiters) (claims_from s client (Some n) still_from gone waiters)
       (end_past m asked None answer refl refl live (turn_past front back asked call sequencer turn work))
-  sweep_past (Locked front back asked call sequencer put claim answer turn work live made) =
+  sweep_past (Locked front back asked call sequencer put claim answer turn work stays live made) =
       end_past (with_locks (rest s front back) (put ∷ [])) asked None answer refl refl live (turn_past front back asked call sequencer turn work)
-  sweep_past (Awaited front back asked call sequencer put turn work live made) = h
-  sweep_past (Left front back asked call sequencer note leave answer turn work live made) =
+  sweep_past (Awaited front back asked call sequencer put turn work stays live made) = h
+  sweep_past (Left front back asked call sequencer note leave answer turn work stays live made) =
       let t = with_locks (rest s front back) (left_put leave ∷ []) in
       told_past sent (ended t asked note answer) client n (turn_replies s leave.turn) (turn_from s client (Some n) still_from leave.turn)
       (end_past t asked note answer refl refl live (turn_past front back asked call sequencer turn work))
@@ -282,15 +290,13 @@ module _ (sent : List Message) (s : MasterState) (client n : ℕ) (fits : FitsMe
   gate_note : (note : Option HandleNote) → (with_note s note).gate ≡ s.gate
   gate_note note = unnoted (λ x. x.gate) (λ x m. refl) s note
 
-  module _ (message : CallMessage) (note : Option HandleNote) (live : is_live s message.client ≡ true) (behind : IsBehind (kept_of s message.client) message.number) (found : call_of sent message.client message.number ≡ Some message) (epoch : message.epoch ≡ s.epoch) where
-    abbrev t : MasterState
-    t = with_note s note
-
+  -- a call that comes to wait, of a client of which none waits, and above those before
+  module _ (t : MasterState) (message : CallMessage) (same_gate_now : t.gate ≡ s.gate) (uncalled : waiting message.client s.gate.waiting ≡ []) (above : message.client ≡ client → n < message.number) where
     abbrev w : List (List ℕ) → Waiting Task
     w names = waits_as (t.gate.pushed + 1) names (tasks.Asked (task_of message))
 
-    uncalled : waiting message.client t.gate.waiting ≡ []
-    uncalled = none_waits (session_of t message.client) message.number (waiting message.client t.gate.waiting) ((fits_note sent s note fits).turns message.client) (behind_note s note message.client message.number behind)
+    same_waiting : (q : ℕ) → waiting q t.gate.waiting ≡ waiting q s.gate.waiting
+    same_waiting q = ap (λ (g : GateState Task). waiting q g.waiting) same_gate_now
 
     new_waits : (names : List (List ℕ)) (q : ℕ) → waiting client (t.gate.waiting ++ w names ∷ []) ≡ q ∷ [] → (waiting client s.gate.waiting ≡ q ∷ []) ⊎ (n < q)
     new_waits names q is =
@@ -298,14 +304,14 @@ module _ (sent : List Message) (s : MasterState) (client n : ℕ) (fits : FitsMe
           | true ↦ (λ e.
               let m : client ≡ message.client = same client message.client e in
               let own : waiting message.client (t.gate.waiting ++ w names ∷ []) ≡ message.number ∷ [] =
-              waiting_append message.client t.gate.waiting (w names ∷ []) ∙ ap (λ xs. xs ++ waiting message.client (w names ∷ [])) uncalled ∙ waits_own message.client message.number message.call message.sequencer [] in
+              waiting_append message.client t.gate.waiting (w names ∷ []) ∙ ap (λ xs. xs ++ waiting message.client (w names ∷ [])) (same_waiting message.client ∙ uncalled) ∙ waits_own message.client message.number message.call message.sequencer [] in
               let P : ℕ → Type 0 = λ x. waiting x (t.gate.waiting ++ w names ∷ []) ≡ q ∷ [] in
               let number : message.number ≡ q = one_head message.number q (sym own ∙ subst P m is) in
-              let above = call_past sent s client n message behind found epoch h (sym m) in
-              inr (omega (arith, number, above)))
+              let more = above (sym m) in
+              inr (omega (arith, number, more)))
           | false ↦ (λ e.
               let before : waiting client t.gate.waiting ≡ q ∷ [] = pushed client t.gate.waiting (w names) q (waits_other client message.client message.number (works.Calls message.call message.sequencer) [] (other client message.client e)) is in
-              inl (ap (λ (g : GateState Task). waiting client g.waiting) (sym (gate_note note)) ∙ before))
+              inl (sym (same_waiting client) ∙ before))
         ]) refl
 
   take_stays : (request : Request) (c : TakeCase s request) → WasAsked sent request → StaysIn client n s (taken_by s request c).0
@@ -323,13 +329,17 @@ module _ (sent : List Message) (s : MasterState) (client n : ℕ) (fits : FitsMe
   take_stays request (Repeated message kept heard is number) asked = same_gate client n s s refl
   take_stays request (OlderCall message kept heard is less) asked = same_gate client n s s refl
   take_stays request (Outstanding message kept heard is more none) asked = same_gate client n s s refl
+  take_stays request (LeavesBeside message heard beside) asked = λ q is_then.
+      new_waits s message refl (none_called message.client s.gate.waiting beside.alone)
+      (λ is. beside_past sent s.epoch message.client message.number (kept_of s message.client) beside.kept n beside.found beside.more (subst (λ c. PastMaster sent c s n) (sym is) h)) [] q is_then
   take_stays request (Recovering message new recovering) asked = same_gate client n s (taken_by s request (Recovering message new recovering)).0 refl
   take_stays request (Answered message note answer new serving answered_now) asked = same_gate client n s (taken_by s request (Answered message note answer new serving answered_now)).0 (gate_note note)
   take_stays request (Granted message note answer name new serving granted) asked = same_gate client n s (taken_by s request (Granted message note answer name new serving granted)).0 (gate_note note)
   take_stays request (Waits message note touched new serving admitted) asked = λ q is_then.
       let call = with_call (with_note s note) message touched in
       let only : (asking_for call (names_of touched)).gate ≡ call.gate = ap (λ (m : MasterState). m.gate) (asks_only (names_of touched) call) in
-      new_waits message note new.heard.live new.behind (asked message new.heard.is_call) new.heard.epoch (names_of touched) q (ap (λ (g : GateState Task). waiting client g.waiting) (sym only) ∙ is_then)
+      let uncalled = none_waits (session_of s message.client) message.number (waiting message.client s.gate.waiting) (fits.turns message.client) new.behind in
+      new_waits (with_note s note) message (gate_note note) uncalled (call_past sent s client n message new.behind (asked message new.heard.is_call) new.heard.epoch h) (names_of touched) q (ap (λ (g : GateState Task). waiting client g.waiting) (sym only) ∙ is_then)
 
   -- ---- a change leaves the gate
 
@@ -376,15 +386,15 @@ module _ (sent : List Message) (s : MasterState) (client n : ℕ) (fits : FitsMe
   sweep_stays (StartedAgain front back asked principal received session turn work found live) = rest_stays front back (tasks.Asked asked) (swept_by s (StartedAgain front back asked principal received session turn work found live)).0 refl turn
   sweep_stays (StartedFirst front back asked principal received turn work none) = rest_stays front back (tasks.Asked asked) (swept_by s (StartedFirst front back asked principal received turn work none)).0 refl turn
   sweep_stays (OfEnded front back asked call sequencer turn work gone) = rest_stays front back (tasks.Asked asked) (swept_by s (OfEnded front back asked call sequencer turn work gone)).0 refl turn
-  sweep_stays (Ended front back asked call sequencer note answer turn work live made) =
-      rest_stays front back (tasks.Asked asked) (swept_by s (Ended front back asked call sequencer note answer turn work live made)).0 (noted_gate (recorded (rest s front back) asked.client _) note) turn
-  sweep_stays (Applied front back asked call sequencer note change answer turn work live made) =
-      rest_stays front back (tasks.Asked asked) (swept_by s (Applied front back asked call sequencer note change answer turn work live made)).0 (noted_gate (recorded (mapped (rest s front back) change) asked.client _) note) turn
-  sweep_stays (Deleted front back asked call sequencer change instance waiters answer turn work live made) = rest_stays front back (tasks.Asked asked) (swept_by s (Deleted front back asked call sequencer change instance waiters answer turn work live made)).0 refl turn
-  sweep_stays (Locked front back asked call sequencer put claim answer turn work live made) = rest_stays front back (tasks.Asked asked) (swept_by s (Locked front back asked call sequencer put claim answer turn work live made)).0 refl turn
-  sweep_stays (Awaited front back asked call sequencer put turn work live made) = rest_stays front back (tasks.Asked asked) (swept_by s (Awaited front back asked call sequencer put turn work live made)).0 refl turn
-  sweep_stays (Left front back asked call sequencer note leave answer turn work live made) =
-      rest_stays front back (tasks.Asked asked) (swept_by s (Left front back asked call sequencer note leave answer turn work live made)).0 (noted_gate (recorded (with_locks (rest s front back) (left_put leave ∷ [])) asked.client _) note) turn
+  sweep_stays (Ended front back asked call sequencer note answer turn work stays live made) =
+      rest_stays front back (tasks.Asked asked) (swept_by s (Ended front back asked call sequencer note answer turn work stays live made)).0 (noted_gate (recorded (rest s front back) asked.client _) note) turn
+  sweep_stays (Applied front back asked call sequencer note change answer turn work stays live made) =
+      rest_stays front back (tasks.Asked asked) (swept_by s (Applied front back asked call sequencer note change answer turn work stays live made)).0 (noted_gate (recorded (mapped (rest s front back) change) asked.client _) note) turn
+  sweep_stays (Deleted front back asked call sequencer change instance waiters answer turn work stays live made) = rest_stays front back (tasks.Asked asked) (swept_by s (Deleted front back asked call sequencer change instance waiters answer turn work stays live made)).0 refl turn
+  sweep_stays (Locked front back asked call sequencer put claim answer turn work stays live made) = rest_stays front back (tasks.Asked asked) (swept_by s (Locked front back asked call sequencer put claim answer turn work stays live made)).0 refl turn
+  sweep_stays (Awaited front back asked call sequencer put turn work stays live made) = rest_stays front back (tasks.Asked asked) (swept_by s (Awaited front back asked call sequencer put turn work stays live made)).0 refl turn
+  sweep_stays (Left front back asked call sequencer note leave answer turn work stays live made) =
+      rest_stays front back (tasks.Asked asked) (swept_by s (Left front back asked call sequencer note leave answer turn work stays live made)).0 (noted_gate (recorded (with_locks (rest s front back) (left_put leave ∷ [])) asked.client _) note) turn
 
 -- ---- a step
 

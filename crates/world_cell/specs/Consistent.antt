@@ -35,8 +35,6 @@ use Rattle.client_core.specs.Calls.{call_on}
 use Rattle.client_core.specs.Handles.{handle_of}
 use Rattle.client_core.specs.State.{ClientState, IsOff}
 use Rattle.gate_core.specs.declared.pending.Waiting.{Waiting}
-use Rattle.lock_core.specs.Turns.{is_of_client, any_waits}
-use Rattle.lock_core.specs.Locks.{LockTable}
 use Rattle.master_parts.specs.declared.pending.Task.{Task}
 use Rattle.master_parts.specs.declared.pending.Task.TheVariants as tasks
 use Rattle.master_parts.specs.declared.pending.Work.{Work}
@@ -133,10 +131,6 @@ abbrev pub IsInTurn : Option (Session Reply) → List ℕ → Type 0
 IsInTurn None numbers = numbers ≡ []
 IsInTurn (Some session) numbers = IsLastInTurn session.kept numbers
 
--- a handle of the client waits for a lock
-abbrev pub awaits_lock : ℕ → LockTable → Bool
-awaits_lock client locks = list_any (λ entry. any_waits (is_of_client client) entry.1) locks
-
 -- a call that waits was sent in the master's epoch
 abbrev pub IsOfMessage : List Message → ℕ → ℕ → ℕ → Work → Type 0
 IsOfMessage sent epoch client number (works.Starts principal received) = Unit {0}
@@ -187,8 +181,6 @@ pub record FitsMessages (sent : List Message) (s : MasterState) : Type 0 where
   pub replies : (client : ℕ) (kept : LastCall Reply) (reply : Reply) → kept_of s client ≡ Some kept → kept.reply ≡ Some reply → IsReplyTo client kept.number reply
   pub answers : (client : ℕ) (kept : LastCall Reply) (reply : Reply) → kept_of s client ≡ Some kept → kept.reply ≡ Some reply → IsAnswer sent s.secret reply
   pub turns : (client : ℕ) → IsInTurn (session_of s client) (waiting client s.gate.waiting)
-  -- a call that waits for a lock has had its turn
-  pub awaited : (client : ℕ) → awaits_lock client s.locks ≡ true → waiting client s.gate.waiting ≡ []
 
 abbrev pub Fits : WorldState → Option MasterState → Type 0
 Fits w None = Unit {0}

@@ -193,6 +193,16 @@ class Leaving(unittest.TestCase):
         session.give(1040, message(codec.REPLY, 2, epoch=6, result=None))
         self.assertEqual((again.number, session.state), (2, "left"))
 
+    def test_a_call_that_waits_is_given_up(self):
+        session = live()
+        waiting = session.ask(b"", NAME, None, False)
+        leave = session.leave()
+        self.assertEqual((waiting.ends, leave.number), ((Refusal(19), None), 2))
+        session.give(1030, message(codec.REPLY, 1, stamp=0, result=view()))
+        self.assertEqual((leave.ends, session.cache, session.state), (None, {}, "live"))
+        session.give(1040, message(codec.REPLY, 2, result=None))
+        self.assertEqual(session.state, "left")
+
 
 class Schedules(unittest.TestCase):
     def test_no_beat_while_an_answer_may_be_on_its_way(self):

@@ -108,7 +108,7 @@ class Client:
     def set_apart(self) -> None:
         """What threads share."""
         self.changed = threading.Condition()
-        self.calling = threading.Lock()
+        self.calling, self.parting = threading.Lock(), threading.Lock()
         self.events: queue.Queue = queue.Queue()
         self.connection: Optional[Connection] = None
         self.reached: Optional[Connection] = None
@@ -134,14 +134,12 @@ class Client:
 
     def close(self) -> None:
         """Ends its session, and waits for that for 2 seconds at most: its locks are free then, its ephemeral nodes go, and nothing waits
-        for its cache. If no master answers by then, or another call is under way for so long, the session ends with its lease."""
+        for its cache. A call of another thread that waits is given up, and refused as NoSession. If no master answers by then, the
+        session ends with its lease."""
         ends = time.monotonic() + PARTING
-        if self.calling.acquire(timeout=PARTING):
-            try:
-                while self.leave_once(ends):
-                    time.sleep(PAUSE)
-            finally:
-                self.calling.release()
+        with self.parting:
+            while self.leave_once(ends):
+                time.sleep(PAUSE)
         CLIENTS.discard(self)
         with self.changed:
             self.fault = self.fault or ConnectionError("the client is closed: connect anew")
@@ -152,7 +150,8 @@ class Client:
         self.keeper.join(2.0)
 
     def leave_once(self, ends: float) -> bool:
-        """Asks for the end of the session, and waits until that moment; whether it is to be asked for again."""
+        """Asks for the end of the session, and waits until that moment; whether it is to be asked for again. A master that has still to
+        do the call before it drops the message, which so goes out again and again."""
         with self.changed:
             self.tell(self.session.note(now()))
             if self.fault or self.session.state != "live" or time.monotonic() >= ends:
@@ -160,7 +159,8 @@ class Client:
             if self.session.jeopardy is None:
                 waiting = self.session.leave()
                 self.send(waiting.block)
-                self.changed.wait_for(lambda: waiting.ends, ends - time.monotonic())
+                while not self.changed.wait_for(lambda: waiting.ends, PAUSE) and time.monotonic() < ends:
+                    self.send(waiting.block)
             return self.session.state == "live"
 
     # ---- the keeper's thread

@@ -87,9 +87,11 @@ class Session:
         return self.waiting
 
     def leave(self) -> Waiting:
-        """Asks for the end of the session. Before that goes out the cache is emptied and turned off, for good; nothing else is asked."""
+        """Asks for the end of the session. Before that goes out the cache is emptied and turned off, for good; nothing else is asked,
+        and a call that waits is given up."""
         self.leaving, self.enabled = True, False
         self.cache.clear()
+        self.end((Refusal(NO_SESSION), None))
         return self.ask(bytes([codec.LEAVE]), None, None, False)
 
     def give(self, moment: int, message: codec.Message) -> list:

@@ -19,10 +19,8 @@ pub enum Fault {
     File(PathBuf, io::Error),
     /// The command can't be started or waited for.
     Command(String, io::Error),
-    /// This signal ended a wait, which the cell still knows of.
+    /// This signal ended a wait.
     Signal(i32),
-    /// This signal ended a wait, which nobody knows of any more.
-    Given(i32),
     /// There is no directory of this name, in which a node was to be made.
     Parent(String),
     /// The file for a copy can't be made.
@@ -46,7 +44,7 @@ pub enum Fault {
     /// The file of the token of operators can't be read.
     Token(PathBuf, io::Error),
     /// Another holds the lock, and it wasn't had in the time for which it was waited for.
-    Late(Refusal),
+    Late,
 }
 
 impl From<Error> for Fault {
@@ -120,7 +118,7 @@ impl Fault {
             Fault::Operators(Error::NotDone { status: 400..500, .. }) => 3,
             Fault::Cell(Error::Io(_) | Error::Unavailable | Error::Malformed(_)) | Fault::Operators(_) => 4,
             Fault::Cell(_) => 5,
-            Fault::Late(_) => 3,
+            Fault::Late => 3,
             Fault::Stream(_, error) if error.kind() == io::ErrorKind::BrokenPipe => 141,
             Fault::Stream(..) | Fault::NoInput | Fault::File(..) | Fault::Command(..) | Fault::Token(..) => 6,
             Fault::Lease => 5,
@@ -128,7 +126,7 @@ impl Fault {
             Fault::Copy(..) => 6,
             Fault::Kept => 3,
             Fault::Name(_) | Fault::AclLine(_) | Fault::Sequencer | Fault::Admin => 2,
-            Fault::Signal(signal) | Fault::Given(signal) => u8::try_from(128 + signal).unwrap_or(u8::MAX),
+            Fault::Signal(signal) => u8::try_from(128 + signal).unwrap_or(u8::MAX),
         }
     }
 
@@ -149,7 +147,7 @@ impl Fault {
             Fault::Sequencer => Some("TILLERMOSS_SEQUENCER has one in the environment of a command under lock or elect"),
             Fault::Admin => Some("--admin or TILLERMOSS_ADMIN names the one that tillermossd --admin listens at"),
             Fault::Token(..) => Some("--admin-token names a file that has the token of tillermossd --admin-token"),
-            Fault::Late(_) => Some("another holds it: a greater --timeout waits longer"),
+            Fault::Late => Some("another holds it: a greater --timeout waits longer"),
             Fault::Cell(Error::Refused(refusal)) => refusal_cure(*refusal),
             Fault::Cell(Error::TurnedAway(reason)) => turned_away_cure(*reason),
             Fault::Cell(Error::Unavailable) => Some("a master that comes up waits for each live session; --patience waits longer"),
@@ -165,7 +163,7 @@ impl Fault {
         match self {
             Fault::Cell(Error::Refused(Refusal::NotFound)) => "NotFound: no such node".to_owned(),
             Fault::Cell(error) | Fault::Operators(error) => error.to_string(),
-            Fault::Late(refusal) => refusal.to_string(),
+            Fault::Late => "Held: it wasn't free in that time".to_owned(),
             Fault::Token(path, error) => format!("{}: {error}", path.display()),
             Fault::Parent(name) => format!("NotFound: no such directory: {name}"),
             Fault::Copy(file, reason) => format!("{}: {reason}", file.display()),
@@ -173,7 +171,7 @@ impl Fault {
             Fault::NoInput => "the standard input is closed".to_owned(),
             Fault::File(path, error) => format!("{}: {error}", path.display()),
             Fault::Command(command, error) => format!("{command}: {error}"),
-            Fault::Signal(_) | Fault::Given(_) => "a signal ended the wait".to_owned(),
+            Fault::Signal(_) => "a signal ended the wait".to_owned(),
             Fault::Lease => "the lease has ended".to_owned(),
             Fault::Kept => "the cell's root and its directory acl aren't deleted with all that is in them".to_owned(),
             Fault::NoAcl(name) => format!("NotFound: no such ACL: {name}"),
@@ -275,7 +273,7 @@ mod tests {
             (not_done(401), 3),
             (not_done(503), 4),
             (Fault::Token("t".into(), io::ErrorKind::NotFound.into()), 6),
-            (Fault::Late(Refusal::Held(tillermoss::LockMode::Shared)), 3),
+            (Fault::Late, 3),
             (Refusal::SessionExpired.into(), 5),
             (Refusal::Unknown.into(), 5),
             (io::Error::from(io::ErrorKind::BrokenPipe).into(), 141),

@@ -8,15 +8,11 @@ use crate::words::{Elect, Ending, Hold, LockWords, Output};
 use serde_json::json;
 use signal_hook::iterator::Signals;
 use std::os::unix::ffi::OsStrExt;
-use std::thread;
-use std::time::{Duration, Instant};
+use std::time::Duration;
 use tillermoss::{Client, Create, Error, Events, Handle, Life, LockMode, Mode, Opening, Refusal, Sequencer, Watch};
 
 /// How long until a file that is there is tried again to be made, where nothing was told of it.
 const AGAIN: Duration = Duration::from_secs(1);
-
-/// How long until a lock is asked for again, by one who waits for a time.
-const ASKING: Duration = Duration::from_millis(100);
 
 /// Waits for the lock of a file, runs the command, and lets the lock go; gives the command's status.
 pub fn lock(asker: &Asker<'_>, name: &str, asked: &LockWords) -> Result<u8, Fault> {
@@ -30,7 +26,7 @@ pub fn lock(asker: &Asker<'_>, name: &str, asked: &LockWords) -> Result<u8, Faul
         let command = Command { words: &asked.command, environment, until: until(asked.ending) };
         run(client, &command, &watch, &mut signals)
     });
-    close(client, held, &ended);
+    close(client, held);
     ended
 }
 
@@ -53,7 +49,7 @@ pub fn elect(asker: &Asker<'_>, name: &str, asked: &Elect) -> Result<u8, Fault> 
         }
         ended
     });
-    close(client, held, &ended);
+    close(client, held);
     ended
 }
 
@@ -71,7 +67,7 @@ pub fn register(asker: &Asker<'_>, name: &str, asked: &Hold) -> Result<u8, Fault
         // (one that somebody else deleted is gone already)
         let _ = client.delete(watch.handle);
     }
-    close(client, watch.handle, &ended);
+    close(client, watch.handle);
     ended
 }
 
@@ -121,19 +117,13 @@ fn announce(output: Output, asked: &Hold, word: &str, name: &str) -> Result<(), 
 enum Patience {
     /// Not at all.
     None,
-    /// How long.
-    For(Duration),
-    /// As long as it takes.
-    Any,
+    /// As long as it takes, but no longer than so, where that is said.
+    AtMost(Option<Duration>),
 }
 
 impl Patience {
     fn of(no_wait: bool, ending: Ending) -> Patience {
-        match ending.timeout {
-            _ if no_wait => Patience::None,
-            Some(seconds) => Patience::For(Duration::from_secs(seconds)),
-            None => Patience::Any,
-        }
+        if no_wait { Patience::None } else { Patience::AtMost(ending.timeout.map(Duration::from_secs)) }
     }
 }
 
@@ -141,24 +131,7 @@ fn take(asker: &Asker<'_>, client: &Client, held: Handle, mode: LockMode, patien
     let _waiting = asker.wait_by(client);
     match patience {
         Patience::None => Ok(client.try_acquire(held, mode)?),
-        Patience::For(most) => take_in_time(client, held, mode, most, signals),
-        Patience::Any => wait_for(client, held, signals, || acquire(client, held, mode)),
-    }
-}
-
-// Asks for the lock again and again: a call that waits couldn't be taken back, and the client couldn't leave with it.
-fn take_in_time(client: &Client, held: Handle, mode: LockMode, most: Duration, signals: &mut Signals) -> Result<(), Fault> {
-    let begun = Instant::now();
-    loop {
-        match client.try_acquire(held, mode) {
-            Err(Error::Refused(Refusal::Held(_) | Refusal::Delayed(_))) if begun.elapsed() < most => {}
-            Err(Error::Refused(refusal @ (Refusal::Held(_) | Refusal::Delayed(_)))) => return Err(Fault::Late(refusal)),
-            result => return Ok(result?),
-        }
-        if let Some(signal) = signals.pending().next() {
-            return Err(Fault::Given(signal));
-        }
-        thread::sleep(ASKING);
+        Patience::AtMost(most) => wait_for(client, most, signals, || acquire(client, held, mode)),
     }
 }
 
@@ -175,10 +148,10 @@ fn acquire(client: &Client, held: Handle, mode: LockMode) -> Result<(), Error> {
     }
 }
 
-// What is closed frees its lock; where the lease has ended nobody would hear of that, and where the session is lost nothing is held. A
-// wait that a signal ended is still asked for, so nothing else can be: it ends with the lease.
-fn close(client: &Client, held: Handle, ended: &Result<u8, Fault>) {
-    if client.lease_left().is_zero() || matches!(ended, Err(Fault::Signal(_))) {
+// What is closed frees its lock; where the lease has ended nobody would hear of that, and where the session is over, also by the end of
+// a wait, nothing is held.
+fn close(client: &Client, held: Handle) {
+    if client.lease_left().is_zero() {
         return;
     }
     if let Err(error) = client.close(held) {

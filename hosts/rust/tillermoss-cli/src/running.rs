@@ -14,8 +14,8 @@ use std::process::{self, Child, ExitStatus};
 use std::sync::atomic::{AtomicBool, Ordering};
 use std::sync::mpsc::TryRecvError;
 use std::thread;
-use std::time::Duration;
-use tillermoss::{Client, Error, Event, Handle, Refusal, Watch};
+use std::time::{Duration, Instant};
+use tillermoss::{Client, Error, Event, Refusal, Watch};
 
 /// The time between two looks at the command, the session and the signals.
 pub const LOOK: Duration = Duration::from_millis(20);
@@ -28,26 +28,34 @@ pub fn signals() -> Result<Signals, Fault> {
     Ok(Signals::new([SIGTERM, SIGINT, SIGHUP])?)
 }
 
-/// Asks for what has to be waited for; a signal that comes meanwhile ends the wait. Then the handle can only be closed.
-pub fn wait_for<T>(client: &Client, handle: Handle, signals: &mut Signals, ask: impl FnOnce() -> Result<T, Error>) -> Result<T, Fault> {
+/// Asks for what has to be waited for, and for so long at most, where that is said. A signal that comes meanwhile, or the end of that
+/// time, ends the wait, and the session with it.
+pub fn wait_for<T>(
+    client: &Client,
+    most: Option<Duration>,
+    signals: &mut Signals,
+    ask: impl FnOnce() -> Result<T, Error>,
+) -> Result<T, Fault> {
     let is_done = AtomicBool::new(false);
     thread::scope(|scope| {
-        let waiting = scope.spawn(|| stop_at_signal(client, handle, signals, &is_done));
+        let waiting = scope.spawn(|| stop_waiting(client, most, signals, &is_done));
         let result = ask();
         is_done.store(true, Ordering::SeqCst);
         match waiting.join() {
-            Ok(Some(signal)) => Err(Fault::Signal(signal)),
+            Ok(Some(fault)) => Err(fault),
             _ => Ok(result?),
         }
     })
 }
 
-fn stop_at_signal(client: &Client, handle: Handle, signals: &mut Signals, is_done: &AtomicBool) -> Option<i32> {
+fn stop_waiting(client: &Client, most: Option<Duration>, signals: &mut Signals, is_done: &AtomicBool) -> Option<Fault> {
+    let begun = Instant::now();
     while !is_done.load(Ordering::SeqCst) {
-        if let Some(signal) = signals.pending().next() {
-            // (a handle that is closed already waits for nothing)
-            let _ = client.poison(handle);
-            return Some(signal);
+        let is_late = most.is_some_and(|most| begun.elapsed() >= most);
+        if let Some(fault) = signals.pending().next().map(Fault::Signal).or(is_late.then_some(Fault::Late)) {
+            // (where no master answers, the cell knows of the wait until the lease has run out)
+            let _ = client.give_up();
+            return Some(fault);
         }
         thread::sleep(LOOK);
     }

@@ -30,8 +30,8 @@ Where there is no file it is made, and stays. The command has in its environment
   TILLERMOSS_SEQUENCER        the sequencer in hexadecimal, by which others test that the lock is held (tillermoss check)
   TILLERMOSS_FENCING_NUMBER   a number of up to 128 bits that rises from one holder of this name to the next, whatever becomes of the file
   TILLERMOSS_LOCK_GENERATION  one of 64 bits, which does so as long as the file is permanent and isn't deleted
-SIGTERM, SIGINT and SIGHUP are passed on to the command; one that comes while the lock is waited for ends the wait, which the cell
-forgets when the lease has run out.
+SIGTERM, SIGINT and SIGHUP are passed on to the command; one that comes while the lock is waited for ends the wait, at once also for
+the cell.
 Where this client's lease ends the lock may soon be another's: then the command is ended, by SIGTERM, and by SIGKILL once --grace is
 over, and the status is 5. Where the standard input is no terminal these go to all processes of the command. The lock stays closed
 for as long (--delay). So the next holder begins after this command's end, unless this program itself is stopped or killed.";
@@ -370,7 +370,7 @@ pub struct Ending {
     /// Makes a file that goes with its last user
     #[arg(long)]
     pub ephemeral: bool,
-    /// Gives up after so many seconds of waiting. Who waits so asks again and again, and has no place in the queue of those who wait
+    /// Gives up after so many seconds of waiting
     #[arg(long, value_name = "SECONDS", conflicts_with = "no_wait")]
     pub timeout: Option<u64>,
 }

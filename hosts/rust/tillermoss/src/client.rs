@@ -111,8 +111,8 @@ pub struct Watch {
 /// A client of a cell (Burrows 2006, section 2): a session that a thread keeps, and a cache that answers what the master would.
 ///
 /// One call at a time waits for the master, others after it; what the cache answers doesn't wait. A client that is dropped ends its
-/// session as [`leave`](Client::leave) does, and waits for that for 2 s at most. If no master answers within them, or one of its
-/// calls that was poisoned waits still, the session ends when its lease has run out, as that of a program that is killed.
+/// session as [`leave`](Client::leave) does, and waits for that for 2 s at most. If no master answers within them, the session ends
+/// when its lease has run out, as that of a program that is killed.
 ///
 /// ```
 /// # programs::with_server(|address| -> Result<(), tillermoss::Error> {
@@ -244,10 +244,41 @@ impl Client {
     /// # Errors
     ///
     /// `SessionExpired` where the session was lost before. `Unavailable` where no master has ended it for as long as the client has
-    /// patience, `CallOutstanding` where one of its calls that was poisoned waited for so long: then the client is closed all the same,
-    /// and its session ends when its lease has run out.
+    /// patience: then the client is closed all the same, and its session ends when its lease has run out.
     pub fn leave(self) -> Result<(), Error> {
         self.part(self.patience)
+    }
+
+    /// Ends the session as [`leave`](Client::leave) does, while other threads use the client: a call that waits, as one for a lock, is
+    /// given up, and refused as `NoSession`, and so is each call from then on. Waits for the end for 2 s at most.
+    ///
+    /// ```
+    /// # let server = programs::server_of_its_own();
+    /// # let address = server.address.as_str();
+    /// # use tillermoss::*;
+    /// let holder = Client::connect(&Options::new(address, "ann"))?;
+    /// let file = holder.create("/ls/c/f", b"")?;
+    /// holder.acquire(file, LockMode::Exclusive)?;
+    /// let waiter = &Client::connect(&Options::new(address, "bob"))?;
+    /// let awaited = waiter.open("/ls/c/f", Mode::WRITE)?;
+    /// std::thread::scope(|scope| {
+    ///     let waits = scope.spawn(move || waiter.acquire(awaited, LockMode::Exclusive));
+    ///     std::thread::sleep(std::time::Duration::from_millis(200));
+    ///     waiter.give_up()?;
+    ///     assert_eq!(waits.join().unwrap().unwrap_err().refusal(), Some(Refusal::NoSession));
+    ///     Ok::<(), Error>(())
+    /// })?;
+    /// // The lock isn't kept for it.
+    /// holder.release(file)?;
+    /// holder.try_acquire(file, LockMode::Exclusive)?;
+    /// # Ok::<(), Error>(())
+    /// ```
+    ///
+    /// # Errors
+    ///
+    /// As [`leave`](Client::leave).
+    pub fn give_up(&self) -> Result<(), Error> {
+        self.part(PARTING)
     }
 
     // Whatever comes of that, the connection ends.
@@ -285,17 +316,21 @@ impl Client {
     }
 
     // None where the session is over; or the refusal after which that may be asked for again. If the reply got lost the next answer
-    // is that there is no session.
+    // is that there is no session. A master that has still to do the call before it drops the message: so it goes out again and again.
     fn parted(&self, reply: &Receiver<Result<Reply, Error>>, until: Instant) -> Result<Option<Refusal>, Error> {
-        match reply.recv_timeout(until.saturating_duration_since(Instant::now())) {
-            Ok(Ok(_) | Err(Error::Refused(Refusal::SessionExpired))) => Ok(None),
-            Ok(Err(Error::Refused(refusal))) if is_for_now(refusal, true) => {
-                thread::sleep(PAUSE);
-                Ok(Some(refusal))
+        loop {
+            let left = until.saturating_duration_since(Instant::now());
+            match reply.recv_timeout(left.min(PAUSE)) {
+                Ok(Ok(_) | Err(Error::Refused(Refusal::SessionExpired))) => return Ok(None),
+                Ok(Err(Error::Refused(refusal))) if is_for_now(refusal, true) => {
+                    thread::sleep(PAUSE);
+                    return Ok(Some(refusal));
+                }
+                Ok(Err(error)) => return Err(error),
+                Err(RecvTimeoutError::Timeout) if left > PAUSE => self.core.lock().send_again(),
+                Err(RecvTimeoutError::Timeout) => return Err(Error::Unavailable),
+                Err(RecvTimeoutError::Disconnected) => return Err(self.core.lock().fault().unwrap_or(Error::Closed)),
             }
-            Ok(Err(error)) => Err(error),
-            Err(RecvTimeoutError::Timeout) => Err(Error::Unavailable),
-            Err(RecvTimeoutError::Disconnected) => Err(self.core.lock().fault().unwrap_or(Error::Closed)),
         }
     }
 

@@ -320,6 +320,8 @@ impl State {
     fn tried(&mut self, status: StepStatus, own: Option<Reply>, watcher: Option<&Teller>) -> Result<Tried, Error> {
         match status {
             StepStatus::Send => {
+                // (only the call that ends the session goes out beside another, whose reply is given up)
+                self.answer(Err(Refusal::NoSession.into()));
                 let (waiter, reply) = channel();
                 self.waiter = Some(waiter);
                 self.new_watcher = watcher.cloned();

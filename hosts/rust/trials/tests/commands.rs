@@ -210,7 +210,7 @@ fn a_put_tells_the_generation_that_it_made() {
     fs::remove_dir_all(folder).unwrap();
 }
 
-// (who waits for a time leaves at once when that is over: the next one isn't kept from the lock)
+// (who waits leaves at once when its time is over, or at a signal: the next one isn't kept from the lock)
 #[test]
 fn a_lock_is_waited_for_no_longer_than_asked() {
     let folder = folder("timeout");
@@ -221,12 +221,17 @@ fn a_lock_is_waited_for_no_longer_than_asked() {
     let begun = Instant::now();
     assert_eq!(run(&server, &["lock", "l", "--timeout", "1", "--", "true"]).1, Some(3));
     assert!((1000..2500).contains(&begun.elapsed().as_millis()), "{:?}", begun.elapsed());
+    let waits: [&[&str]; 3] =
+        [&["lock", "l", "--", "true"], &["lock", "l", "--timeout", "60", "--", "true"], &["elect", "l", "a", "--", "true"]];
+    let stopped = waits.map(|words| start(&server, words));
+    thread::sleep(Duration::from_millis(500));
     let waiter = start(&server, &["elect", "l", "a", "--timeout", "60", "--", "true"]);
-    let mut stopped = start(&server, &["lock", "l", "--timeout", "60", "--", "true"]);
     thread::sleep(Duration::from_millis(500));
     let begun = Instant::now();
-    signal(&stopped, Signal::SIGTERM);
-    assert_eq!(stopped.wait().unwrap().code(), Some(143));
+    for mut waiting in stopped {
+        signal(&waiting, Signal::SIGTERM);
+        assert_eq!(waiting.wait().unwrap().code(), Some(143));
+    }
     first.stdin.take().unwrap().write_all(b"go\n").unwrap();
     assert!(first.wait().unwrap().success());
     assert_eq!(waiter.wait_with_output().unwrap().status.code(), Some(0));
