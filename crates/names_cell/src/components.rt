@@ -3,30 +3,70 @@ ghost use Rattle.std.specs.Prelude.{◌≡◌, Some, Ok, Err, true, nat_eq, if�
 ghost use Rattle.std.specs.Cmp.{partial_equiv_from_equiv};
 ghost use Rattle.std.specs.Cmp.Lexicographic.{pointwise, nat_list_eq_equiv};
 ghost use Rattle.collections.specs.Results.{Gives};
+ghost use Rattle.names_cell.specs.Kept.{kept_text};
 ghost use Rattle.names_cell.specs.Text.{is_component};
 
 use crate::faults::NameFault;
 use crate::grammar;
+use arrayvec::ArrayString;
 use collections::Same;
 use std::alloc::{AllocError, Global};
 use std::fmt;
 use std::marker::Model;
 
-/// One component of a name, 1 to 64 bytes: it also names a cell, and an ACL. To a contract, its bytes.
+// Where the bytes of a component lie: up to 24 in the value itself, and more in memory of their own.
+#[derive(Debug, Drop)]
+enum Kept {
+    Here(ArrayString<24>),
+    Apart(String),
+}
+
+impl Kept {
+    fn of(alloc: Global, text: &str) -> Result<Kept, AllocError>
+        ensures { IfOk result (λ kept. kept_text kept ≡ text.now) }
+    {
+        match ArrayString::from(text) {
+            Ok(here) => Ok(Kept::Here(here)),
+            Err(_) => Ok(Kept::Apart(text.to_string(alloc)?)),
+        }
+    }
+
+    fn as_str(&self) -> &str
+        ensures { result.now ≡ kept_text self.now }
+    {
+        match self {
+            Kept::Here(text) => text.as_str(),
+            Kept::Apart(text) => text.as_str(),
+        }
+    }
+
+    fn copied(&self) -> Result<Kept, AllocError>
+        ensures { IfOk result (λ kept. kept_text kept ≡ kept_text self.now) }
+    {
+        match self {
+            Kept::Here(text) => Ok(Kept::Here(*text)),
+            Kept::Apart(text) => Ok(Kept::Apart(text.clone()?)),
+        }
+    }
+}
+
+/// One component of a name, 1 to 64 bytes: it also names a cell, and an ACL. To a contract, its bytes. One of up to 24 bytes
+/// takes no memory besides the value.
 #[derive(Debug, Drop)]
 pub struct Component {
-    text: String,
+    text: Kept,
 }
 
 impl Model for Component {
-    ghost use Rattle.std.specs.Prelude.{◌≡◌, List, ℕ, true, string_bytes};
+    ghost use Rattle.std.specs.Prelude.{◌≡◌, List, ℕ, true};
+    ghost use Rattle.names_cell.specs.Kept.{kept_text};
     ghost use Rattle.names_cell.specs.Text.{is_component};
 
     ghost Value = { List ℕ };
 
-    ghost view = { λ a. string_bytes a.text };
+    ghost view = { λ a. kept_text a.text };
 
-    ghost invariant = { λ a. is_component (string_bytes a.text) ≡ true };
+    ghost invariant = { λ a. is_component (kept_text a.text) ≡ true };
 }
 
 impl Component {
@@ -38,7 +78,7 @@ impl Component {
             return Err(NameFault::BadName);
         }
         Ok(Component {
-            text: text.to_string(alloc)?,
+            text: Kept::of(alloc, text)?,
         })
     }
 
@@ -48,7 +88,7 @@ impl Component {
         ensures { IfOk result (λ c. c ≡ text.now) }
     {
         Ok(Component {
-            text: text.to_string(alloc)?,
+            text: Kept::of(alloc, text)?,
         })
     }
 
@@ -73,7 +113,7 @@ impl Clone for Component {
 
     fn clone(&self) -> Result<Component, AllocError> {
         Ok(Component {
-            text: self.text.clone()?,
+            text: self.text.copied()?,
         })
     }
 }
@@ -88,7 +128,7 @@ impl PartialEq for Component {
     ghost laws = { partial_equiv_from_equiv nat_list_eq_equiv };
 
     fn eq(&self, other: &Component) -> bool {
-        self.text == other.text
+        self.as_str() == other.as_str()
     }
 }
 
