@@ -6,4 +6,5 @@ pub mod Ran
 pub mod Scripts
 pub mod Settling
 pub mod Stops
+pub mod Traced
 pub mod Texts

@@ -1,4 +1,8 @@
 //! What is told of messages as they are sent.
+ghost use Rattle.std.specs.Prelude.{◌≡◌, ◌+◌, min, OnOk};
+ghost use Rattle.std.specs.Io.KnownBytes.{Appends};
+ghost use Rattle.scripts.specs.Traced.{call_kind, request_kind, out_kind, request_text, out_text, message_text};
+
 use crate::stops::ScriptStop;
 use std::io::{self, Write};
 use tags_cell::{Call, Out, Request};
@@ -47,7 +51,9 @@ impl<E: Write + Drop> Trace<E> {
 }
 
 // The message at a place, whose number is one more.
-fn write_message(errors: &mut impl Write, place: usize, message: &Message) -> io::Result<()> {
+fn write_message<E: Write>(errors: &mut E, place: usize, message: &Message) -> io::Result<()>
+    ensures { OnOk result (Appends (E.contents errors.old) (E.contents errors.new) (message_text (min (place + 1) 18446744073709551615) message.now)) }
+{
     let number = (place as u64).saturating_add(1);
     match message {
         Message::ToMaster(request) => write_request(errors, number, request),
@@ -55,19 +61,25 @@ fn write_message(errors: &mut impl Write, place: usize, message: &Message) -> io
     }
 }
 
-fn write_request(errors: &mut impl Write, number: u64, request: &Request) -> io::Result<()> {
+fn write_request<E: Write>(errors: &mut E, number: u64, request: &Request) -> io::Result<()>
+    ensures { OnOk result (Appends (E.contents errors.old) (E.contents errors.new) (request_text number request.now)) }
+{
     let client = request.client().get();
     let kind = request_kind(request);
     writeln!(errors, "message {number} client {client} -> master {kind}")
 }
 
-fn write_out(errors: &mut impl Write, number: u64, out: &Out) -> io::Result<()> {
+fn write_out<E: Write>(errors: &mut E, number: u64, out: &Out) -> io::Result<()>
+    ensures { OnOk result (Appends (E.contents errors.old) (E.contents errors.new) (out_text number out.now)) }
+{
     let client = out.client().get();
     let kind = out_kind(out);
     writeln!(errors, "message {number} master -> client {client} {kind}")
 }
 
-fn request_kind(request: &Request) -> &'static str {
+fn request_kind(request: &Request) -> &'static str
+    ensures { result.now ≡ request_kind request.now }
+{
     match request {
         Request::Start(_) => "Start",
         Request::Beat(_) => "Beat",
@@ -76,7 +88,9 @@ fn request_kind(request: &Request) -> &'static str {
 }
 
 // By the word of a script that asks for it.
-fn call_kind(call: &Call) -> &'static str {
+fn call_kind(call: &Call) -> &'static str
+    ensures { result.now ≡ call_kind call.now }
+{
     match call {
         Call::Open(_) => "Call open",
         Call::Close(_) => "Call close",
@@ -96,7 +110,9 @@ fn call_kind(call: &Call) -> &'static str {
     }
 }
 
-fn out_kind(out: &Out) -> &'static str {
+fn out_kind(out: &Out) -> &'static str
+    ensures { result.now ≡ out_kind out.now }
+{
     match out {
         Out::Started(_) => "Started",
         Out::Alive(_) => "Alive",
