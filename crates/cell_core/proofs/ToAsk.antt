@@ -1,4 +1,4 @@
--- A second name is asked for behind the first.
+-- A second name is asked for after the first.
 use Rattle.std.proofs.Common.{◌≡◌, ◌≢◌, ℕ, List, Option, true, Some, refl, sym, ap, ◌∙◌, subst}
 use Rattle.rights_core.specs.declared.cache_rights.CacheRight.{CacheRight}
 use Rattle.rights_core.specs.Rights.{clients_to_ask, renumbered, asked_back}

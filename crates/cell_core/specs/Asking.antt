@@ -9,7 +9,7 @@ use Rattle.cell_core.specs.declared.asking.ToAsk.{ToAsk}
 abbrev pub names_asked : ToAsk → List (List ℕ)
 names_asked asks = asks.first.name ∷ option_to_list (option_map (λ asked. asked.name) asks.above)
 
--- another name, which is asked for behind the first
+-- another name, which is asked for after the first
 abbrev pub AboveFits : List CacheRight → List ℕ → Option AskedBack → Type 0
 AboveFits rights name None = Unit {0}
 AboveFits rights name (Some above) = (name ≢ above.name) × (above.clients ≡ clients_to_ask above.name rights)

@@ -193,7 +193,7 @@ lock_put handle lock = record { name = handle.name; instance = handle.instance; 
 abbrev pub lock_taken : Handle → Claim → LockState → Effect
 lock_taken handle claim lock = record { note = None; change = None; locking = Takes (lock_put handle lock) claim; answer = Some results.Done }
 
--- the caller waits behind all others, and is answered when it gets the lock, or can't get it any more
+-- the caller waits after all others, and is answered when it gets the lock, or can't get it any more
 abbrev pub lock_awaited : Handle → LockState → Effect
 lock_awaited handle lock = record { note = None; change = None; locking = Waits (lock_put handle lock); answer = None }
 

@@ -39,7 +39,7 @@ next_idle s = if may_tidy s then option_map idle_of (find (is_to_go s) s.nodes) 
 
 -- ---- what is done
 
--- its deletion waits behind all other changes, and who may keep its name in a cache, or the one above, is asked for it
+-- its deletion waits after all other changes, and who may keep its name in a cache, or the one above, is asked for it
 abbrev pub tidied : MasterState → Orphan → MasterState
 tidied s idle = asking_for (queued s (with_parent idle.name) (tasks.Tidies idle)) (with_parent idle.name)
 

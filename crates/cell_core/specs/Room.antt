@@ -71,12 +71,12 @@ LimitsOnlyRefuse =
 
 -- ---- what is within the limits stays so
 
--- the map behind a change
+-- the map after a change
 abbrev pub nodes_after : Nodes → Option Change → Nodes
 nodes_after nodes None = nodes
 nodes_after nodes (Some change) = changed nodes change.change
 
--- the locks behind what becomes of one
+-- the locks after what becomes of one
 abbrev pub locks_after : LockTable → Locking → LockTable
 locks_after locks Nothing = locks
 locks_after locks (Takes put claim) = with_lock locks put.instance put.lock

@@ -51,7 +51,7 @@ use Rattle.master_parts.specs.declared.pending.Work.TheVariants as works
 abbrev pub recorded : MasterState → ℕ → LastCall Reply → MasterState
 recorded s client kept = record s { sessions = with_session s.sessions client (keeping kept) }
 
--- what waits behind all others, with the names that it touches
+-- what waits after all others, with the names that it touches
 abbrev pub queued : MasterState → List (List ℕ) → Task → MasterState
 queued s touched task = record s { gate = with_change (record { touched = touched; body = task }) s.gate }
 
@@ -166,7 +166,7 @@ open_admission s client number opening sequencer =
 abbrev pub leave_admission : Admission
 leave_admission = record { note = None; touched = None; told = None; answer = None }
 
--- the sequencer that it asks about is tested behind the one that it stands under
+-- the sequencer that it asks about is tested after the one that it stands under
 abbrev pub check_admission : MasterState → List ℕ → Option Fault → Admission
 check_admission s bytes (Some fault) = answering (results.Refused fault)
 check_admission s bytes None = answering (check_answer (name_space s) bytes)

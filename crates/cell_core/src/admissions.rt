@@ -97,7 +97,7 @@ fn handle_admission(
     })
 }
 
-// The sequencer that it asks about is tested behind the one that it stands under.
+// The sequencer that it asks about is tested after the one that it stands under.
 fn check_admission(
     master: &Master,
     bytes: &Bytes,

@@ -132,7 +132,7 @@ fn ask_one(master: &mut Master, asked: AskedBack)
     master.tables.issue_all(&clients);
 }
 
-// Who is asked for both names is asked for this one by the invalidation behind the first.
+// Who is asked for both names is asked for this one by the invalidation after the first.
 fn ask_above(master: &mut Master, asked: AskedBack)
     requires { renumbered master.old.rights asked.clients ≡ clients_to_ask asked.name master.old.rights }
     ensures { master.new ≡ asking master.old asked.name }

@@ -95,7 +95,7 @@ impl MemoryMaster {
         self.master.restore_moment(before);
     }
 
-    /// The first moment behind the one noted last at which something may be to be done for a session or a lock by itself;
+    /// The first moment after the one noted last at which something may be to be done for a session or a lock by itself;
     /// `u64::MAX` stands for never. It says where to look first.
     pub fn next_moment(&self) -> u64 {
         self.master.next_moment()
@@ -135,7 +135,7 @@ impl MemoryMaster {
         undo(&mut self.master, former);
     }
 
-    /// What was kept for taking an update back is forgotten. To be called behind the commit. Takes no memory.
+    /// What was kept for taking an update back is forgotten. To be called after the commit. Takes no memory.
     pub fn settle(&mut self, former: FormerParts)
         ensures { self.new ≡ self.old }
     {

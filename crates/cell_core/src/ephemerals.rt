@@ -46,7 +46,7 @@ impl MemoryMaster {
         master.tables.is_left(&idle.name, node)
     }
 
-    /// The deletion of an ephemeral node waits behind all other changes, and who may keep its name in a cache, or the
+    /// The deletion of an ephemeral node waits after all other changes, and who may keep its name in a cache, or the
     /// one above, is asked for it.
     pub fn tidy(&mut self, idle: Orphan) -> Result<(), AllocError>
         requires { is_ok (push_answer self.old.gate) ≡ true }

@@ -200,7 +200,7 @@ fn lock_taken(handle: &Handle, claim: Claim, lock: Lock) -> Result<Effect, Alloc
     })
 }
 
-// The caller waits behind all others. It is answered when it gets the lock, or can't get it any more.
+// The caller waits after all others. It is answered when it gets the lock, or can't get it any more.
 fn lock_awaited(handle: &Handle, lock: Lock) -> Result<Effect, AllocError>
     ensures { IfOk result (λ done. done ≡ lock_awaited handle.now lock) }
 {

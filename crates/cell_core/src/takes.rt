@@ -421,7 +421,7 @@ fn queue_touching(
     queue_call(master, message, names)
 }
 
-// A call stands behind all others, and is the last one of its client.
+// A call stands after all others, and is the last one of its client.
 fn queue_call(
     master: &mut Master,
     message: &CallMessage,
@@ -449,7 +449,7 @@ fn queue_call(
     Ok(())
 }
 
-// What waits stands behind all others.
+// What waits stands after all others.
 pub(crate) fn queue(master: &mut Master, touched: Items<Name>, task: Task) -> Result<(), AllocError>
     requires { is_ok (push_answer master.old.gate) ≡ true }
     ensures ok { OnOk result (master.new ≡ queued master.old touched task) }

@@ -202,7 +202,7 @@ leaving_case s now out message call (results.Listed view) heard is for at other 
 leaving_case s now out message call (results.Sequencer bytes) heard is for at other = refused_leave s now out message call heard is for at
 leaving_case s now out message call (results.Refused fault) heard is for at other = refused_leave s now out message call heard is for at
 
--- ---- its tests, one behind the other
+-- ---- its tests, one after the other
 
 target_case : (s : ClientState) (now : ℕ) (out : Out) (message : Reply) (call : Outstanding) (target : Target) → IsHeard s now out → out ≡ outs.Reply message → IsAwaited s now message call → call.target ≡ target → IsGiven s now out (reply_for s (noted_moment s now) message (Some target))
 target_case s now out message call targets.NewHandle heard is for at = finish_case s now out message call targets.NewHandle heard is for at (λ e. cc)

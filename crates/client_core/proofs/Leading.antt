@@ -1,4 +1,4 @@
--- The changes of the cache that are asked for before a step lead to the cache behind it.
+-- The changes of the cache that are asked for before a step lead to the cache after it.
 use Rattle.std.proofs.Common.{◌≡◌, ◌≢◌, ℕ, ◌+◌, ◌<◌, Bool, true, false, cond, List, [], ◌∷◌, ◌++◌, Option, Some, None, Result, Ok, Err, refl, sym, ap, ◌∙◌, subst, arith, ◌⊎◌, inl, inr}
 use Rattle.std.specs.Prelude.{◌==◌, ◌&&◌, nat_lt, IfOk, is_none, not}
 use Rattle.std.proofs.lemmas.Bool.Decides.{nat_tests}
@@ -46,7 +46,7 @@ use Rattle.cache_core.specs.declared.standings.SessionTrust.TheVariants as stand
 
 -- ---- lists of changes
 
--- one more change, done behind the others
+-- one more change, done after the others
 pub and_then : (cache : CacheState) (ops : List CacheOp) (more : List CacheOp) (behind : CacheState) → applied_all cache ops ≡ behind → applied_all cache (ops ++ more) ≡ applied_all behind more
 and_then cache ops more behind h = fold-append applied cache ops more ∙ ap (λ c. applied_all c more) h
 
@@ -108,7 +108,7 @@ stays_under s moment message ops h worse =
 pub shuts : (cache : CacheState) (ops : List CacheOp) (behind : CacheState) → applied_all cache ops ≡ behind → applied_all cache (ops ++ losses) ≡ shut behind
 shuts cache ops behind h = loses cache ops behind h
 
--- the changes behind which a client that ends its session has nothing
+-- the changes after which a client that ends its session has nothing
 abbrev pub shut_ops : Bool → List CacheOp → List CacheOp
 shut_ops leaving ops = cond leaving (ops ++ losses) ops
 

@@ -125,7 +125,7 @@ silent s moment client call handle more X h told =
     let two : true ≡ false = ap gives_handle (sym told) ∙ none in
     cc
 
--- a line that is printed behind it is the last one
+-- a line that is printed after it is the last one
 ends_in : (s : ClientState) (moment : ℕ) (line end : Line) → Ends (note_lines s moment ++ line ∷ []) end → line ≡ end
 ends_in s moment line end h = sym (last_is lines.Recovered line (note_lines s moment)) ∙ h
 

@@ -125,7 +125,7 @@ with_call s moment call sequencer target = record s {
   leaving = s.leaving || is_leaving target;
 }
 
--- it is sent under the next number; behind the last number nothing changes
+-- it is sent under the next number; after the last number nothing changes
 abbrev pub send_step : ClientState → ℕ → Call → Option (List ℕ) → Target → ClientState × Result AskOutcome Fault
 send_step s moment call sequencer target =
     if nat_lt (s.calls + 1) number_end then (with_call s moment call sequencer target, Ok (asked_for [] (Sent (message_of s call sequencer)))) else (s, Err faults.Exhausted)
@@ -134,7 +134,7 @@ send_step s moment call sequencer target =
 abbrev pub with_shared : ClientState → ℕ → ClientHandle → ClientState
 with_shared s moment handle = record s { clock = moment; handles = insert_entry nat_cmp s.handles (s.opened + 1) handle; opened = s.opened + 1 }
 
--- it is told as an Open that ended; behind the last number nothing changes
+-- it is told as an Open that ended; after the last number nothing changes
 abbrev pub share_step : ClientState → ℕ → Line → ClientHandle → ClientState × Result AskOutcome Fault
 share_step s moment line handle =
     if nat_lt (s.opened + 1) number_end

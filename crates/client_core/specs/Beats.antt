@@ -26,7 +26,7 @@ with_beat s moment = record s { clock = moment; beats = s.beats + 1; sent = mome
 abbrev pub beaten : List Line → Option Request → Beaten
 beaten lines request = record { lines = lines; request = request }
 
--- first the time is noted. It goes out under the next number; behind the last number nothing changes
+-- first the time is noted. It goes out under the next number; after the last number nothing changes
 abbrev pub sends : ClientState → ℕ → Request → ClientState × Result Beaten Fault
 sends s moment message =
     if nat_lt (s.beats + 1) number_end then (with_beat (note s moment) moment, Ok (beaten (note_lines s moment) (Some message))) else (s, Err faults.Exhausted)

@@ -143,7 +143,7 @@ asked_in s now ask (Poisoned number handle safe is usable) =
 
 pub data BeatCase (s : ClientState) (now : ℕ) : Type 0 where
   BeatTooLate : moment_limit ≤ now → BeatCase s now
-  -- behind the last number
+  -- after the last number
   OutOfBeats : now < moment_limit → number_end ≤ s.beats + 1 → BeatCase s now
   Starts : now < moment_limit → s.session ≡ sessions.Unstarted → s.beats + 1 < number_end → BeatCase s now
   -- in a session that isn't given up

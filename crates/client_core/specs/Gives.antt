@@ -175,12 +175,12 @@ answer_of s (results.Sequencer bytes) = answers.Sequencer bytes
 answer_of s results.Done = answers.Okay
 answer_of s (results.Refused fault) = answers.Refused fault
 
--- the handles behind a Close that was done
+-- the handles after a Close that was done
 abbrev pub closed : List (ℕ × ClientHandle) → Target → List (ℕ × ClientHandle)
 closed handles (targets.Closing number) = remove_entry (is_at (nat_cmp number)) handles
 closed handles _ = handles
 
--- the handles behind a SetSequencer that was done
+-- the handles after a SetSequencer that was done
 abbrev pub sequenced : List (ℕ × ClientHandle) → Target → Option (List ℕ) → List (ℕ × ClientHandle)
 sequenced handles (targets.Sequencing number) sequencer = put_under handles number sequencer (handle_of handles number)
 sequenced handles _ sequencer = handles
@@ -211,7 +211,7 @@ abbrev pub ended : ClientState → ℕ → Target → CallResult → Option Less
 ended s moment target result None = ended_plainly (note s moment) target result
 ended s moment target result (Some taught) = with_lesson s moment taught
 
--- behind the last handle number nothing changes
+-- after the last handle number nothing changes
 abbrev pub finish_step : ClientState → ℕ → Reply → Target → ClientState × Result Given Fault
 finish_step s moment message target =
     if has_number s.opened message.result

@@ -34,7 +34,7 @@ abbrev pub put_under : List (ℕ × ClientHandle) → ℕ → Option (List ℕ) 
 put_under handles number sequencer None = handles
 put_under handles number sequencer (Some handle) = set_value (is_at (nat_cmp number)) handles (record handle { sequencer = sequencer })
 
--- the handles behind the outstanding call, if it was an Open
+-- the handles after the outstanding call, if it was an Open
 abbrev pub handles_behind : List (ℕ × ClientHandle) → ℕ → NewHandle → Option Open → List (ℕ × ClientHandle)
 handles_behind handles number handle None = handles
 handles_behind handles number handle (Some opening) = insert_entry nat_cmp handles number (kept_handle handle opening (is_shareable handle opening))

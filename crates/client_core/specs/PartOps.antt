@@ -9,7 +9,7 @@ use Rattle.tags_cell.specs.declared.messages.beats.Invalidation.{Invalidation}
 abbrev pub losses : List CacheOp
 losses = Clear ∷ Enabled false ∷ []
 
--- behind these the names that the invalidations above what was processed are of
+-- after these the names that the invalidations above what was processed are of
 abbrev pub with_flushes : ℕ → List CacheOp → List Invalidation → List CacheOp
 with_flushes processed ops [] = ops
 with_flushes processed ops (next ∷ others) = with_flushes processed (if nat_lt processed next.number then ops ++ Flush next.name ∷ [] else ops) others

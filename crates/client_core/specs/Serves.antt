@@ -27,7 +27,7 @@ abbrev pub cached_served : ClientState → ClientHandle → NodeCall → Option 
 cached_served s handle call None = None
 cached_served s handle call (Some entry) = option_map (serve_answer s handle entry) (cached_answer handle call entry)
 
--- exactly where something is cached under the handle's name that answers the call, and the handle may read and has no sequencer
+-- exactly if something is cached under the handle's name that answers the call, and the handle may read and has no sequencer
 abbrev pub read_served : ClientState → ℕ → ClientHandle → NodeCall → Option AskPlan
 read_served s moment handle call =
     if handle.mode.read && is_none handle.sequencer then cached_served s handle call (answer s.cache moment handle.name) else None

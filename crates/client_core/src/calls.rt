@@ -42,7 +42,7 @@ impl Client {
     /// A Poison sends nothing either: the client answers it, as call 0. An outstanding call on the handle that isn't a
     /// Close is then told as refused, and its reply is dropped when it comes. Until then it stays outstanding.
     ///
-    /// Err for want of memory, and as Exhausted for a moment of 2^53 or more, behind the last call number and behind the
+    /// Err for want of memory, and as Exhausted for a moment of 2^53 or more, after the last call number and after the
     /// last handle number, 2^63-1: nothing is noted then.
     #[tactic(auto, unfolding(crate::specs::Asks::ask_step))]
     pub fn ask(&mut self, now: u64, asked: &Ask) -> Result<AskOutcome, Fault>

@@ -119,7 +119,7 @@ impl Client {
     /// Asks for what keeps the session, under the next number: a Start until the client has a session, then a Beat, which
     /// acknowledges the invalidations and the events that it has processed; where the session is lost, or the client
     /// was told that it gets none, nothing more. The lease that it is answered with counts from the moment that is noted
-    /// now. The lines are those that the noting of the time prints. Behind the last number, 2^63-1, it is refused as
+    /// now. The lines are those that the noting of the time prints. After the last number, 2^63-1, it is refused as
     /// Exhausted, and nothing changes.
     #[tactic(auto, unfolding(crate::specs::Beats::beat_step))]
     pub fn beat(&mut self, now: u64) -> Result<Beaten, Fault>
@@ -172,7 +172,7 @@ impl Client {
     /// what the noting of the time does: a repeated one, one of another epoch, another refusal, any message once the
     /// session is lost, and one for another client, which can't come where messages are delivered to those that they name.
     ///
-    /// Err for want of memory, and as Exhausted for a moment of 2^53 or more and for a handle behind the last handle
+    /// Err for want of memory, and as Exhausted for a moment of 2^53 or more and for a handle after the last handle
     /// number, 2^63-1: nothing is noted then.
     #[tactic(auto, unfolding(crate::specs::Gives::give_step))]
     pub fn give(&mut self, now: u64, out: &Out) -> Result<Given, Fault>

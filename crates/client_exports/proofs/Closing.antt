@@ -1,4 +1,4 @@
--- A client that has asked for the end of its session serves nothing behind each step.
+-- A client that has asked for the end of its session serves nothing after each step.
 use Rattle.std.proofs.Common.{ℕ, Result, Ok, Err, sym, subst}
 use Rattle.node_core.specs.declared.refusals.Fault.{Fault}
 use Rattle.tags_cell.specs.declared.messages.outs.Out.{Out}

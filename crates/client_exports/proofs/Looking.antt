@@ -33,7 +33,7 @@ use Rattle.client_exports.specs.Hits.{served_content, hit, readable, shown, foun
 abbrev pub told : HeldState → ClientState × Result AskOutcome Fault → Option (List ℕ)
 told held step = served_content (asked held step)
 
--- ---- behind a plan
+-- ---- after a plan
 
 abbrev sent_read : ClientState → ℕ → ClientHandle → Result AskPlan Fault
 sent_read s n h = send_plan s (call_on h.bytes nodes.Read) h.sequencer (targets.Handle n)

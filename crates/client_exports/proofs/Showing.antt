@@ -1,4 +1,4 @@
--- Lines as bytes, one behind the other.
+-- Lines as bytes, one after the other.
 use Rattle.std.proofs.Common.{◌≡◌, ℕ, suc, ◌+◌, ◌<◌, ◌≤◌, List, [], ◌∷◌, ◌++◌, length, get_or, take, refl, sym, ap, ◌∙◌, append_assoc, arith}
 use Rattle.std.proofs.lemmas.List.{take_all}
 use Rattle.std.proofs.Math.Seq.{take-suc}
@@ -15,7 +15,7 @@ take_next xs i x less at =
     let next : i + 1 ≡ suc i = omega arith in
     ap (λ (n : ℕ). take n xs) next ∙ take-suc xs i x less ∙ ap (λ (y : Line). take i xs ++ y ∷ []) (sym at)
 
--- behind one more
+-- after one more
 pub bytes_next : (xs : List Line) (i : ℕ) (x : Line) (old new : List ℕ) → i < length xs → x ≡ get_or xs i x → old ≡ lines_bytes (take i xs) → new ≡ old ++ lines_bytes (x ∷ []) → new ≡ lines_bytes (take (i + 1) xs)
 bytes_next xs i x old new less at before put =
     put ∙ ap (λ (front : List ℕ). front ++ lines_bytes (x ∷ [])) before ∙ sym (ap lines_bytes (take_next xs i x less at) ∙ both_bytes (take i xs) (x ∷ []))

@@ -16,7 +16,7 @@ abbrev pub message_bytes : Option Request → Result (List ℕ) WireFault
 message_bytes None = Ok []
 message_bytes (Some message) = written request message
 
--- the lines, each with an LF behind it
+-- the lines, each with an LF after it
 abbrev pub lines_bytes : List Line → List ℕ
 lines_bytes [] = []
 lines_bytes (line ∷ rest) = line_text line ++ (10 ∷ lines_bytes rest)

@@ -115,7 +115,7 @@ pub record IsOwn (fault : Fault) : Type 0 where
   pub no_want : fault ≢ faults.NoMemory
   pub no_end : fault ≢ faults.Exhausted
 
--- what a holder counts on: behind Failed, Bad and NoCall it all stands as it was, and the refusals of a step are others
+-- what a holder counts on: after Failed, Bad and NoCall it all stands as it was, and the refusals of a step are others
 abbrev pub Stays : HeldState → HeldState → Status → Type 0
 Stays old new statuses.Done = Unit {0}
 Stays old new statuses.Send = Unit {0}

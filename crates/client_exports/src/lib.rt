@@ -358,7 +358,7 @@ pub extern "C" fn cell_client_again(
     put(handle.as_mut().again(), room, length)
 }
 
-/// The lines of the last step, each with an LF behind it: 0, or 1 for want of memory.
+/// The lines of the last step, each with an LF after it: 0, or 1 for want of memory.
 #[unsafe(no_mangle)]
 pub extern "C" fn cell_client_lines(
     handle: &mut OwnedClient,

@@ -27,7 +27,7 @@ impl HeldClient {
         message_bytes(self.alloc, self.client.get().again())
     }
 
-    /// The lines that the last step printed, each with an LF behind it. Refused for want of memory alone.
+    /// The lines that the last step printed, each with an LF after it. Refused for want of memory alone.
     pub fn lines(&self) -> Result<Bytes, WireFault>
         ensures { Gives WireFault.NoMemory result (Ok (lines_bytes self.now.lines)) }
     {

@@ -30,7 +30,7 @@ pub struct LineParts {
     pub kind: u32,
     /// 0 permanent, 1 ephemeral.
     pub life: u32,
-    /// Of a refusal: the generation, the count, the milliseconds, the epoch or the place that stands behind its name; of the kind that
+    /// Of a refusal: the generation, the count, the milliseconds, the epoch or the place that stands after its name; of the kind that
     /// is there 0 a file, 1 a directory; of the right that is missing 1 to read, 2 to write, 4 to change ACL names; of a held lock
     /// 0 exclusive, 1 shared.
     pub argument: u64,

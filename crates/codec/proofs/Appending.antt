@@ -1,4 +1,4 @@
--- One value written behind the other.
+-- One value written after the other.
 use Rattle.std.proofs.Common.{◌≡◌, List, ◌++◌, Result, Ok, Err, ap, subst, ◌∙◌, append_assoc, ℕ}
 use Rattle.std.specs.Prelude.{OnOk}
 use Rattle.codec.specs.Forms.{Form, ◌⊗◌, Appends}

@@ -151,7 +151,7 @@ counted_form = record {
       ∙ next_again (length x) x rest refl;
 }
 
--- ---- one behind the other
+-- ---- one after the other
 
 pub nothing_form : IsForm nothing
 nothing_form = record {
@@ -250,7 +250,7 @@ choice_form all place placed = record {
   again = λ x rest holds short. ap (λ (o : Option _). known o rest) holds;
 }
 
--- what was taken behind a choice
+-- what was taken after a choice
 pub record TakesKind {K X : Type 0} (kind : X → K) (is : X → Type 0) (body : X → List ℕ) (k : K) (bytes : List ℕ) (x : X) (rest : List ℕ) : Type 0 where
   pub same : kind x ≡ k
   pub holds : is x

@@ -49,7 +49,7 @@ write_push : {X : Type 0} (write : X → List ℕ) (xs : List X) (x : X) → wri
 write_push write [] x = append-nil (write x)
 write_push write (y ∷ xs) x = ap (λ (u : List ℕ). write y ++ u) (write_push write xs x) ∙ sym (append_assoc (write y) (write_all write xs) (write x))
 
--- the first so many are written behind what was there
+-- the first so many are written after what was there
 abbrev pub WritesFirst : {X : Type 0} → Form X → List X → ℕ → List ℕ → List ℕ → Type 0
 WritesFirst f xs i old new = AllByRecursion f.is (take i xs) × (new ≡ old ++ write_all f.write (take i xs))
 

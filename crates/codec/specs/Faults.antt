@@ -75,7 +75,7 @@ has_argument (faults.ReceiptApart x) = word.is x
 has_argument (faults.NoRoom x) = word.is x
 has_argument fault = Unit {0}
 
--- what stands behind the number
+-- what stands after the number
 abbrev pub fault_behind : Fault → List ℕ → Result (Fault × List ℕ) WireFault
 fault_behind (faults.WrongKind _) bytes = behind faults.WrongKind kind bytes
 fault_behind (faults.Denied _) bytes = behind faults.Denied right bytes

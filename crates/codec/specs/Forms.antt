@@ -5,7 +5,7 @@ use Rattle.byteorder.specs.Endian.{big_bytes, big_number}
 use Rattle.codec.specs.declared.faults.WireFault.{WireFault}
 use Rattle.codec.specs.declared.faults.WireFault.TheVariants.{NoMemory, TooLong, Cut, Extra, BadVersion, BadKind}
 
--- one step of reading behind the other; the first fault ends it
+-- one step of reading after the other; the first fault ends it
 infixl 10 ◌>>=◌
 abbrev pub ◌>>=◌ : {A B : Type 0} → Result A WireFault → (A → Result B WireFault) → Result B WireFault
 (Ok x) >>= f = f x
@@ -17,7 +17,7 @@ pub record Form (X : Type 0) : Type 1 where
   pub is : X → Type 0
   -- the bytes of a value
   pub write : X → List ℕ
-  -- the value at the front of bytes, and what stands behind it
+  -- the value at the front of bytes, and what stands after it
   pub read : List ℕ → Result (X × List ℕ) WireFault
 
 -- what a reader answers, seen by view, and what it leaves are what reading gives, unless memory ran out
@@ -63,7 +63,7 @@ counted = record {
   read = λ bytes. next_at 4 bytes >>= λ front. next_at (big_number 4 front.0) front.1;
 }
 
--- ---- one behind the other
+-- ---- one after the other
 
 -- nothing at all
 abbrev pub nothing : Form (Unit {0})
@@ -73,7 +73,7 @@ nothing = record {
   read = λ bytes. Ok (tt, bytes);
 }
 
--- one value behind the other
+-- one value after the other
 infixr 20 ◌⊗◌
 abbrev pub ◌⊗◌ : {A B : Type 0} → Form A → Form B → Form (A × B)
 f ⊗ g = record {
@@ -116,7 +116,7 @@ choice all place = record {
   read = λ bytes. choice_at all bytes;
 }
 
--- a value behind the choice that says of which kind it is
+-- a value after the choice that says of which kind it is
 abbrev pub of_kind : {K X : Type 0} → Form K → (X → K) → (X → Type 0) → (X → List ℕ) → (K → List ℕ → Result (X × List ℕ) WireFault) → Form X
 of_kind kinds kind is body rest = record {
   is = is;
@@ -124,7 +124,7 @@ of_kind kinds kind is body rest = record {
   read = λ bytes. kinds.read bytes >>= λ k. rest k.0 k.1;
 }
 
--- what stands behind the choice, as a value of that kind
+-- what stands after the choice, as a value of that kind
 abbrev pub behind : {A X : Type 0} → (A → X) → Form A → List ℕ → Result (X × List ℕ) WireFault
 behind make f bytes = f.read bytes >>= λ a. Ok (make a.0, a.1)
 
@@ -167,7 +167,7 @@ listed f = record {
 
 -- ---- a whole message
 
--- the version of this format: it rises with each change of what stands behind it
+-- the version of this format: it rises with each change of what stands after it
 abbrev pub version : ℕ
 version = 2
 
@@ -178,7 +178,7 @@ length_end = 2 ^ 32
 abbrev pub short_of : List ℕ → Result (List ℕ) WireFault
 short_of bytes = if nat_lt (length bytes) length_end then Ok bytes else Err TooLong
 
--- the bytes of a message, behind the version; or that there would be too many
+-- the bytes of a message, after the version; or that there would be too many
 abbrev pub written : {X : Type 0} → Form X → X → Result (List ℕ) WireFault
 written f x = short_of (version ∷ f.write x)
 
@@ -186,11 +186,11 @@ abbrev pub version_at : List ℕ → Result (List ℕ) WireFault
 version_at [] = Err Cut
 version_at (b ∷ rest) = if b == version then Ok rest else Err BadVersion
 
--- what stands behind the version
+-- what stands after the version
 abbrev pub begin_at : List ℕ → Result (List ℕ) WireFault
 begin_at bytes = if nat_lt (length bytes) length_end then version_at bytes else Err TooLong
 
--- nothing stands behind
+-- nothing stands after
 abbrev pub end_at : {X : Type 0} → X → List ℕ → Result X WireFault
 end_at x rest = if length rest == 0 then Ok x else Err Extra
 

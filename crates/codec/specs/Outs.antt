@@ -199,6 +199,6 @@ abbrev pub has_bytes : Out → Bool
 has_bytes (outs.Reply message) = has_view message.result
 has_bytes _ = true
 
--- the bytes of what a master sends, behind the version; none where a file has children
+-- the bytes of what a master sends, after the version; none where a file has children
 abbrev pub out_written : Out → Result (List ℕ) WireFault
 out_written message = if has_bytes message then written out_message message else Err BadNumber

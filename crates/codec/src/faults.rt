@@ -17,7 +17,7 @@ pub enum WireFault {
     /// The bytes end within a message.
     #[error("cut off")]
     Cut,
-    /// Bytes stand behind the message.
+    /// Bytes stand after the message.
     #[error("bytes behind the message")]
     Extra,
     /// The first byte isn't the version of this format.

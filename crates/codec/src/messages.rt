@@ -17,7 +17,7 @@ use node_core::Line;
 use std::alloc::Global;
 use tags_cell::{Out, Request};
 
-/// The version of this format, the first byte of each message. It rises with each change of what stands behind it.
+/// The version of this format, the first byte of each message. It rises with each change of what stands after it.
 pub const VERSION: u8 = 2;
 
 // All bytes of a message are fewer.
@@ -111,7 +111,7 @@ fn whole(out: Vec<u8>) -> Result<Bytes, WireFault>
     Ok(Bytes::from_vec(out)?)
 }
 
-// What stands behind the version.
+// What stands after the version.
 fn begin(bytes: &[u8]) -> Result<Input, WireFault>
     ensures { Gives WireFault.NoMemory result (begin_at bytes.now) }
 {

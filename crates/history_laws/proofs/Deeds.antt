@@ -50,7 +50,7 @@ use Rattle.history_laws.proofs.Entries.{EachIs, each_so, each_both, each_moved, 
 use Rattle.history_laws.proofs.Ticking.{IsTimely, IsTimelyWorld, Led, LedFrom, IsMastersClock, FairFrom, Reach, Ticks, at_once, alone_by, beside_by}
 use Rattle.history_laws.proofs.Mirrored.{Mirrors, client_at, found_client, clients_stay, stepped_clients, put_clients, view}
 
--- a step is made, behind which the world holds what the parts do, at the same moment
+-- a step is made, after which the world holds what the parts do, at the same moment
 pub record Follows (w : WorldState) (entries : List Entry) (now : Clocks) (new : Parts) (printed : List Line) : Type 0 where
   pub step : Step
   pub behind : WorldState

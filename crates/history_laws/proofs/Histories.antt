@@ -169,7 +169,7 @@ module _ (p : Parts) (w : WorldState) (leave : List Rows) (here : Clocks) (entry
       let ticks = beside (ap begins_life is) in
       enters ticks new printed (hears (there ticks) entries now ticks.timely p (there_mirrors ticks) at new printed t)
 
--- ---- runs, one behind the other
+-- ---- runs, one after the other
 
 run_append : (old mid new : WorldView) (first second : List Step) (printed told : List Line) → AnyRun old first printed mid → AnyRun mid second told new → AnyRun old (first ++ second) (printed ++ told) new
 run_append old mid new [] second printed told one two = rw (sym one.1, one.0) two

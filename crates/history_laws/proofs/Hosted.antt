@@ -47,7 +47,7 @@ use Rattle.history_laws.specs.Parts.{Parts, Deed, ComesUp, Takes, Sweeps, Answer
 use Rattle.history_laws.specs.Histories.{Clocks, Entry, Does, History}
 use Rattle.history_laws.specs.Hosted.{swept_lines, swept_outs, settled_lines, settled_outs, reply_lines, reply_outs, IsHostedIn, IsPossibleFrame, IsAtMoment, at_moment, behind_frame, FramesAreDeeds, BytesCarryMessages, TrailsAreDeeds}
 
--- ---- the parts behind some steps
+-- ---- the parts after some steps
 
 -- with this master and these rows, and with messages more
 abbrev pub placed : Parts → CellState → List Out → Parts
@@ -59,7 +59,7 @@ told_more told a b = append_assoc told (map ToClient a) (map ToClient b) ∙ ap 
 pub placed_again : (p : Parts) (mid new : CellState) (a b : List Out) → placed (placed p mid a) new b ≡ placed p new (a ++ b)
 placed_again p mid new a b = ap (λ told. record p { rows = new.store.rows; master = Some new.master; told = told }) (told_more p.told a b)
 
--- ---- histories, one behind the other
+-- ---- histories, one after the other
 
 pub history_append : (old mid new : Parts) (first second : List Entry) (printed told : List Line) → History old first printed mid → History mid second told new → History old (first ++ second) (printed ++ told) new
 history_append old mid new [] second printed told one two = rw (sym one.1, one.0) two
@@ -171,7 +171,7 @@ settles_are clocks now at p old new settled has h =
     subst (λ q. AreDeeds p clocks (settled_lines settled) q) (placed_again p h.mid new (swept_outs sweeps) (swept_outs beats))
     (deeds_append p (placed p h.mid (swept_outs sweeps)) (placed (placed p h.mid (swept_outs sweeps)) new (swept_outs beats)) clocks (swept_lines sweeps) (swept_lines beats) first later)
 
--- ---- the store behind them
+-- ---- the store after them
 
 pub record IsLater (old new : Store) : Type 0 where
   pub cell : new.cell ≡ old.cell
@@ -222,7 +222,7 @@ settles_later now old new settled h =
 
 -- ---- each frame
 
--- what a frame does: deeds, behind which what is hosted is the parts' again
+-- what a frame does: deeds, after which what is hosted is the parts' again
 abbrev Is : Parts → Clocks → Hosted → FrameReply → Type 0
 Is p clocks new reply = AreDeeds p clocks (reply_lines reply) (behind_frame p new (reply_outs reply)) × IsHostedIn (behind_frame p new (reply_outs reply)) new
 

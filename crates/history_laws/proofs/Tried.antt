@@ -241,7 +241,7 @@ module _ (p : Parts) (clocks : Clocks) where
   tried_so AnswersBeat = λ x h. cc
   tried_so (Asks number ask) = λ x h. cc
 
--- ---- entries, one behind the other
+-- ---- entries, one after the other
 
 abbrev and_then : List Line → Option Behind → Option Behind
 and_then here (Some x) = Some (x.0, here ++ x.1)

@@ -93,7 +93,7 @@ IsAtMoment clocks _ = Unit {0}
 abbrev pub at_moment : Clocks → List Deed → List Entry
 at_moment clocks deeds = map (λ deed. record { clocks = clocks; deed = deed }) deeds
 
--- behind a frame: the same parts, but for what is hosted and what is told
+-- after a frame: the same parts, but for what is hosted and what is told
 abbrev pub behind_frame : Parts → Hosted → List Out → Parts
 behind_frame p host outs = record p { rows = host.store.rows; master = host.master; told = p.told ++ map ToClient outs }
 

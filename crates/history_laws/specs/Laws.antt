@@ -30,7 +30,7 @@ pub record HoldsParts (w : WorldView) (p : Parts) : Type 0 where
   pub messages : w.world.messages ≡ p.told
   pub undoubted : IsUndoubted w
 
--- steps of a world from its beginning that print these lines, and behind which it holds what these parts hold
+-- steps of a world from its beginning that print these lines, and after which it holds what these parts hold
 pub record IsRunOf (cell : List ℕ) (rows : Rows) (terms : MasterTerms) (printed : List Line) (end : Parts) : Type 0 where
   pub steps : List Step
   pub new : WorldView

@@ -48,12 +48,12 @@ nothing_yet cell rows terms = record { cell = cell; rows = rows; master = None; 
 pub data Deed : Type 0 where
   -- a master comes up
   ComesUp : Deed
-  -- and is gone behind the commit of its epoch
+  -- and is gone after the commit of its epoch
   FallsComingUp : Deed
   -- it takes a message
   Takes : ℕ → Deed
   Sweeps : Deed
-  -- it is gone behind a sweep's commit, and has told nobody of it
+  -- it is gone after a sweep's commit, and has told nobody of it
   FallsSweeping : Deed
   -- it answers a Beat that is due, and commits nothing
   AnswersBeat : Deed

@@ -132,7 +132,7 @@ module _ (s : MasterState) (key : HandleKey) (closed : IsClosed s key) where
     by_beat client =
         elim (offer_of s.sessions client s.clock) as (λ o. IsClosed (with_note s (option_map_or (λ (offer : Offer). session_plan (Answers client) [] (alive_out s client offer ∷ [])) o no_plan).update.note) key) [ None ↦ closed | Some offer ↦ closed ]
 
-    -- as the handles stand behind an update
+    -- as the handles stand after an update
     by_plan : (plan : Plan) → IsClosed (with_note s plan.update.note) key → IsClosedForGood (done s plan.update) key
     by_plan plan h = record {
       closed = ap (λ entries. lookup (is_at (handle_order key)) entries) (done_handles s plan.update) ∙ h;

@@ -1,4 +1,4 @@
--- A handle that was closed for good is so behind every list of steps.
+-- A handle that was closed for good is so after every list of steps.
 use Rattle.std.proofs.Common.{◌≡◌, ℕ, [], ◌∷◌, false, Ok, Err, refl}
 use Rattle.std.specs.List.{list_any}
 use Rattle.tags_cell.specs.declared.messages.requests.Request.{Request}

@@ -1,4 +1,4 @@
--- An Open that makes nothing is answered with a handle exactly where the client may open the node so.
+-- An Open that makes nothing is answered with a handle exactly if the client may open the node so.
 use Rattle.std.proofs.Common.{◌≡◌, ◌≤◌, ℕ, Bool, true, false, cond, Option, Some, None, Result, Ok, Err, refl, ap, subst, arith}
 use Rattle.std.specs.Prelude.{◌&&◌, not, nat_lt}
 use Rattle.std.specs.Option.{option_map_or}

@@ -1,4 +1,4 @@
--- What holds of each client's session behind a message, and behind a sweep.
+-- What holds of each client's session after a message, and after a sweep.
 use Rattle.std.proofs.Common.{◌≡◌, ℕ, ◌+◌, List, [], ◌∷◌, ◌++◌, true, false, cond, Option, Some, None, sym, subst}
 use Rattle.std.specs.Prelude.{map, nat_le}
 use Rattle.std.specs.Map.{lookup}

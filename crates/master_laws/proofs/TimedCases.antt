@@ -131,7 +131,7 @@ timed_case s order orderly =
       | false ↦ (λ h. timed_by s order orderly (lowest s.sessions (is_client_expired s.clock)) refl h)
     ]) refl
 
--- what is left of a step, behind which clients are told
+-- what is left of a step, after which clients are told
 abbrev pub IsTimedAndTold : (s : MasterState) → List SessionEvent → MasterState → Type 0
 IsTimedAndTold s tellings new = (c : SweepCase s) × IsTimed s c × (new ≡ with_tellings (swept_by s c).0 tellings)
 

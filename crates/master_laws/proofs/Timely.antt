@@ -1,4 +1,4 @@
--- No session ends later than 60,002 ms behind the last moment that the master was told, and nothing is kept of a later moment.
+-- No session ends later than 60,002 ms after the last moment that the master was told, and nothing is kept of a later moment.
 use Rattle.std.proofs.Common.{◌≡◌, ℕ, ◌+◌, ◌≤◌, List, [], ◌∷◌, ◌++◌, Bool, true, false, cond, Option, Some, None, refl, sym, ap, subst, ◌∙◌, inl, inr, arith}
 use Rattle.std.specs.Prelude.{◌⊎◌, max}
 use Rattle.std.specs.Option.{option_map_or, option_or}

@@ -138,7 +138,7 @@ own_alike now new old h =
     sums : (a b c d e f g h i j : ℕ) → a ≡ b → c ≡ d → e ≡ f → g ≡ h → i ≡ j → a + c + 2 * e + g + i ≡ b + d + 2 * f + h + j
     sums a b c d e f g h i j p q r s t = omega (arith, p, q, r, s, t)
 
--- what is alike behind a step is left less
+-- what is alike after a step is left less
 pub less_alike : (now : ℕ) (new after old : MasterState) → IsLike new after → HasLessToDo now after old → HasLessToDo now new old
 less_alike now new after old h less = elim less [
   | inl fewer ↦ inl (below (asked_left new) (asked_left after) (asked_left old) (asked_alike new after h) fewer)
@@ -175,7 +175,7 @@ same_live new old h = most (count_by lives (values_of new.sessions)) (count_by l
 stepped_table : (s : SessionTable Reply) (client : ℕ) (step : Session Reply → Session Reply) (session : Session Reply) → session_of s client ≡ Some session → (with_session s client step).sessions ≡ set_value (is_at (nat_cmp client)) s.sessions (step session)
 stepped_table s client step session found = ap (λ (o : Option (Session Reply)). (option_map_or (λ x. record s { sessions = set_value (is_at (nat_cmp client)) s.sessions (step x) }) o s).sessions) found
 
--- the count of a test behind a step of one session
+-- the count of a test after a step of one session
 pub count_step : (f : Session Reply → Bool) (s : SessionTable Reply) (client : ℕ) (step : Session Reply → Session Reply) (session : Session Reply) → session_of s client ≡ Some session → count_by f (values_of (with_session s client step).sessions) + one (f session) ≡ count_by f (values_of s.sessions) + one (f (step session))
 count_step f s client step session found =
     ap (λ (es : List (ℕ × Session Reply)). count_by f (values_of es) + one (f session)) (stepped_table s client step session found)

@@ -133,7 +133,7 @@ step_opens key (Takes now request) = asks_to_open key request
 step_opens key (Sweeps now) = false
 step_opens key (Beats now) = false
 
--- a handle that was closed for good is closed for good behind every list of steps, of which none is the Open that gave it
+-- a handle that was closed for good is closed for good after every list of steps, of which none is the Open that gave it
 abbrev pub ClosedForGoodForever : Type 0
 ClosedForGoodForever =
     (s : MasterState) (steps : List MasterStep) (key : HandleKey) → IsClosedForGood s key → list_any (step_opens key) steps ≡ false → IsClosedForGood (fold master_behind s steps) key

@@ -25,7 +25,7 @@ pub record IsHeldYet (s : MasterState) (now : ℕ) (lock : LockState) : Type 0 w
   pub live : session.live ≡ true
   pub later : now < session.timeout
 
--- it is closed for its delay, which ends later, and at most 60,000 ms behind the last moment that the master was told
+-- it is closed for its delay, which ends later, and at most 60,000 ms after the last moment that the master was told
 pub record IsClosedYet (s : MasterState) (now : ℕ) (lock : LockState) : Type 0 where
   pub closing : Closing
   pub closed : lock.closed ≡ Some closing

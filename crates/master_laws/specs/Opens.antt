@@ -51,7 +51,7 @@ pub record AreCarried (s : MasterState) (name : List ℕ) : Type 0 where
 abbrev pub IsGivenHandle : Taken → CallMessage → Type 0
 IsGivenHandle taken message = (handle : NewHandle) × IsAnsweredBy taken message (results.Opened handle)
 
--- an Open that makes nothing is answered with a handle exactly where the client may open the node so
+-- an Open that makes nothing is answered with a handle exactly if the client may open the node so
 abbrev pub OpensWherePermitted : Type 0
 OpensWherePermitted =
     (s new : MasterState) (now : ℕ) (message : CallMessage) (opening : Open) (taken : Taken) → TakesCall s now message new taken → IsPlainOpen s message opening → AreCarried s opening.name

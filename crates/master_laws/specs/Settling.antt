@@ -65,7 +65,7 @@ SettlingEnds = (cell : List ℕ) (rows : Rows) (s : MasterState) (now : ℕ) →
 
 -- ---- how many
 
--- more than what the cell has to do of its own accord, now and behind what clients asked for: at most 4,096 changes wait, and each that a client asked for makes one node at most, or begins one session
+-- more than what the cell has to do of its own accord, now and after what clients asked for: at most 4,096 changes wait, and each that a client asked for makes one node at most, or begins one session
 abbrev pub own_limit : MasterState → ℕ
 own_limit s =
     4098 + 3 * (length s.nodes + count_by (λ w. is_asked w.change.body) s.gate.waiting) + (length s.sessions.sessions + count_by (λ w. is_asked w.change.body) s.gate.waiting)

@@ -69,7 +69,7 @@ EachIsHeldUp =
     (lease up now : ℕ) (steps : List MasterStep) (s : MasterState) → HasComeUp lease up steps s → quiet_at s now ≡ true
     → All (λ change. (client : ℕ) × HoldsUp s now client change) s.gate.waiting
 
--- a live session ends at most 60,002 ms behind the last moment that the master was told
+-- a live session ends at most 60,002 ms after the last moment that the master was told
 abbrev pub SessionsEndInTime : Type 0
 SessionsEndInTime =
     (lease up client : ℕ) (steps : List MasterStep) (s : MasterState) (session : Session Reply) → HasComeUp lease up steps s → session_of s client ≡ Some session
@@ -140,7 +140,7 @@ RecoveryIsHeldUp =
 abbrev pub longest_recovery : ℕ → ℕ
 longest_recovery lease = recovery_timeout + patience lease + lease + lease
 
--- whatever clients send, where there is nothing to do that long behind the master's coming up the recovery is over
+-- whatever clients send, where there is nothing to do that long after the master's coming up the recovery is over
 abbrev pub RecoveriesEnd : Type 0
 RecoveriesEnd =
     (lease up now : ℕ) (steps : List MasterStep) (s : MasterState) → HasComeUp lease up steps s → quiet_at s now ≡ true → up + longest_recovery lease ≤ now
@@ -153,7 +153,7 @@ RecoveriesEnd =
 abbrev pub longest_hold : ℕ → ℕ
 longest_hold lease = max recovery_timeout (patience lease + lease) + patience lease + lease + lease + lease
 
--- whatever it sends, but no Start, that long behind a moment at which there was nothing to do a client holds no right any more that it was asked for by then
+-- whatever it sends, but no Start, that long after a moment at which there was nothing to do a client holds no right any more that it was asked for by then
 abbrev pub RightsComeBack : Type 0
 RightsComeBack =
     (lease up client now number : ℕ) (s new : MasterState) (steps : List MasterStep) (session : Session Reply) (name : List ℕ) → GoesOnWithout (asks_to_start client) lease up s steps new

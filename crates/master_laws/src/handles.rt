@@ -33,7 +33,7 @@ pub fn closed_for_good_by_sweeps()
     ensures { ClosedForGoodBySweeps }
 {}
 
-/// A handle that is closed for good is so behind every list of messages, sweeps and answered Beats, of which none is the
+/// A handle that is closed for good is so after every list of messages, sweeps and answered Beats, of which none is the
 /// Open of its own client under its own number.
 pub fn closed_for_good_forever()
     ensures { ClosedForGoodForever }

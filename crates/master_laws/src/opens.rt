@@ -2,7 +2,7 @@
 ghost use Rattle.master_laws.specs.Opens.{OpensWherePermitted, GivenHandleIsOpen};
 ghost use Rattle.master_laws.specs.Makes.{MakesOnlyWherePermitted, MakesWherePermitted, KeptNumbersAreCarried};
 
-/// An Open that makes nothing is answered with a handle exactly where the node is there, each right of its mode is
+/// An Open that makes nothing is answered with a handle exactly if the node is there, each right of its mode is
 /// permitted to the client's principal by the ACL files that the node names, and its lock-delay is within the limit.
 pub fn opens_where_permitted()
     ensures { OpensWherePermitted }

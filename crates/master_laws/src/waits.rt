@@ -7,12 +7,12 @@ pub fn each_is_held_up()
     ensures { EachIsHeldUp }
 {}
 
-/// A session ends at most 60,002 ms behind the last moment that the master was told.
+/// A session ends at most 60,002 ms after the last moment that the master was told.
 pub fn sessions_end_in_time()
     ensures { SessionsEndInTime }
 {}
 
-/// A session of which nothing is heard behind a quiet sweep ends at its timeout; where a Beat of it waited for its answer,
+/// A session of which nothing is heard after a quiet sweep ends at its timeout; where a Beat of it waited for its answer,
 /// at most a lease later.
 pub fn silent_sessions_end()
     ensures { SilentSessionsEnd }
@@ -30,7 +30,7 @@ pub fn recovery_is_held_up()
     ensures { RecoveryIsHeldUp }
 {}
 
-/// Whatever clients send, at the first quiet sweep three leases and 108,002 ms behind the master's coming up the recovery is
+/// Whatever clients send, at the first quiet sweep three leases and 108,002 ms after the master's coming up the recovery is
 /// over.
 pub fn recoveries_end()
     ensures { RecoveriesEnd }

@@ -19,7 +19,7 @@ pub one_back : (s new : MasterState) (all left : Formers) (instance : ℕ) (form
 one_back s new all left instance former are is =
     ap (λ t. without_locks t left) is ∙ ap (λ locks. record s { locks = locks }) (sym (last_first s.locks left instance former)) ∙ ap (λ formers. without_locks s formers) (sym are)
 
--- one more is put, and what was there is noted behind the others
+-- one more is put, and what was there is noted after the others
 pub one_put : (first s new : MasterState) (put : LockTable) (formers all : Formers) (instance : ℕ) (former : Option LockState) → without_locks s formers ≡ first → new ≡ record s { locks = put } → with_former nat_cmp new.locks instance former ≡ s.locks → all ≡ formers ++ (instance, former) ∷ [] → without_locks new all ≡ first
 one_put first s new put formers all instance former h is back are =
     ap (λ t. without_locks t all) is ∙ ap (λ fs. record s { locks = with_formers put fs }) are ∙ ap (λ locks. record s { locks = locks }) (last_first put formers instance former ∙ ap (λ locks. with_formers locks formers) (ap (λ t. with_former nat_cmp t.locks instance former) (sym is) ∙ back)) ∙ h

@@ -1,4 +1,4 @@
--- What a step of a master changes in it: first what may want memory, then, behind the one commit, the rest.
+-- What a step of a master changes in it: first what may want memory, then, after the one commit, the rest.
 use Rattle.std.specs.Prelude.{◌≡◌, ℕ, ◌+◌, Bool, true, false, List, [], ◌∷◌, ◌++◌, ◌==◌, map, fold, if◌then◌else◌, Option, Some, None}
 use Rattle.std.specs.Map.{remove_entry}
 use Rattle.std.specs.BTreeMap.{is_at, insert_entry}
@@ -97,7 +97,7 @@ without_locks s formers = record s { locks = with_formers s.locks formers }
 abbrev pub undone : MasterState → FormerParts → MasterState
 undone s former = without_begun (without_note (without_node (without_locks s former.locks) former.node) former.note) former.session
 
--- ---- what is done behind the commit
+-- ---- what is done after the commit
 
 -- what is left to be done to a session; one that ends holds no right any more
 abbrev pub session_rest : Option SessionUpdate → Option SessionUpdate

@@ -80,7 +80,7 @@ fn put_edit(name: &Name, node: &Node) -> Result<Edit, AllocError>
 
 // ---- locks
 
-// One lock behind the other.
+// One lock after the other.
 fn locks_edits(master: &Master, puts: &[LockPut]) -> Result<Items<Edit>, AllocError>
     ensures { IfOk result (λ edits. edits ≡ locks_edits (lock_changes master.now puts.now)) }
 {

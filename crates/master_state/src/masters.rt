@@ -171,7 +171,7 @@ impl Master {
         before
     }
 
-    /// The first moment behind the one noted last at which something may be to be done for a session or a lock by itself;
+    /// The first moment after the one noted last at which something may be to be done for a session or a lock by itself;
     /// `u64::MAX` stands for never. It says where to look first.
     pub fn next_moment(&self) -> u64 {
         self.tables.next_moment().min(self.locks.next_moment())

@@ -93,7 +93,7 @@ pub struct MapRest {
     pub next_instance: u64,
 }
 
-/// What is left of an update for behind the commit. It takes no memory.
+/// What is left of an update for after the commit. It takes no memory.
 #[derive(Drop)]
 pub struct Rest {
     pub session: Option<SessionUpdate>,
@@ -178,7 +178,7 @@ pub fn undo(master: &mut Master, former: FormerParts)
     take_back(master, session);
 }
 
-/// What was kept for taking an update back is forgotten. To be called behind the commit. Takes no memory.
+/// What was kept for taking an update back is forgotten. To be called after the commit. Takes no memory.
 pub fn settle(master: &mut Master, former: FormerParts)
     ensures { master.new ≡ master.old }
 {
@@ -335,7 +335,7 @@ fn grow_parts(
     }
 }
 
-// One behind the other. Where memory is refused those that were put are taken back.
+// One after the other. Where memory is refused those that were put are taken back.
 fn put_locks(
     master: &mut Master,
     puts: Items<LockPut>,
@@ -362,7 +362,7 @@ fn put_locks(
     Ok(Items::from_vec(formers))
 }
 
-// What stood there before is noted behind the others.
+// What stood there before is noted after the others.
 fn put_lock(
     master: &mut Master,
     instance: u64,

@@ -1,4 +1,4 @@
--- What holds of each client's session, and of each client without one, behind a step of one session, a new session, or a table of invalidations.
+-- What holds of each client's session, and of each client without one, after a step of one session, a new session, or a table of invalidations.
 use Rattle.std.proofs.Common.{◌≡◌, ◌≢◌, ℕ, List, true, false, Option, Some, None, refl, sym, subst, ◌∙◌}
 use Rattle.std.specs.Option.{option_map}
 use Rattle.std.specs.List.Sorted.{IsStrictlySortedBy}

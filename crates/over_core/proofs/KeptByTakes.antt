@@ -398,7 +398,7 @@ module _ (cell : List ℕ) (rows : Rows) where
   client_of : (request other : Request) → request ≡ other → is_client_number (request_client request) ≡ true → is_client_number (request_client other) ≡ true
   client_of request other is h = let P : Request → Type 0 = λ r. is_client_number (request_client r) ≡ true in subst P is h
 
-  -- a call that waits behind its note
+  -- a call that waits after its note
   waits_kept : (s : MasterState) (message : CallMessage) (note : Option HandleNote) (touched : Option TouchedNames) → s.recovering ≡ false → nat_le number_limit s.gate.pushed ≡ false → IsAdmitted s message note touched → is_client_number message.client ≡ true → is_live s.sessions message.client ≡ true → outstanding s message.client ≡ 0 → IsKept cell rows s → IsKept cell rows (waits (with_note s note) message touched).0
   waits_kept s message note touched serving spare admitted in_range live none k =
       let t = with_note s note in

@@ -86,7 +86,7 @@ stay_fewer q leaves claims =
     let goes : Claim → Bool = λ claim. not (stays claim) in
     part_of (sum_by (claim_count q) (filter stays claims)) (sum_by (claim_count q) (filter goes claims)) (sum_by (claim_count q) claims) (sum_by-filter_both stays goes (λ claim. refl) (claim_count q) claims)
 
--- whoever is left of a turn behind those who leave has waited
+-- whoever is left of a turn after those who leave has waited
 left_waited : (q : ℕ) (leaves : Owner → Bool) (lock : LockState) → sum_by (claim_count q) (turn_waiters (settled (without leaves lock))) ≤ waits_count q lock
 left_waited q leaves lock =
     same_or_less (sum_by (claim_count q) (turn_waiters (settled (without leaves lock)))) (sum_by (claim_count q) (without leaves lock).waiters) (waits_count q lock)

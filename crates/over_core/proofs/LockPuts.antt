@@ -1,4 +1,4 @@
--- Locks that are put, beside the rows behind their edits.
+-- Locks that are put, beside the rows after their edits.
 use Rattle.std.proofs.Common.{◌≡◌, ℕ, ◌≤◌, ◌<◌, List, [], ◌∷◌, Bool, true, false, cond, Option, Some, None, refl, sym, ap, subst, ◌∙◌, arith}
 use Rattle.std.specs.Prelude.{◌&&◌, ◌||◌, ◌==◌, not, nat_le, nat_eq, map, fold, unwrap_or}
 use Rattle.std.specs.Option.{option_map_or, option_or}
@@ -202,7 +202,7 @@ module _ (cell : List ℕ) (rows : Rows) (locks : LockTable) (sessions : Session
   pub puts_fit : (puts : List LockPut) → AllByRecursion (IsPut rows locks sessions) puts → are_distinct (instances_of puts) ≡ true → ChangesFit rows (map (lock_change locks) puts)
   puts_fit puts all distinct = record { each = each_fits puts all; distinct = ap are_distinct (same_instances puts) ∙ distinct }
 
-  -- ---- what stands behind them
+  -- ---- what stands after them
 
   new_rows : (puts : List LockPut) (n : ℕ) → new_rows_of (map (lock_change locks) puts) rows.locks n ≡ lock_rows n (put_at puts (lock_at locks n) n)
   new_rows [] n = are n

@@ -88,7 +88,7 @@ all_put_kept rows locks sessions nodes (put ∷ puts) same all = (put_kept rows 
 
 -- ---- locks that are put
 
--- the rows behind the edits of locks that are put
+-- the rows after the edits of locks that are put
 abbrev pub rows_behind : Rows → LockTable → List LockPut → Rows
 rows_behind rows locks puts = record rows { nodes = nodes_behind rows.nodes (map (lock_change locks) puts); locks = locks_behind rows.locks (map (lock_change locks) puts) }
 
@@ -108,7 +108,7 @@ module _ (cell : List ℕ) (rows : Rows) (s : MasterState) (puts : List LockPut)
   pub puts_done : changed_rows rows (locks_edits (lock_changes s puts)) ≡ rows_behind rows s.locks puts
   puts_done = locks_edits_done rows (lock_changes s puts)
 
-  -- the locks stand beside the rows behind the edits
+  -- the locks stand beside the rows after the edits
   pub puts_kept : s.nodes ≡ map_of rows → AreLocksKept (rows_behind rows s.locks puts) (with_locks s puts)
   puts_kept nodes = record {
     generations = generations_put cell rows s.locks s.sessions h same k.generations k.rows_of_locks (λ n. (k.each n).legal) puts all distinct sorted;

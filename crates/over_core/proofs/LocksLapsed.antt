@@ -279,7 +279,7 @@ module _ (parting : Parting) (cell : List ℕ) (rows : Rows) (s : MasterState) (
       let Q : List LockPut → Type 0 = λ puts. instances_of (puts ++ puts_in es) ≡ e.0 ∷ keys_of es in
       subst Q (sym (puts_are s e.0 lock name.name name.is)) (ap (λ (ns : List ℕ). e.0 ∷ ns) (lapsed_instances es all.1))
 
-  -- ---- they fit, by the sessions before and by those behind it
+  -- ---- they fit, by the sessions before and by those after it
 
   module _ (sessions : SessionTable Reply) (keeps : (owner : Owner) (hold : Hold) → not (is_of_client client owner) ≡ true → claim_fits s.sessions owner hold ≡ true → claim_fits sessions owner hold ≡ true) where
     waiter_keeps : (claim : Claim) → not (is_of_client client claim.owner) ≡ true → waiter_fits s.sessions claim ≡ true → waiter_fits sessions claim ≡ true

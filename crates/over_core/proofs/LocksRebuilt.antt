@@ -52,7 +52,7 @@ use Rattle.over_core.proofs.LockClaims.{IsFit, owner_total}
 use Rattle.over_core.proofs.LockPuts.{lock_at_put, kept_of_fit}
 use Rattle.over_core.proofs.LocksKept.{there_by_rows}
 
--- ---- entries that are put behind all others
+-- ---- entries that are put after all others
 
 module _ {K V : Type 0} (cmp : K → K → Ordering) (total : IsTotalOrder cmp) where
   before_it : (x : K) (front : List (K × V)) (k : K) (v : V) (rest : List (K × V)) → AllByRecursion (λ z. cmp x z ≡ Less) (keys_of (front ++ (k, v) ∷ rest)) → cmp k x ≡ Greater

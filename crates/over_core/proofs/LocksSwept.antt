@@ -118,7 +118,7 @@ one_relocked cell rows s put k is one = relocked_kept cell rows s (put ∷ []) k
 none_then : (gate new old sum more e : ℕ) → new + old ≡ sum + more → more ≤ old → gate + sum ≡ 0 → gate + new ≡ 0
 none_then gate new old sum more e h k l = omega (arith, h, k, l)
 
--- of a client that doesn't wait none waits behind it
+-- of a client that doesn't wait none waits after it
 pub none_put : (waiting : List (Waiting Task)) (locks : LockTable) (instance : ℕ) (lock : LockState) (q : ℕ) → IsStrictlySortedBy nat_cmp (keys_of locks) → waits_count q lock ≤ waits_count q (lock_at locks instance) → count_in waiting locks q ≡ 0 → count_in waiting (with_lock locks instance lock) q ≡ 0
 none_put waiting locks instance lock q sorted less none =
     none_then (sum_by (work_count is_call q) waiting) (sum_by (waits_count q) (values_of (with_lock locks instance lock))) (waits_count q (lock_at locks instance)) (sum_by (waits_count q) (values_of locks)) (waits_count q lock) 0

@@ -115,7 +115,7 @@ no_session principal (Some session) may live =
 
 -- ---- the change that has its turn
 
--- what is found first stands between those before it and those behind it
+-- what is found first stands between those before it and those after it
 between : {X : Type 0} (test : X → Bool) (xs : List X) (x : X) → find test xs ≡ Some x → (front : List X) × (back : List X) × (xs ≡ front ++ x ∷ back) × (test x ≡ true)
 between test [] x h = absurd (cc)
 between {X} test (y ∷ ys) x h =
@@ -404,7 +404,7 @@ does_first s now p h =
       | false ↦ (λ e. cc)
     ]) h
 
--- one of the cases is what is done, and committed, and behind it clients are told
+-- one of the cases is what is done, and committed, and after it clients are told
 abbrev pub IsSweptAndTold : (s : MasterState) → MasterState × Swept → List Edit → Type 0
 IsSweptAndTold s p edits = (c : SweepCase s) × (p ≡ telling (first_tellings s) (swept_by s c)) × (edits ≡ swept_edits s c)
 

@@ -11,7 +11,7 @@ use Rattle.over_core.specs.Sweep.{is_quiet, sweep_step}
 abbrev pub quiet_at : MasterState → ℕ → Bool
 quiet_at s now = is_quiet (first_action (noted s now))
 
--- it is so exactly where a sweep is quiet
+-- it is so exactly if a sweep is quiet
 abbrev pub QuietTellsOfSweeps : Type 0
 QuietTellsOfSweeps = (s new : MasterState) (now : ℕ) (swept : Swept) → sweep_step s now ≡ Ok (new, swept) → swept.quiet ≡ quiet_at s now
 

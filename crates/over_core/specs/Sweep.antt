@@ -43,7 +43,7 @@ abbrev pub acted : MasterState → Action → MasterState × Swept
 acted s (Tidy idle) = (tidied s idle, record { lines = []; outs = []; quiet = false })
 acted s action = swept_by_plan s (plan_of s action) (is_quiet action)
 
--- behind all else the clients of open handles are told of it
+-- after all else the clients of open handles are told of it
 abbrev pub telling : List SessionEvent → MasterState × Swept → MasterState × Swept
 telling tellings done = (with_tellings done.0 tellings, done.1)
 

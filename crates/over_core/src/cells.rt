@@ -59,7 +59,7 @@ impl<R: Records> Cell<R> {
     /// section 2.9: fail-overs), in which it makes no change and begins no session.
     ///
     /// Refused, in this order: a moment of 2^53 or more as Exhausted; where the store refuses to be read, or its rows
-    /// aren't sound; behind the last epoch, 2^63-1, as Exhausted; where the store refuses the commit. The records then
+    /// aren't sound; after the last epoch, 2^63-1, as Exhausted; where the store refuses the commit. The records then
     /// come back, with the rows as they were, or as they were read. They were read as they were where nothing is in doubt.
     pub fn up(
         alloc: Global,
@@ -111,7 +111,7 @@ impl<R: Records> Cell<R> {
     /// committed, and with it its rights to cache end; an answer to a Start or a Beat lets it live for a lease from the
     /// moment of the answer, and offers its client just that, counted from the receipt (Gray and Cheriton 1989, section
     /// 2). A change waits while a client holds a right on a name that it touches, and the answer to a Beat tells the
-    /// client what it is to let go of (Burrows 2006, section 2.7). Behind all that, events wait in the sessions of those
+    /// client what it is to let go of (Burrows 2006, section 2.7). After all that, events wait in the sessions of those
     /// who opened handles on what changed (section 2.5). A change whose turn comes after a refused commit leaves with a
     /// commit, be it of the rows as they are: so what was refused isn't what a crash leaves once another client may keep an
     /// answer in its cache. Moments are as in `take`. A refusal leaves the master and the rows as they were, and comes only for a moment of 2^53 or more, or where a session's count of events is at

@@ -71,7 +71,7 @@ fn shows_work(cell: &MemoryMaster, moment: u64) -> bool
     cell.master().sessions().shows_work(moment)
 }
 
-// The first moment that isn't quiet, behind one that is and not behind one that isn't.
+// The first moment that isn't quiet, after one that is and not after one that isn't.
 fn search(cell: &mut MemoryMaster, now: u64, from: u64, until: u64) -> Result<u64, AllocError>
     requires quiet { IsQuietBy cell.old now from }
     requires busy { IsBusyBy cell.old (Some until) }

@@ -2,7 +2,7 @@
 ghost use Rattle.over_core.specs.Deadlines.{QuietTellsOfSweeps};
 ghost use Rattle.over_core.specs.Within.{MastersStayWithin};
 
-/// A moment is quiet exactly where a sweep at it finds nothing to do.
+/// A moment is quiet exactly if a sweep at it finds nothing to do.
 pub fn quiet_tells_of_sweeps()
     ensures { QuietTellsOfSweeps }
 {}

@@ -142,7 +142,7 @@ pub fn is_over(master: &Master, now: u64) -> bool
 }
 
 // Does the first action that there is, with at most one commit to the records, which comes before all that is printed
-// and sent. Behind all else the clients of open handles are told of it. A refusal leaves the master as it was.
+// and sent. After all else the clients of open handles are told of it. A refusal leaves the master as it was.
 fn sweep_at<R: Records, A: Answers, T>(
     cell: &mut MemoryMaster,
     records: &mut Keeping<R>,
@@ -216,7 +216,7 @@ fn tidy_answered<A: Answers>(
     }
 }
 
-// Does what is planned for any other action, and behind all else the clients of open handles are told of it.
+// Does what is planned for any other action, and after all else the clients of open handles are told of it.
 fn act<R: Records, A: Answers, T>(
     cell: &mut MemoryMaster,
     records: &mut Keeping<R>,

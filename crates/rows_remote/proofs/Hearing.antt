@@ -107,7 +107,7 @@ ok_same x y r is also = cc
 pub loses_more : (before mid after : Option (List ℕ)) (bytes more : List ℕ) → Consumes before mid bytes → Consumes mid after more → LosesSome before after
 loses_more before mid after bytes more c d = (bytes ++ more, Consumes-trans before mid after bytes more c d)
 
--- fewer than two of the two bytes behind the number
+-- fewer than two of the two bytes after the number
 pub short_cut : (before after : Option (List ℕ)) (n : ℕ) (block : List ℕ) → Consumes before after (take n block) → n < 2 → LosesShort before after
 short_cut before after n block c few =
     let fewer : length (take n block) < 2 = omega (arith, few, length-take n block) in

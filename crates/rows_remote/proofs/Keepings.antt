@@ -18,7 +18,7 @@ fold_last s (n ∷ past) note edits = fold_last (noted n.0 n.1 s) past note edit
 pub stood_last : (past : List (KeeperHistory × List Edit)) (note : KeeperHistory) (edits : List Edit) → stood (past ++ (note, edits) ∷ []) ≡ noted note edits (stood past)
 stood_last past note edits = fold_last _ past note edits
 
--- where nothing is in doubt behind them, the rows that are told are those that stood
+-- where nothing is in doubt after them, the rows that are told are those that stood
 one_apart : (b : Bool) (n : ℕ) → n + cond b 0 1 ≡ 0 → (b ≡ true) × (n ≡ 0)
 one_apart true n h = (refl, omega (arith, h))
 one_apart false n h = absurd (omega (arith, h))

@@ -34,7 +34,7 @@ pub record Framed : Type 0 where
 
 -- ---- one question, and its answer
 
--- this answer stands at the front of the text, and behind it stands the rest, where it is known
+-- this answer stands at the front of the text, and after it stands the rest, where it is known
 abbrev pub Hears : Option (List ℕ) → KeeperAnswer → Option (List ℕ) → Type 0
 Hears None told after = ⊤
 Hears (Some text) told None = ⊥
@@ -71,7 +71,7 @@ pub record IsUnheard (before after : Option (List ℕ)) : Type 0 where
 abbrev pub HearsIn : ℕ → Option (List ℕ) → KeeperAnswer → Option (List ℕ) → Type 0
 HearsIn count before told after = (block : List ℕ) × Consumes before after block × (length block ≡ count) × (read_whole answer block ≡ Ok told)
 
--- what two bytes tell that stand behind their number: an answer without rows, if they are one
+-- what two bytes tell that stand after their number: an answer without rows, if they are one
 abbrev pub kind_told : ℕ → Option KeeperAnswer
 kind_told kind = if kind == 1 then Some answers.Kept else (if kind == 2 then Some answers.Refused else None)
 

@@ -96,11 +96,11 @@ framed_bytes bytes = short_of bytes >>= λ short. Ok (counted.write short)
 abbrev pub framed : {X : Type 0} → Form X → X → Result (List ℕ) WireFault
 framed f x = written f x >>= λ bytes. Ok (counted.write bytes)
 
--- the answer that stands at the front, and what stands behind it
+-- the answer that stands at the front, and what stands after it
 abbrev pub answer_at : List ℕ → Result (KeeperAnswer × List ℕ) WireFault
 answer_at bytes = counted.read bytes >>= λ block. read_whole answer block.0 >>= λ told. Ok (told, block.1)
 
--- a block stands at the front of the text, and behind it stands the rest, where it is known
+-- a block stands at the front of the text, and after it stands the rest, where it is known
 abbrev pub HoldsBlock : Option (List ℕ) → List ℕ → Option (List ℕ) → Type 0
 HoldsBlock None block after = ⊤
 HoldsBlock (Some text) block None = ⊥
@@ -117,7 +117,7 @@ abbrev pub edits_from : ℕ → List ℕ → Result (List Edit) WireFault
 edits_from zero bytes = Ok []
 edits_from (suc n) bytes = edit_at bytes >>= λ x. edits_from n (drop x.1 bytes) >>= λ others. Ok (x.0 ∷ others)
 
--- where the first edit of a commit stands: behind the version, the kind, the number and the count
+-- where the first edit of a commit stands: after the version, the kind, the number and the count
 abbrev pub edits_place : ℕ
 edits_place = 14
 
@@ -129,7 +129,7 @@ row_written told = short_of (row.write told)
 abbrev pub own_of : Whole → Own
 own_of all = record { number = all.number; cell = all.cell; secret = all.secret; epoch = all.epoch; next_instance = all.next_instance }
 
--- bytes with their number in front, to which so many more belong that stand behind; or that there would be too many
+-- bytes with their number in front, to which so many more belong that stand after; or that there would be too many
 abbrev pub framed_front : List ℕ → ℕ → Result (List ℕ) WireFault
 framed_front front size = if nat_lt (length front + size) length_end then Ok (big_bytes 4 (length front + size) ++ front) else Err TooLong
 

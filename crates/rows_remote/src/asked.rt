@@ -15,7 +15,7 @@ use collections::{Bytes, Items};
 use rows_cell::Edit;
 use std::alloc::{AllocError, Global};
 
-/// In the bytes of a commit its first edit stands behind so many.
+/// In the bytes of a commit its first edit stands after so many.
 pub const EDITS_AT: u32 = 14;
 
 /// The bytes by which all rows are asked for.

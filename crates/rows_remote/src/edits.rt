@@ -88,7 +88,7 @@ pub(crate) fn put_edits(out: &mut Vec<u8>, edits: &[Edit]) -> Result<(), AllocEr
 }
 
 /// The edit at the front of these bytes, and how many of them are its own; or what is wrong with them, the first from the left.
-/// What stands behind isn't looked at.
+/// What stands after isn't looked at.
 pub fn read_edit(alloc: Global, bytes: &[u8]) -> Result<(Edit, usize), WireFault>
     ensures { Gives WireFault.NoMemory result (edit_at bytes.now) }
 {

@@ -100,7 +100,7 @@ impl<'a> AnswerInput<'a> {
 // All bytes of a frame are fewer.
 pub(crate) const LENGTH_END: usize = 0x1_0000_0000;
 
-// What stands behind the version.
+// What stands after the version.
 pub(crate) fn begin(bytes: &[u8]) -> Result<AnswerInput, WireFault>
     ensures { Gives WireFault.NoMemory result (begin_at bytes.now) }
 {

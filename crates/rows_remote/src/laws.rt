@@ -11,7 +11,7 @@ pub fn read_asked_was_written()
     ensures { ReadAskedWasWritten }
 {}
 
-/// Behind the first fourteen bytes of a commit stand its edits: they are read one by one, each where the one before it ends.
+/// After the first fourteen bytes of a commit stand its edits: they are read one by one, each where the one before it ends.
 pub fn edits_stand_behind()
     ensures { EditsStandBehind }
 {}

@@ -297,7 +297,7 @@ impl<I: Read, W: Write> Records for FrameRecords<I, W> {
 
     ghost store = { λ s. s.store };
 
-    /// The first rows, once; from then on all rows are asked for. Behind no answer it is refused.
+    /// The first rows, once; from then on all rows are asked for. After no answer it is refused.
     fn load(&mut self) -> Result<Rows, StoreFault>
         ensures loads { Loads self.old.store self.new.store (told result) }
         ensures by { LoadsBy self.old self.new (told result) }
@@ -314,7 +314,7 @@ impl<I: Read, W: Write> Records for FrameRecords<I, W> {
         }
     }
 
-    /// Asks for the commit of the next number. Behind a refused commit, until all rows were loaded, and behind no answer
+    /// Asks for the commit of the next number. After a refused commit, until all rows were loaded, and after no answer
     /// it is refused without a question.
     fn commit(&mut self, change: &Items<Edit>) -> Result<(), StoreFault>
         requires { sound self.old.store.cell (changed_rows self.old.store.rows change.now) ≡ true }

@@ -113,7 +113,7 @@ pub fn write_front(alloc: Global, told: &Own, count: usize, size: usize) -> Resu
     Ok(Bytes::from_vec(all)?)
 }
 
-// Whether bytes in front and so many behind are few enough.
+// Whether bytes in front and so many after are few enough.
 fn is_short(front: usize, size: usize) -> bool
     ensures { result ≡ nat_lt (front + size) length_end }
 {

@@ -65,7 +65,7 @@ not_digits word rest bytes h e f =
     cc
 
 module _ {E : Type 0} where
-  -- behind `fill:`
+  -- after `fill:`
   pub fill_read : (word rest : List ℕ) (r : Result (Option (List ℕ)) E) → word ≡ codes "fill:" ++ rest → FindsBytes (IsFilled rest) r → FindsBytes (IsContent word) r
   fill_read word rest (Err e) here h = tt
   fill_read word rest (Ok (Some bytes)) here h = (inr (inl (rest, here, h.0)), h.1)

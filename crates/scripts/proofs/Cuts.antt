@@ -191,7 +191,7 @@ all_dropped : (words : List (Bor (List ℕ))) (cut : ℕ) → last_texts words c
 all_dropped words cut =
     ap texts (take_all (length words - cut) (drop cut words) (let long = length-drop cut words in omega (arith, long))) ∙ sym (drop-map (λ word. word.now) cut words)
 
--- what the words write, the parts of which are a creation and what stands behind it
+-- what the words write, the parts of which are a creation and what stands after it
 abbrev pub Made : Type 0
 Made = Option Create × ℕ × Events
 

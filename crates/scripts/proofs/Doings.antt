@@ -1,4 +1,4 @@
--- What is done and written, step behind step.
+-- What is done and written, step after step.
 use Rattle.std.proofs.Common.{◌≡◌, inl, inr, ◌∷◌, [], ◌++◌, ◌≤◌, ◌<◌, ◌+◌, zero, suc, List, ℕ, Bool, true, false, length, take, drop, slice_index_or, Option, None, Some, Result, Ok, Err, refl, sym, ap, subst, arith, ◌∙◌}
 use Rattle.std.specs.Prelude.{IfOk, IfErr, OnOk, OnErr, is_some, not, ◌&&◌}
 use Rattle.std.specs.Io.KnownBytes.{Appends, Keeps, IsAtEnd}
@@ -51,7 +51,7 @@ written_more xs i x a b c less is h k =
 pub written_all : (xs : List Line) (i : ℕ) (a b : Option (List ℕ)) → length xs ≤ i → Appends a b (lines_text (take i xs)) → Appends a b (lines_text xs)
 written_all xs i a b all h = subst (λ ys. Appends a b (lines_text ys)) (take_all i xs all) h
 
--- of the next line a front is written, behind those before
+-- of the next line a front is written, after those before
 written_front : (xs : List Line) (i : ℕ) (x : Line) (a b c : Option (List ℕ)) → i < length xs → x ≡ slice_index_or xs i x → Appends a b (lines_text (take i xs)) → AppendsFront b c (lines_text (x ∷ [])) → AppendsFront a c (lines_text xs)
 written_front xs i x a b c less is h k =
     let rest : List Line = drop (i + 1) xs in

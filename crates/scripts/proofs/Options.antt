@@ -22,7 +22,7 @@ pub few_words : (words : List (Bor (List ℕ))) → length words < 2 → (b : As
 few_words words few b (rest, inl none, w) = (b.1, subst (λ x. WritesEvents x b.1) (sym none.0) w)
 few_words words few b (rest, inr told, w) = let long = length_texts words in absurd (too_few (texts words) rest (codes "delay") (decimal b.0) told.0 (omega (arith, long, few)))
 
--- ---- a lock-delay, and events behind it
+-- ---- a lock-delay, and events after it
 
 no_events : (words rest : List (List ℕ)) (first : List ℕ) (events : Events) → words ≡ first ∷ rest → first ≡ codes "delay" → WritesEvents words events → ⊥
 no_events words rest first events shape is (inl none) = no_word (sym none.0 ∙ shape)

@@ -376,13 +376,13 @@ module _ (text rest : Option (List ℕ)) (count : ℕ) (old : WorldView) (new : 
   exit_unread (Ok x) stop exit h k = let none = exit.0 in cc
   exit_unread (Err e) stop exit h k = unread_by e (λ few. subst (StopsReading rest count) (sym exit.1) (h few)) k
 
-  -- that behind the last of them
+  -- that after the last of them
   pub last_unread : (at number : ℕ) → number ≡ count → at ≡ min (number + 1) 18446744073709551615 → Wrote (λ printed. IsOfPart text rest count old printed new) a b → Wrote (IsDoneBefore text at old new.view) a b
   last_unread at number is next k =
       wrote_as (λ printed. IsOfPart text rest count old printed new) (IsDoneBefore text at old new.view) a b
       (λ printed f. done_before text rest count at old new printed (next_line at number count is next f.few) f) k
 
--- a line breaks off behind the others
+-- a line breaks off after the others
 module _ (text : Option (List ℕ)) (mid after : Reading) (old : WorldView) (w new : Played) (a b c : Option (List ℕ)) where
   bad_line : (at : ℕ) (front back : List Line) → Advances true mid after → IsOfPart text mid.rest mid.number old front w → BreaksLine after.line after.number w new (BadStep at) back → Ends text old new.view (Err (BadStep at)) (front ++ back)
   bad_line at front back next f g =

@@ -84,7 +84,7 @@ first_place sent marks place o h is = from_place sent marks place 1 h.before h.h
 pub none_first : IsFirst 0 []
 none_first = record { before = tt; here = λ e. cc }
 
--- behind the last mark
+-- after the last mark
 pub all_first : (marks : List Bool) (place : ℕ) → AreDelivered place marks → length marks ≤ place → IsFirst (length marks) marks
 all_first marks place h past =
     let within = delivered_within marks place h in

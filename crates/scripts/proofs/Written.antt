@@ -47,7 +47,7 @@ by_name Q whole_fault names.BadName bad right text h k = named Q whole_fault nam
 by_name Q whole_fault names.BadPrincipal bad right text h k = named Q whole_fault names.BadPrincipal bad right text (h (λ q. cc)) k
 by_name Q whole_fault names.BadAcl bad right text h k = named Q whole_fault names.BadAcl bad right text (h (λ q. cc)) k
 
--- the exit of a `?` behind a word that has to be a name
+-- the exit of a `?` after a word that has to be a name
 pub unnamed : {B : Type 0} (Q : B → Type 0) (whole_fault : B → Option Fault) (r : Result B Flaw) (e bad : NameFault) (right : Bool) (text : List ℕ) → IsErr r × IsErrAnd r (λ y. y ≡ flaw_of e) → (e ≢ names.NoMemory → (if right then Ok text else Err bad) ≡ Err e) → (right ≡ false → Reads Q whole_fault (Err (flaw_of bad))) → Reads Q whole_fault r
 unnamed Q whole_fault r e bad right text exit h k =
     let left = err_from_is_err_and r exit.1 in

@@ -31,7 +31,7 @@ Adds told (line ∷ printed) =
     ((rest : List Line) × (told ≡ line ∷ rest) × Adds rest printed)
     ⊎ ((fault : Fault) × (line ≡ lines.Refused fault) × Adds told printed)
 
--- steps of the world, one behind the other, and what was printed of them
+-- steps of the world, one after the other, and what was printed of them
 pub record Ran (old new : WorldView) (printed : List Line) : Type 0 where
   pub steps : List Step
   pub told : List Line
@@ -71,7 +71,7 @@ StopsReading rest count (Unread number) = number ≡ count + 1
 StopsReading rest count NoMemory = ⊤
 StopsReading rest count Unwritten = ⊤
 
--- the lines before that of this number were done, each of them whole, and nothing behind them
+-- the lines before that of this number were done, each of them whole, and nothing after them
 pub record IsDoneBefore (text : Option (List ℕ)) (number : ℕ) (old new : WorldView) (printed : List Line) : Type 0 where
   pub rest : Option (List ℕ)
   pub marks : List Bool

@@ -14,7 +14,7 @@ use Rattle.scripts.specs.Readings.{IsParsed}
 use Rattle.scripts.specs.Settling.{Played, played, PlaysMade, PlaysRefused, Settles}
 use Rattle.scripts.specs.Texts.{AreLines, Passes}
 
--- each line with LF behind it
+-- each line with LF after it
 abbrev pub lines_text : List Line → List ℕ
 lines_text [] = []
 lines_text (line ∷ rest) = line_text line ++ (10 ∷ lines_text rest)
@@ -36,7 +36,7 @@ DoesParsed old parsed.Bad printed new = ⊥
 abbrev pub DoesLine : Played → List ℕ → List Line → Played → Type 0
 DoesLine old line printed new = (length line ≤ 1048576) × ((meant : Parsed) × IsParsed (utf8_lossy line) meant × DoesParsed old meant printed new)
 
--- the lines of a script, one behind the other, and what they print in order
+-- the lines of a script, one after the other, and what they print in order
 abbrev pub DoesLines : Played → List (List ℕ) → List Line → Played → Type 0
 DoesLines old [] printed new = (printed ≡ []) × (new ≡ old)
 DoesLines old (line ∷ rest) printed new =
@@ -58,7 +58,7 @@ pub record IsOfPart (text after : Option (List ℕ)) (count : ℕ) (old : WorldV
   pub few : count ≤ 1000000
   pub does : DoesLines (played old []) texts printed new
 
--- lines of which P holds are written behind the bytes before, where those are known
+-- lines of which P holds are written after the bytes before, where those are known
 abbrev pub Wrote : (List Line → Type 0) → Option (List ℕ) → Option (List ℕ) → Type 0
 Wrote P before after = (printed : List Line) × P printed × Appends before after (lines_text printed)
 

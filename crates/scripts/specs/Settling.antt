@@ -97,12 +97,12 @@ pub record IsTurn (over : Bool) (old : Played) (printed : List Line) (new : Play
   pub made : PlaysMade old (turn_step old) new printed
   pub ends : (is_idle old && not (is_waiting new)) ≡ over
 
--- a turn behind which others follow, or the last one, which may also be refused
+-- a turn after which others follow, or the last one, which may also be refused
 abbrev pub TakesTurn : Bool → Played → List Line → Played → Type 0
 TakesTurn true old printed new = IsTurn false old printed new
 TakesTurn false old printed new = IsTurn true old printed new ⊎ PlaysRefused old (turn_step old) new printed
 
--- so many turns, each with others behind it
+-- so many turns, each with others after it
 abbrev pub Turns : ℕ → Played → List Line → Played → Type 0
 Turns zero old printed new = (printed ≡ []) × (new ≡ old)
 Turns (suc count) old printed new =

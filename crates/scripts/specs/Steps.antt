@@ -64,7 +64,7 @@ abbrev pub life_word : Life → List ℕ
 life_word Permanent = codes "permanent"
 life_word Ephemeral = codes "ephemeral"
 
--- the node that an `open` makes: the word of its kind, and the words behind its life
+-- the node that an `open` makes: the word of its kind, and the words after its life
 abbrev pub WritesNode : List ℕ → List (List ℕ) → NewNode → Option AclNames → Type 0
 WritesNode kind rest (File bytes) acls = (kind ≡ codes "file") × ((content : List ℕ) × (rest ≡ content ∷ new_acl_words acls) × IsFileContent content bytes)
 WritesNode kind rest Directory acls = (kind ≡ codes "dir") × (rest ≡ new_acl_words acls)
@@ -85,7 +85,7 @@ WritesCreate words None = words ≡ []
 WritesCreate words (Some create) =
     (word : List ℕ) × (rest : List (List ℕ)) × (words ≡ word ∷ rest) × WritesLiving word rest create
 
--- the lock-delay in milliseconds, and the words behind it; 0 may be left out
+-- the lock-delay in milliseconds, and the words after it; 0 may be left out
 abbrev pub WritesDelay : List (List ℕ) → ℕ → List (List ℕ) → Type 0
 WritesDelay words delay rest = ((words ≡ rest) × (delay ≡ 0)) ⊎ ((words ≡ codes "delay" ∷ (decimal delay ∷ rest)) × IsNumber delay)
 
@@ -94,11 +94,11 @@ abbrev pub WritesEvents : List (List ℕ) → Events → Type 0
 WritesEvents words events =
     ((words ≡ []) × (events ≡ no_events)) ⊎ ((words ≡ codes "events" ∷ (event_letters events ∷ [])) × (is_no_events events ≡ false))
 
--- the lock-delay of a handle, and behind it its events
+-- the lock-delay of a handle, and after it its events
 abbrev pub WritesOptions : List (List ℕ) → ℕ → Events → Type 0
 WritesOptions words delay events = (rest : List (List ℕ)) × WritesDelay words delay rest × WritesEvents rest events
 
--- what an `open` makes, and behind it the lock-delay and the events of the handle
+-- what an `open` makes, and after it the lock-delay and the events of the handle
 abbrev pub WritesMaking : List (List ℕ) → Option Create → ℕ → Events → Type 0
 WritesMaking words create delay events =
     (made : List (List ℕ)) × (last : List (List ℕ)) × (words ≡ made ++ last) × (WritesCreate made create × WritesOptions last delay events)
@@ -111,7 +111,7 @@ WritesOpen words opening =
 abbrev pub WritesSomeCreate : List (List ℕ) → Type 0
 WritesSomeCreate words = (create : Option Create) × WritesCreate words create
 
--- behind the disposition
+-- after the disposition
 abbrev pub WritesSomeNode : List (List ℕ) → Type 0
 WritesSomeNode words = (word : List ℕ) × (create : Create) × WritesLiving word words create
 
@@ -130,7 +130,7 @@ abbrev pub BeginsOptions : List (List ℕ) → Type 0
 BeginsOptions [] = ⊤
 BeginsOptions (word ∷ rest) = IsOptionWord word
 
--- however the words are read as such a part with a lock-delay or events behind it, the part is so many of them
+-- however the words are read as such a part with a lock-delay or events after it, the part is so many of them
 pub record IsCut (IsPart : List (List ℕ) → Type 0) (words : List (List ℕ)) (count : ℕ) : Type 0 where
   pub fits : count ≤ length words
   pub cut : (part last : List (List ℕ)) → words ≡ part ++ last → IsPart part → BeginsOptions last → length part ≡ count
@@ -143,7 +143,7 @@ WritesNumber words n = (words ≡ decimal n ∷ []) × IsNumber n
 abbrev pub IsHex : List ℕ → List ℕ → Type 0
 IsHex word bytes = IsWritten word bytes × IsBytes bytes
 
--- the word of a call on a node, and the words behind its handle
+-- the word of a call on a node, and the words after its handle
 abbrev pub WritesNodeCall : List ℕ → List (List ℕ) → NodeCall → Type 0
 WritesNodeCall word rest nodes.Read = (word ≡ codes "read") × (rest ≡ [])
 WritesNodeCall word rest nodes.Stat = (word ≡ codes "stat") × (rest ≡ [])
@@ -179,7 +179,7 @@ WritesSetting words handle bytes = (text : List ℕ) × (words ≡ decimal handl
 abbrev pub WritesHex : List (List ℕ) → List ℕ → Type 0
 WritesHex words bytes = (text : List ℕ) × (words ≡ text ∷ []) × IsHex text bytes
 
--- the word of a call, and the words behind it
+-- the word of a call, and the words after it
 abbrev pub WritesCall : List ℕ → List (List ℕ) → Ask → Type 0
 WritesCall word rest (calls.Open opening) = (word ≡ codes "open") × WritesOpen rest opening
 WritesCall word rest (calls.Close handle) = (word ≡ codes "close") × WritesNumber rest handle
@@ -189,7 +189,7 @@ WritesCall word rest (calls.SetSequencer handle bytes) = (word ≡ codes "setseq
 WritesCall word rest (calls.CheckSequencer bytes) = (word ≡ codes "checkseq") × WritesHex rest bytes
 WritesCall word rest calls.Leave = (word ≡ codes "leave") × (rest ≡ [])
 
--- a client, the word of a call, and the words behind it
+-- a client, the word of a call, and the words after it
 abbrev pub WritesAsk : List (List ℕ) → ℕ → Ask → Type 0
 WritesAsk words client call = (word : List ℕ) × (rest : List (List ℕ)) × (words ≡ decimal client ∷ (word ∷ rest)) × (IsNumber client × WritesCall word rest call)
 
@@ -218,7 +218,7 @@ abbrev pub commit_word : Commit → List ℕ
 commit_word Kept = codes "kept"
 commit_word Lost = codes "lost"
 
--- the word of a step, and the words behind it
+-- the word of a step, and the words after it
 abbrev pub WritesStep : List ℕ → List (List ℕ) → Step → Type 0
 WritesStep word rest (steps.Up moment) = (word ≡ codes "up") × WritesNumber rest moment
 WritesStep word rest (steps.Join client principal) = (word ≡ codes "join") × ((rest ≡ decimal client ∷ (principal ∷ [])) × IsClientNumber client)
@@ -244,7 +244,7 @@ abbrev pub is_blank : List ℕ → Bool
 is_blank [] = true
 is_blank (b ∷ bs) = false
 
--- the words stand behind one another with one space between
+-- the words stand after one another with one space between
 abbrev pub WritesLine : List ℕ → Step → Type 0
 WritesLine line step = (list_any is_blank (slice_split is_space line) ≡ false) × WritesWords (slice_split is_space line) step
 

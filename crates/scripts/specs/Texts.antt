@@ -4,7 +4,7 @@ use Rattle.std.specs.Io.KnownBytes.{IsAtEnd}
 use Rattle.std.specs.Io.BufRead.{take_through, drop_through}
 use Rattle.names_cell.specs.Text.{text_lines}
 
--- these are the first lines of a text, and what is left behind them, where the text is known
+-- these are the first lines of a text, and what is left after them, where the text is known
 abbrev pub Passes : Option (List ℕ) → List (List ℕ) → Option (List ℕ) → Type 0
 Passes None texts after = ⊤
 Passes (Some text) texts None = ⊥

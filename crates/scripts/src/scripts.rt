@@ -24,7 +24,7 @@ use world_steps::SweepResult;
 
 /// Runs a script on a new world over the records: reads its steps, one a line, and writes the lines that they print.
 /// Answers the exit status: 0; 1 at a line that is no step, where the steps before it stand, and where a line can't be
-/// written; 4 where memory runs out outside a step. The words of it go to `errors`; behind a write that failed there are
+/// written; 4 where memory runs out outside a step. The words of it go to `errors`; after a write that failed there are
 /// none. Each line is written by itself, so the writer should have a buffer; it is flushed before more input is read, and
 /// at the end.
 pub fn script<R: Records + Drop, I: Read + Drop, W: Write>(
@@ -48,8 +48,8 @@ pub fn script<R: Records + Drop, I: Read + Drop, W: Write>(
     status
 }
 
-/// The same on a world that is there. Behind the script it stands as the steps left it, and can be closed. Where it is
-/// traced, `errors` is told of each message that was sent, behind the line that sent it: `message N client C -> master KIND`
+/// The same on a world that is there. After the script it stands as the steps left it, and can be closed. Where it is
+/// traced, `errors` is told of each message that was sent, after the line that sent it: `message N client C -> master KIND`
 /// or `message N master -> client C KIND`.
 pub fn script_on<R: Records + Drop, I: Read + Drop, W: Write>(
     alloc: Global,
@@ -61,12 +61,12 @@ pub fn script_on<R: Records + Drop, I: Read + Drop, W: Write>(
 ) -> u8
     ensures status { IsStatus result }
     ensures written { result ≡ 0 → Wrote (IsOfScript (I.remaining reader) world.old) (W.contents writer.old) (W.contents writer.new) }
-    // Whatever the end: what was done are steps of the world, one behind the other, and their lines were written, with
+    // Whatever the end: what was done are steps of the world, one after the other, and their lines were written, with
     // refusals of lines that are no steps between them; so the laws of runs hold of them, and each `served` line shows the
     // map of its moment. If line N is no step or can't be read, these are the steps of the lines before it. For want of memory, or
     // if lines can't be written, they are those of lines, each whole, and of the next one nothing, or all, or some turns of its settle.
     ensures ran { EndsWith result (EndsWell (I.remaining reader) world.old world.new) (W.contents writer.old) (W.contents writer.new) }
-    // Where nothing is in doubt behind it, nothing was before, and all these laws hold.
+    // Where nothing is in doubt after it, nothing was before, and all these laws hold.
     ensures sure { IsUndoubted world.new → IsUndoubted world.old × EndsWith result (EndsSurely (I.remaining reader) world.old world.new) (W.contents writer.old) (W.contents writer.new) }
 {
     world.runs_hold();

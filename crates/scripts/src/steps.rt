@@ -58,7 +58,7 @@ impl From<NameFault> for Flaw {
     }
 }
 
-/// Reads a line of bytes, without the LF behind it. What isn't UTF-8 becomes U+FFFD, which no word has: so such a name
+/// Reads a line of bytes, without the LF after it. What isn't UTF-8 becomes U+FFFD, which no word has: so such a name
 /// or principal isn't one, and any other such word makes the line no step.
 pub fn read_line(alloc: Global, line: &[u8]) -> Result<Parsed, AllocError>
     ensures { IfOk result (IsParsed (utf8_lossy line.now)) }
@@ -69,7 +69,7 @@ pub fn read_line(alloc: Global, line: &[u8]) -> Result<Parsed, AllocError>
     }
 }
 
-/// Reads a line, without the LF behind it. Every word is tested for its form before any is refused.
+/// Reads a line, without the LF after it. Every word is tested for its form before any is refused.
 pub fn read_step(alloc: Global, line: &str) -> Result<Parsed, AllocError>
     ensures { IfOk result (IsParsed line.now) }
 {
@@ -87,7 +87,7 @@ pub fn read_step(alloc: Global, line: &str) -> Result<Parsed, AllocError>
     }
 }
 
-// The words stand behind one another with one space between.
+// The words stand after one another with one space between.
 fn step_of_line(alloc: Global, line: &str) -> Result<Step, Flaw>
     ensures { Reads (WritesLine line.now) step_fault result }
 {
@@ -305,7 +305,7 @@ fn acls_length(words: &[&str]) -> usize
     if *first == "acl" { 4 } else { 0 }
 }
 
-// A lock-delay, and events behind it. Without its word the delay is 0.
+// A lock-delay, and events after it. Without its word the delay is 0.
 fn options_of(words: &[&str]) -> Result<(u64, Events), Flaw>
     ensures { Reads (λ options. WritesOptions (texts words.now) options.0 options.1) (λ _. None) result }
 {
@@ -439,7 +439,7 @@ fn handle_call(alloc: Global, word: &str, words: &[&str]) -> Result<Ask, Flaw>
     Ok(Ask::Node(handle, node_call(alloc, word, rest)?))
 }
 
-// A call on a node, and the words behind the handle.
+// A call on a node, and the words after the handle.
 fn node_call(alloc: Global, call: &str, words: &[&str]) -> Result<NodeCall, Flaw>
     ensures { Reads (WritesNodeCall call.now (texts words.now)) node_call_fault result }
 {

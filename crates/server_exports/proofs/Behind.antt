@@ -1,4 +1,4 @@
--- In a block that tells a message all bytes of it stand behind the first ten.
+-- In a block that tells a message all bytes of it stand after the first ten.
 use Rattle.std.proofs.Common.{◌≡◌, ℕ, ◌<◌, Bool, true, false, cond, List, ◌∷◌, ◌++◌, length, drop, Ok, Err, refl, sym, ap, ◌∙◌, arith}
 use Rattle.std.specs.Prelude.{nat_lt}
 use Rattle.std.proofs.Math.Seq.{drop-append_seam}

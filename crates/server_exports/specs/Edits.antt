@@ -68,7 +68,7 @@ parts_of (edits.RemoveLock key) taken = keyed_edit (edit_number (edits.RemoveLoc
 abbrev pub edit_parts : Edit × ℕ → EditParts
 edit_parts read = parts_of read.0 read.1
 
--- ---- texts, one behind the other
+-- ---- texts, one after the other
 
 abbrev pub put_texts : List ℕ → Node → List ℕ
 put_texts name node = name ++ (node.read ++ (node.write ++ (node.change ++ node.content)))

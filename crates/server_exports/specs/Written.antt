@@ -25,7 +25,7 @@ store_refused client epoch number =
     then if is_ordinal number then out_written (outs.Reply (refused_reply client epoch number)) else Err BadNumber
     else Err BadNumber
 
--- in a block that tells a message, all bytes of it stand behind the first ten
+-- in a block that tells a message, all bytes of it stand after the first ten
 abbrev pub MessageStandsBehind : Type 0
 MessageStandsBehind =
     (block : List ℕ) (client : ℕ) (message : Out) → AreBytes block → read_whole told block ≡ Ok (tells.Message client message) → out_written message ≡ Ok (drop 10 block)

@@ -187,7 +187,7 @@ fn state_place(state: LockState) -> u32
     }
 }
 
-// Its texts, one behind the other.
+// Its texts, one after the other.
 fn texts_of(alloc: Global, done: &Edit) -> Result<Bytes, AllocError>
     ensures { IfOk result (λ bytes. bytes ≡ texts_of done.now) }
 {

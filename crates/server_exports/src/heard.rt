@@ -21,7 +21,7 @@ use std::alloc::Global;
 #[repr(C)]
 #[derive(Clone, Copy)]
 pub struct Heard {
-    /// 1 a line, 2 a message, 3 that a frame was none, 4 the mark behind all that is told of a frame, 5 the counts of how it stands,
+    /// 1 a line, 2 a message, 3 that a frame was none, 4 the mark after all that is told of a frame, 5 the counts of how it stands,
     /// 6 that it recovers, 7 a change that waits, 8 a name that this one may change, 9 a client that is waited for.
     pub what: u32,
     /// 1 to 20: up, down, recovered, started, ended, applied, granted, acked, expired, locked, freed, lapsed, reopened; what only a client

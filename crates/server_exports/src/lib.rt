@@ -178,7 +178,7 @@ pub extern "C" fn cell_server_rows_asked(alloc: Global, block: &[u8], out: &mut 
     tell_question(alloc, block, out)
 }
 
-/// The edit at the front of these bytes, by its parts; its texts go into the room, one behind the other, if they fit. 0; or 1 for want
+/// The edit at the front of these bytes, by its parts; its texts go into the room, one after the other, if they fit. 0; or 1 for want
 /// of memory, and 2 to 8 for what is wrong with the bytes: then nothing is written.
 #[unsafe(no_mangle)]
 pub extern "C" fn cell_server_rows_edit(

@@ -67,7 +67,7 @@ pub is_shown : (late : Option LateAnswer) (v : List CacheState) (c : CacheState)
 is_shown None v c w late h = absurd (late refl)
 is_shown (Some n) v c w late h = h
 
--- a step that isn't refused leads to the client's cache behind it
+-- a step that isn't refused leads to the client's cache after it
 pub led : {X : Type 0} (cache : CacheState) (ops : List CacheOp) (new : ClientState) (answer : X) (step : ClientState × Result X Fault) → LeadTo cache ops step → step ≡ (new, Ok answer) → applied_all cache ops ≡ new.cache
 led cache ops new answer step h e = subst (LeadTo cache ops) e h
 

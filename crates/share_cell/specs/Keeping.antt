@@ -14,7 +14,7 @@ pub record KeeperState : Type 0 where
   pub late : Option LateAnswer
   pub views : List CacheState
 
--- the client's step; behind the last number of a view nothing changes
+-- the client's step; after the last number of a view nothing changes
 abbrev pub unless_last : {X : Type 0} → ClientState → List CacheState → ClientState × Result X Fault → ClientState × Result X Fault
 unless_last client views step = if nat_lt (length views + 1) number_end then step else (client, Err faults.Exhausted)
 

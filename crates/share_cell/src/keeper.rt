@@ -38,7 +38,7 @@ pub enum LateAnswer {
     Beaten(Beaten),
 }
 
-/// A client whose cache many viewers read. What its client has in its cache behind a call is published before the call's answer
+/// A client whose cache many viewers read. What its client has in its cache after a call is published before the call's answer
 /// is handed out, so that what an invalidation took away is shown no more when the Beat leaves that acknowledges it (Burrows 2006,
 /// section 2.7).
 ///
@@ -157,7 +157,7 @@ impl Keeper {
         self.late.is_some()
     }
 
-    /// Its client, whose cache is what was published last; None exactly where the keeper is late. Then the message of a call that was
+    /// Its client, whose cache is what was published last; None exactly if the keeper is late. Then the message of a call that was
     /// asked for may not go out, as `Client::again` would lend it: a Leave lets the master change what viewers are still shown.
     pub fn client(&self) -> Option<&Client>
         ensures { Lends (record { client = self.now.client; late = self.now.late; views = view self.now.writer.desk.place }) (option_copied result) }
@@ -184,7 +184,7 @@ impl Keeper {
     }
 
     /// Asks the client for a call (`Client::ask`), and publishes what its cache holds then before the answer is handed out.
-    /// Refused for want of memory, nothing has changed, or the keeper is late. Behind the last view, 2^63-1, it is Exhausted.
+    /// Refused for want of memory, nothing has changed, or the keeper is late. After the last view, 2^63-1, it is Exhausted.
     pub fn ask<R: Wait>(&mut self, rt: &R, now: u64, asked: &Ask) -> Result<AskOutcome, Fault>
         requires on_time { self.old.late ≡ None }
         ensures { Publishes LateAnswer.Asked

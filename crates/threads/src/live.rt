@@ -15,7 +15,7 @@ use std::sync::Wait;
 use std::thread::Threads;
 
 /// So many clients, each in a thread of its own, use the master of a new cell in lists for so many rounds. Writes one line, and
-/// answers the exit status: 0 where all went well, 2 out of the bounds, behind which nothing is done, and 5 where something
+/// answers the exit status: 0 where all went well, 2 out of the bounds, after which nothing is done, and 5 where something
 /// was refused, which the line tells.
 pub fn live_with<W: Threads + Wait + Sync, T: AnswerHook + Sync>(
     rt: &W,

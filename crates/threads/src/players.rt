@@ -75,7 +75,7 @@ impl Player {
         Ok(self.keeper.beat(rt, 0)?.request)
     }
 
-    /// It is given what the master sent. Behind the answer to a Start or to a Beat there is a Beat to send.
+    /// It is given what the master sent. After the answer to a Start or to a Beat there is a Beat to send.
     pub(crate) fn hear<W: Wait>(&mut self, rt: &W, out: &Out) -> Result<Option<Request>, Fault> {
         if self.keeper.late() {
             return Err(Fault::NoMemory);
@@ -88,7 +88,7 @@ impl Player {
         }
     }
 
-    /// Asks for its next calls, up to one that has to be sent. None where one is outstanding, and behind the last one.
+    /// Asks for its next calls, up to one that has to be sent. None where one is outstanding, and after the last one.
     pub(crate) fn play<W: Wait>(&mut self, rt: &W) -> Result<Option<Request>, Fault> {
         if self.is_waiting()? {
             return Ok(None);

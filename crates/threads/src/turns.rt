@@ -1,6 +1,6 @@
 //! What a client's thread does between its calls.
 
-/// What a client's thread does behind each answer of the master's.
+/// What a client's thread does after each answer of the master's.
 pub trait AnswerHook {
     fn answered(&self, client: u64);
 }

@@ -31,13 +31,13 @@ abbrev pub places : List Hand → List ℕ
 places [] = []
 places (h ∷ hs) = ticket_places h.receipts ++ places hs
 
--- a receipt is behind its pass's earlier ones, no other has its place, and the trail has its event and its reply there
+-- a receipt is after its pass's earlier ones, no other has its place, and the trail has its event and its reply there
 pub record Sound (trail : List Entry) (all : List ℕ) (top : ℕ) (t : Ticket) : Type 0 where
   pub behind : top ≤ t.place
   pub single : times t.place all ≡ 1
   pub entered : slice_get trail t.place ≡ Some (entry t.event t.reply)
 
--- the first place behind these
+-- the first place after these
 abbrev pub top_after : ℕ → List Ticket → ℕ
 top_after top [] = top
 top_after top (t ∷ ts) = top_after (max top (t.place + 1)) ts

@@ -95,7 +95,7 @@ impl<R: Records, O: Opening, I: Ledger, A: Ledger, E: Ledger, C: Ledger> Watch<R
     }
 }
 
-// What lies under a lock takes in a pass: it keeps to the opening before and behind that.
+// What lies under a lock takes in a pass: it keeps to the opening before and after that.
 fn take_in<R: Records, O: Opening, I: Ledger, A: Ledger, E: Ledger, C: Ledger>(
     locked: &mut Locked<R, O, I, A, E, C>,
     pass: Pass<I, A, E, C>,

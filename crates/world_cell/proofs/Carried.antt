@@ -1,4 +1,4 @@
--- What holds of replies and of events, of those that a master keeps and of those that were sent, holds of them behind each step.
+-- What holds of replies and of events, of those that a master keeps and of those that were sent, holds of them after each step.
 use Rattle.std.proofs.Common.{◌≡◌, ℕ, ◌+◌, List, [], ◌∷◌, ◌++◌, Bool, true, false, cond, Option, Some, None, refl, sym, ap, subst, ◌∙◌, inl, inr, map, zero, suc, drop}
 use Rattle.std.specs.Prelude.{◌-◌, ◌&&◌, not, fold}
 use Rattle.std.specs.Option.{option_map, option_map_or}

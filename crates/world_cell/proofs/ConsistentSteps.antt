@@ -661,7 +661,7 @@ swept_tells s (Awaited front back asked call sequencer put turn work stays live 
 swept_tells s (Left front back asked call sequencer _ leave answer turn work stays live made) = (tt, replies_tell s.epoch (turn_replies s leave.turn))
 swept_tells s _ = (tt, tt)
 
--- ---- the rows behind a sweep
+-- ---- the rows after a sweep
 
 mod_epoch : (rows : Rows) (change : Mod) (next : ℕ) → (changed_rows rows (edit_of change ∷ NextInstance next ∷ [])).epoch ≡ rows.epoch
 mod_epoch rows (Put name view) next = refl
@@ -752,7 +752,7 @@ down_holds : (w : WorldState) → IsConsistent w → Becomes (without_master w)
 down_holds w h =
     all_consistent w (without_master w) [] h (down_later w) (none_fresh w (without_master w) refl) (same_members w (without_master w) h refl (least w.rows.epoch)) tt refl tt tt tt
 
--- ---- a crash cuts a step behind its commit
+-- ---- a crash cuts a step after its commit
 
 cut_later : (w : WorldState) (rows : Rows) → w.rows.epoch ≤ rows.epoch → Later w (record (without_master w) { rows = rows })
 cut_later w rows more = same_clients w (record (without_master w) { rows = rows }) refl more refl
@@ -807,7 +807,7 @@ case_later old step new printed h (CutsSweep k) = subst (Later old) (sym k.is) (
 case_later old step new printed h (CutsUp k) = subst (Later old) (sym (k.is ∙ rows_only old k.mid.rows k.comes.none)) (cut_later old k.mid.rows (up_more old (steps.Up k.now) k.mid k.told k.comes))
 case_later old step new printed h (LosesUp k) = subst (Later old) (sym k.is) (same_clients old old refl (least old.rows.epoch) refl)
 
--- the world behind a step serves its clients
+-- the world after a step serves its clients
 abbrev pub LeadsOn : Type 0
 LeadsOn = (old : WorldState) (step : Step) (new : WorldState) (printed : List Line) → IsConsistent old → WorldCase old step new printed → IsServed new
 

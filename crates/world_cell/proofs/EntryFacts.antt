@@ -1,4 +1,4 @@
--- What stands in a client's cache behind an Alive: it stood there before, under a lease that runs, and the Alive invalidates nothing of it that is new.
+-- What stands in a client's cache after an Alive: it stood there before, under a lease that runs, and the Alive invalidates nothing of it that is new.
 use Rattle.std.proofs.Common.{◌≡◌, ℕ, ◌≤◌, ◌<◌, Bool, true, false, cond, List, [], ◌∷◌, Option, Some, None, inl, inr, refl, sym, ◌∙◌, arith}
 use Rattle.std.specs.Prelude.{nat_lt}
 use Rattle.std.specs.Str.{bytes_eq}

@@ -81,7 +81,7 @@ module _ (client : ℕ) (name secret : List ℕ) where
   pub grants_request : (sent : List Message) (request : Request) → grants_of client name secret (sent ++ ToMaster request ∷ []) ≡ grants_of client name secret sent
   grants_request sent request = ap (λ (g : GrantsSoFar). g.grants) (by_more sent (ToMaster request ∷ []) nothing)
 
-  -- one to a client is looked at behind all that were sent before it
+  -- one to a client is looked at after all that were sent before it
   pub grants_out : (sent : List Message) (out : Out) → grants_of client name secret (sent ++ ToClient out ∷ []) ≡ grant_of client name secret sent out (grants_of client name secret sent)
   grants_out sent out =
       ap (λ (g : GrantsSoFar). g.grants) (by_more sent (ToClient out ∷ []) nothing)

@@ -1,4 +1,4 @@
--- Of a consistent world, behind each step, each client holds what it should.
+-- Of a consistent world, after each step, each client holds what it should.
 use Rattle.std.proofs.Common.{◌≡◌, ℕ, ◌+◌, true, List, [], ◌∷◌, ◌++◌, Some, None, refl, sym, ap, ◌∙◌, subst}
 use Rattle.node_core.specs.declared.lines.Line.{Line}
 use Rattle.tags_cell.specs.declared.messages.calls.Call.TheVariants as calls

@@ -83,7 +83,7 @@ pub lapses_of_locks : (parting : Parting) (client : ℕ) (lapses : List Lapse) �
 lapses_of_locks parting client [] = none_of_locks
 lapses_of_locks parting client (lapse ∷ lapses) = both_of_locks (lapse_lines parting client lapse) (lapses_lines parting client lapses) (lapse_of_locks parting client lapse) (lapses_of_locks parting client lapses)
 
--- those of a session's end, behind the lines of rights
+-- those of a session's end, after the lines of rights
 pub parting_kept : (parting : Parting) (client : ℕ) (numbers : List ℕ) (lapses : List Lapse) → filter is_of_commit (map (right_line parting) numbers ++ lapses_lines parting client lapses ++ lines.Ended client ∷ []) ≡ map (right_line parting) numbers ++ lapses_lines parting client lapses ++ lines.Ended client ∷ []
 parting_kept parting client [] lapses =
     filter_both is_of_commit (lapses_lines parting client lapses) (lines.Ended client ∷ []) ∙ ap (λ told. told ++ lines.Ended client ∷ []) (lapses_of_locks parting client lapses).kept

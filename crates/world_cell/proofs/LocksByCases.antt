@@ -64,7 +64,7 @@ pub record Grows (Tells : Rows → Rows → Type 0) (old new : Rows) : Type 0 wh
 
 -- ---- a master beside another
 
--- the locks, the instances and the next instance of a master behind a step
+-- the locks, the instances and the next instance of a master after a step
 record Moves (s t : MasterState) : Type 0 where
   locks : (n : ℕ) → RisesTo (lock_at s.locks n) (lock_at t.locks n)
   nodes : (n : ℕ) → is_there t.nodes n ≡ true → (is_there s.nodes n ≡ true) ⊎ (s.next_instance ≤ n)

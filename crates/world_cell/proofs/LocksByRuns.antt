@@ -1,4 +1,4 @@
--- Why locks are legal behind each step, and why no two holds of a lock from free share a generation.
+-- Why locks are legal after each step, and why no two holds of a lock from free share a generation.
 use Rattle.std.proofs.Common.{◌≡◌, ℕ, ◌+◌, ◌<◌, ◌≤◌, List, [], ◌∷◌, Bool, true, false, Option, Some, None, Result, Ok, Err, refl, sym, ap, subst, ◌∙◌, inl, inr, ⊎_elim, arith}
 use Rattle.std.specs.Prelude.{◌⊎◌, is_some, if◌then◌else◌, IfOk, IfErr}
 use Rattle.std.specs.List.{list_all}

@@ -179,7 +179,7 @@ queue_push sent epoch (x ∷ xs) w h k = (h.0, queue_push sent epoch xs w h.1 k)
 
 -- ---- a session's call
 
--- behind a call that has its reply nothing waits
+-- after a call that has its reply nothing waits
 none_kept : (o : Option (LastCall Reply)) (number : ℕ) (numbers : List ℕ) → IsLastInTurn o numbers → IsBehind o number → numbers ≡ []
 none_kept None number numbers h k = h
 none_kept (Some kept) number numbers h k = subst (λ o. IsWaiting kept.number o numbers) k.1 h
@@ -443,7 +443,7 @@ uncalled_note s (Some note) client h = h
 abbrev pub WasAsked : List Message → Request → Type 0
 WasAsked sent request = (call : CallMessage) → request ≡ requests.Call call → call_of sent call.client call.number ≡ Some call
 
--- what the master sends is behind all messages
+-- what the master sends is after all messages
 pub take_fits : (sent : List Message) (s : MasterState) (request : Request) (c : TakeCase s request) → FitsMessages sent s → WasAsked sent request → FitsMessages (sent ++ map ToClient (taken_by s request c).1.outs) (taken_by s request c).0
 take_fits sent s request (StartQueued start is may serving room) h asked =
     fits_stays sent [] (queued s [] (tasks.Asked (record { client = start.client; number = start.number; work = works.Starts start.principal s.clock }))) (start_fits sent s start.client start.number start.principal s.clock h)
@@ -624,7 +624,7 @@ module _ (sent : List Message) (s : MasterState) (front : List (Waiting Task)) (
       replied_left puts =
           answered_by_fits sent (with_locks (rest s front back) puts) (locks_fit sent (rest s front back) call_left puts) asked.client reply its_reply none_left
 
-      -- behind the end of its session
+      -- after the end of its session
       parted_left : (parting : Parting) → FitsMessages sent (recorded (with_locks (parted parting (rest s front back) asked.client) (lapses_puts s (lapses_of parting s asked.client))) asked.client (answered_by reply))
       parted_left parting =
           let r : MasterState = rest s front back in

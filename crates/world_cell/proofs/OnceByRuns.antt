@@ -368,7 +368,7 @@ module _ (sent : List Message) (s : MasterState) (client : ℕ) (last : Option �
       let v : PastResult t.kept.number None last = subst (λ o. PastResult t.kept.number o last) t.no_reply w in
       subst (λ n. PastResult n None last) t.same v
 
-  -- t: the master behind the change, without what is noted of a handle
+  -- t: the master after the change, without what is noted of a handle
   end_past : (t : MasterState) (asked : WaitingRequest) (note : Option HandleNote) (answer : CallResult) (next : Option ℕ) → t.sessions ≡ s.sessions → t.epoch ≡ s.epoch → is_live s asked.client ≡ true → (asked.client ≡ client → IsFrom next asked.number) → (eqb client asked.client ≡ false → next ≡ last) → PastMaster sent client (ended t asked note answer) next
   end_past t asked note answer next same_sessions same_epoch live own apart =
       let kept : LastCall Reply = answered_by (reply_of t asked.client asked.number answer) in

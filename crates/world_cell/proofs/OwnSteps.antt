@@ -78,12 +78,12 @@ pub data OfEpoch (sent : List Message) (s new : ClientState) : Type 0 where
   GrantedEpoch : (at : ℕ) (started : StartedMessage) → out_at sent at ≡ Some (outs.Started started) → new.epoch ≡ started.epoch → new.session ≡ sessions.Live → OfEpoch sent s new
   LearnedEpoch : (at present : ℕ) (refused : RefusedMessage) → out_at sent at ≡ Some (outs.Refused refused) → refused.fault ≡ faults.OldEpoch present → s.epoch < present → new.epoch ≡ present → new.session ≡ sessions.Live → OfEpoch sent s new
 
--- what is behind the messages then
+-- what is after the messages then
 abbrev pub sending : Option Request → List Message
 sending None = []
 sending (Some request) = ToMaster request ∷ []
 
--- one client does a step: it is in the place of what it was, and what it sends is behind all messages
+-- one client does a step: it is in the place of what it was, and what it sends is after all messages
 pub record IsOwn (old new : WorldState) (printed : List Line) : Type 0 where
   pub number : ℕ
   pub member : WorldClient

@@ -1,4 +1,4 @@
--- Behind each step a consistent world serves its clients: to each client, and of each name, it is what some schedule leads to; what clients hold and are replied is as it should be.
+-- After each step a consistent world serves its clients: to each client, and of each name, it is what some schedule leads to; what clients hold and are replied is as it should be.
 use Rattle.std.proofs.Common.{ℕ, List, sym, ap, ◌∙◌, subst}
 use Rattle.coherence.specs.Slice.{Reached}
 use Rattle.node_core.specs.declared.lines.Line.{Line}

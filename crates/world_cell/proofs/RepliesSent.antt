@@ -1,4 +1,4 @@
--- Of a consistent world, behind each step, each reply that was sent is to a call that was sent before.
+-- Of a consistent world, after each step, each reply that was sent is to a call that was sent before.
 use Rattle.std.proofs.Common.{◌≡◌, ℕ, false, List, [], ◌∷◌, ◌++◌, Option, Some, None, refl, sym, ap, ◌∙◌, inl, inr, subst, map}
 use Rattle.node_core.specs.declared.refusals.Fault.TheVariants as faults
 use Rattle.node_core.specs.declared.lines.Line.{Line}
@@ -160,7 +160,7 @@ swept_secret rows s (Awaited front back asked call sequencer put turn work stays
 swept_secret rows s (Left front back asked call sequencer _ leave answer turn work stays live made) = (relocked_rows rows (lock_changes s (left_put leave ∷ []))).beside.secret
 swept_secret rows s _ = refl
 
--- ---- the messages behind a step
+-- ---- the messages after a step
 
 -- all replies are answers
 abbrev pub AllAnswer : List Message → List ℕ → Type 0

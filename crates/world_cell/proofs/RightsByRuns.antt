@@ -35,7 +35,7 @@ same_told old new printed none same = same_rights (rights_in old) printed none �
 own_told : (old new : WorldState) (printed : List Line) → IsOwn old new printed → Tells old.master printed new.master
 own_told old new printed o = same_told old.master new.master printed (quiet_rightless printed o.quiet) (ap (λ (w : WorldState). w.master) o.is)
 
--- s: the master before; t: the one behind
+-- s: the master before; t: the one after
 master_told : (old new : Option MasterState) (printed : List Line) (s t : MasterState) (told : List Line) → old ≡ Some s → new ≡ Some t → printed ≡ told → rights_at (map told_of s.rights) told ≡ Some (map told_of t.rights) → Tells old printed new
 master_told old new printed s t told is_old is_new is h = rw (is_old, is_new, is) h
 

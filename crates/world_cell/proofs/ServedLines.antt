@@ -128,7 +128,7 @@ each_other line other (number ∷ numbers) = (other number, each_other line othe
 
 -- ---- a step's lines
 
--- they serve what is there, before the step and behind it
+-- they serve what is there, before the step and after it
 record StepServes (old new : WorldState) (printed : List Line) : Type 0 where
   before : Serve (map_of old.rows) printed
   behind : ServeAt (map_of new.rows) printed

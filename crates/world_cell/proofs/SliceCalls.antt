@@ -262,7 +262,7 @@ module _ (c : ℕ) (x : List ℕ) (w : WorldState) (s : MasterState) (knows : Is
       (asking_leads n name rights recorded (λ e. awaited (first_any (bytes_eq x name) (list_any (bytes_eq x) names) e)))
       (all_lead n names (asked_back name rights) (recorded_asked name rights recorded) (λ e. awaited (later_any (bytes_eq x name) (list_any (bytes_eq x) names) e)))
 
-  -- a change waits behind all others, and who holds a name that it touches is asked for it
+  -- a change waits after all others, and who holds a name that it touches is asked for it
   change_waits : (names : List (List ℕ)) (waiting : Waiting Task) (t : MasterState) → s.recovering ≡ false → waiting.number ≡ s.gate.pushed + 1 → waiting.change.touched ≡ names → start_of c waiting.change.body ≡ [] → t.recovering ≡ s.recovering → t.gate.waiting ≡ s.gate.waiting ++ waiting ∷ [] → t.rights ≡ asked_for_all names s.rights
       → t.sessions.lease ≡ s.sessions.lease → seen_of (session_of t c) ≡ seen_of (session_of s c) → Comes c x w s t []
   change_waits names waiting t serving is_next is_touched is_no_start is_recovering is_waiting is_rights is_lease is_seen =

@@ -160,7 +160,7 @@ sending_stays c x w request none =
     three_same (stepped_as c x w (member_of w c)) (beats_of c (sends w request).messages) (beats_of c w.messages) (offers_of c x (sends w request).messages) (offers_of c x w.messages) (grants_of c x w.rows.secret (sends w request).messages) (grants_of c x w.rows.secret w.messages)
     (beats_more c w.messages request ∙ none) (offers_stay c x w.messages request) (grants_request c x w.rows.secret w.messages request)
 
--- the same, behind other steps
+-- the same, after other steps
 then_sends : (c : ℕ) (x : List ℕ) (w middle : WorldState) (request : Request) → beat_of c request (beats_of c middle.messages) ≡ beats_of c middle.messages → LeadsTo c x w middle → LeadsTo c x w (sends middle request)
 then_sends c x w middle request none led = (led.0, subst (Leads (slice c x w) led.0) (sym (sending_stays c x middle request none)) led.1)
 

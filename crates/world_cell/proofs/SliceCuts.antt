@@ -1,4 +1,4 @@
--- To each client, and of each name, what a step is that a crash cuts behind its commit: that step, the master goes down, and what it sent is lost.
+-- To each client, and of each name, what a step is that a crash cuts after its commit: that step, the master goes down, and what it sent is lost.
 use Rattle.std.proofs.Common.{◌≡◌, ℕ, Bool, true, false, cond, List, [], ◌∷◌, map, Option, Some, None, refl, sym, ap, ◌∙◌, subst, inr}
 use Rattle.std.specs.Prelude.{◌==◌, fold}
 use Rattle.std.specs.Option.{option_map}
@@ -22,7 +22,7 @@ use Rattle.world_cell.proofs.SliceTicks.{behind_up}
 use Rattle.world_cell.proofs.SliceSweeps.{behind_sweep}
 use Rattle.over_core.specs.declared.actions.Action.{Action}
 
--- the world behind it: the commit stands
+-- the world after it: the commit stands
 abbrev pub behind_cut : WorldState → Rows → WorldState
 behind_cut w rows = record (without_master w) { rows = rows }
 

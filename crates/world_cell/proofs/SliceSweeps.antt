@@ -196,7 +196,7 @@ module _ (x : List ℕ) (w : WorldState) (s : MasterState) (knows : IsKnown w s)
     grants = replies_grant_none c x w.rows.secret (record { before = w.messages; grants = grants_of c x w.rows.secret w.messages }) replies unstamped;
   }
 
-  -- the master behind a sweep, by what is seen of each part
+  -- the master after a sweep, by what is seen of each part
   behind : (c : ℕ) (rows : Rows) (t : MasterState) (sent : List Out) (q : UpParts)
       → view_at (map_of rows) x ≡ q.present → standing_in rows c ≡ q.session → rows.epoch ≡ q.epoch → rows.secret ≡ w.rows.secret → t.sessions.lease ≡ q.lease → t.recovering ≡ q.recovering → seen_of (session_of t c) ≡ q.seen → starts_of c t.gate.waiting ≡ q.starts → heard_from q.recovering q.seen ≡ q.heard → right_of c x t.rights ≡ q.right → touching x t.gate.waiting ≡ q.pending
       → beats_of c w.messages ≡ q.beats → fold (put_offer c x) (offers_of c x w.messages) (map ToClient sent) ≡ q.offers → grants_then c x w.rows.secret w.messages sent ≡ q.grants → AreSame (there c x w rows t sent) q
@@ -426,7 +426,7 @@ module _ (x : List ℕ) (w : WorldState) (s : MasterState) (knows : IsKnown w s)
       | inr k ↦ in_back r receipts (starts_of c s.gate.waiting) (subst (λ (ws : List (Waiting Task)). IsIn r (starts_of c ws)) (sym turn.waited) (drop_in c front back at_application r k))
     ]
 
-    -- what is behind a turn that begins no session
+    -- what is after a turn that begins no session
     record IsRest (c : ℕ) (rows : Rows) (t : MasterState) (sent : List Out) : Type 0 where
       present : touches x at_application ≡ false → view_at (map_of rows) x ≡ view_at (map_of w.rows) x
       session : standing_in rows c ≡ standing_in w.rows c
@@ -881,7 +881,7 @@ module _ (x : List ℕ) (w : WorldState) (s : MasterState) (knows : IsKnown w s)
       replies front back asked turn c (changed_rows w.rows (relocking s (left_put leave ∷ []))) (with_locks (rest s front back) (left_put leave ∷ [])) note answer (turn_replies s leave.turn)
       (relocked_rows_of front back (tasks.Asked asked) turn c (left_put leave ∷ [])) (application_unstamped s leave.turn) refl refl refl refl s.epoch
 
--- the world behind the sweep
+-- the world after the sweep
 abbrev pub behind_sweep : (w : WorldState) (s : MasterState) → SweepCase (noted s w.clock) → Action → WorldState
 behind_sweep w s case action = record w {
   rows = changed_rows w.rows (swept_edits (noted s w.clock) case);

@@ -49,7 +49,7 @@ use Rattle.world_cell.proofs.SliceCalls.{Comes, comes_unseen, call_replied, repl
 
 -- ---- lists
 
--- what waits behind all others is the only new one
+-- what waits after all others is the only new one
 new_start : (c : ℕ) (ws : List (Waiting Task)) (x : Waiting Task) (r : one.Receipt) → IsIn r (starts_of c (ws ++ x ∷ [])) → IsIn r (start_of c x.change.body) ⊎ IsIn r (starts_of c ws)
 new_start c [] x r i = elim (in_either r (start_of c x.change.body) [] i) [
   | inl k ↦ inl k
@@ -114,7 +114,7 @@ module _ (x : List ℕ) (w : WorldState) (s : MasterState) (knows : IsKnown w s)
   abbrev starts_then : List one.Receipt
   starts_then = starts_of start.client (s.gate.waiting ++ start_task ∷ [])
 
-  -- its receipt waits behind those that could be answered
+  -- its receipt waits after those that could be answered
   starts_kept : (r : one.Receipt) → IsIn r ((seen_of (session_of s start.client)).parked ++ starts_then) → IsIn r (record { number = start.number; moment = w.clock } ∷ (seen_of (session_of s start.client)).parked ++ starts_of start.client s.gate.waiting)
   starts_kept r i = elim (in_either r (seen_of (session_of s start.client)).parked starts_then i) [
     | inl k ↦ inr (in_front r (seen_of (session_of s start.client)).parked (starts_of start.client s.gate.waiting) k)
@@ -312,7 +312,7 @@ module _ (c : ℕ) (x : List ℕ) (w : WorldState) (s : MasterState) (knows : Is
   take_by at request (Waits message note touched new serving admitted) sent = queues note message touched serving
   take_by at request case sent = comes_unseen c x w s s (taken_by s request case).1.outs refl refl refl refl refl refl refl refl
 
--- the world behind the step
+-- the world after the step
 abbrev pub behind_take : (w : WorldState) (s : MasterState) (request : Request) → TakeCase (noted s w.clock) request → WorldState
 behind_take w s request case = record w { master = Some (taken_by (noted s w.clock) request case).0; messages = w.messages ++ map ToClient (taken_by (noted s w.clock) request case).1.outs }
 

@@ -54,7 +54,7 @@ module _ (c : ℕ) (x : List ℕ) (w : WorldState) (ticks : Ticks) where
     grants = grants_of c x w.rows.secret w.messages;
   }
 
-  -- behind the clocks' steps
+  -- after the clocks' steps
   abbrev at_clocks_then : Option MasterState → Option WorldClient → Slice Shown
   at_clocks_then m member = at_clocks m (w.clock + ticks.master) (option_map (moved m w ticks c) member)
 
@@ -110,7 +110,7 @@ not_live : (principal : List ℕ) (live : Bool) (now : ℕ) → has_heard {K = R
 not_live principal true now h k = cc
 not_live principal false now h k = cc
 
--- the world behind it
+-- the world after it
 abbrev pub behind_up : WorldState → ℕ → WorldState
 behind_up w now = record w {
   rows = changed_rows w.rows (up_edits w.rows);
@@ -218,7 +218,7 @@ module _ (c : ℕ) (x : List ℕ) (w : WorldState) where
 
 -- ---- a client joins
 
--- the world behind it
+-- the world after it
 abbrev pub behind_join : WorldState → ℕ → List ℕ → WorldState
 behind_join w number principal = record w { clients = insert_entry nat_cmp w.clients number (new_member number principal w.clock) }
 

@@ -133,7 +133,7 @@ beats_more c messages request = fold_both (put_beat c) [] messages (ToMaster req
 pub offers_stay : (c : ℕ) (x : List ℕ) (messages : List Message) (request : Request) → offers_of c x (messages ++ ToMaster request ∷ []) ≡ offers_of c x messages
 offers_stay c x messages request = fold_both (put_offer c x) [] messages (ToMaster request ∷ [])
 
--- the grants among what is sent behind these messages
+-- the grants among what is sent after these messages
 abbrev pub grants_then : ℕ → List ℕ → List ℕ → List Message → List Out → Grants
 grants_then c x secret messages sent = (granted_by c x secret (record { before = messages; grants = grants_of c x secret messages }) (map ToClient sent)).grants
 
@@ -333,7 +333,7 @@ module _ (c : ℕ) (x : List ℕ) (w : WorldState) where
   abbrev pub here : MasterState → UpParts
   here s = parts_of w.rows s w.messages
 
-  -- behind it
+  -- after it
   abbrev pub there : Rows → MasterState → List Out → UpParts
   there rows t sent = parts_of rows t (w.messages ++ map ToClient sent)
 
@@ -344,7 +344,7 @@ module _ (c : ℕ) (x : List ℕ) (w : WorldState) where
   abbrev pub Goes : MasterState → Rows → MasterState → List Out → Type 0
   Goes s rows t sent = (events : List (Event Shown)) × Leads (slice c x (record w { master = Some s })) events (slice c x (up_with rows t sent))
 
-  -- by the parts before and behind
+  -- by the parts before and after
   pub goes : (s : MasterState) (rows : Rows) (t : MasterState) (sent : List Out) (events : List (Event Shown)) (p q : UpParts) → AreSame (here s) p → AreSame (there rows t sent) q → Leads (shown p) events (shown q) → Goes s rows t sent
   goes s rows t sent events p q before behind led = (
     events,

@@ -1,4 +1,4 @@
--- What stands of a content in the rows stands behind each step, and so does what a sweep tells of.
+-- What stands of a content in the rows stands after each step, and so does what a sweep tells of.
 use Rattle.std.proofs.Common.{◌≡◌, ℕ, ◌≤◌, List, [], ◌∷◌, ◌++◌, Bool, true, false, cond, Option, Some, None, Equal, refl, sym, ap, subst, ◌∙◌, inl, inr, arith}
 use Rattle.std.specs.Prelude.{◌⊎◌, ◌&&◌, ◌||◌, ◌==◌, not, is_none}
 use Rattle.std.specs.Option.{option_map, option_map_or, option_and_then, option_or}
@@ -88,7 +88,7 @@ has_by (e ∷ es) n = ap (λ b. e.1.node.instance == n || b) (has_by es n)
 opposite : (b : Bool) → b ≡ true → not b ≡ true → ⊥
 opposite b h k = absurd cc
 
--- none behind it has its instance
+-- none after it has its instance
 not_twice : (nodes : StoredNodes) (n : ℕ) → not (list_any (λ m. m == n) (instances nodes)) ≡ true → has_instance nodes n ≡ true → ⊥
 not_twice nodes n none has = opposite (list_any (λ m. m == n) (instances nodes)) (sym (has_by nodes n) ∙ has) none
 

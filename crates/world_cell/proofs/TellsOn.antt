@@ -1,4 +1,4 @@
--- What is carried through each step of a world; and whatever clients are to be told of contents stands, behind each step of a consistent world.
+-- What is carried through each step of a world; and whatever clients are to be told of contents stands, after each step of a consistent world.
 use Rattle.std.proofs.Common.{◌≡◌, ℕ, List, [], ◌∷◌, ◌++◌, Option, Some, None, refl, sym, ap, ◌∙◌, inl, inr, subst, map}
 use Rattle.std.specs.List.{AllByRecursion}
 use Rattle.node_core.specs.declared.events.Event.{Event}
@@ -122,7 +122,7 @@ module _ (R : Reply → Type 0) (E : Event → Type 0) where
   case_carries old step new printed fed h (CutsUp k) = subst IsCarried (sym k.is) (record { sent = h.sent; master = h.master })
   case_carries old step new printed fed h (LosesUp k) = subst IsCarried (sym k.is) h
 
--- ---- contents, behind a step
+-- ---- contents, after a step
 
 swept_stands : (old : WorldState) (step : Step) (new : WorldState) (printed : List Line) (instance generation : ℕ) → Agrees old old.master → IsSweep old step new printed → Stands old.rows instance generation → Stands new.rows instance generation
 swept_stands old step new printed instance generation agrees t h =

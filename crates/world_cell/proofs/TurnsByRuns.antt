@@ -195,7 +195,7 @@ module _ (sent : List Message) (s : MasterState) (client n : ℕ) (fits : FitsMe
       let e = t.same in
       omega (arith, k, e)
 
-  -- t: the master behind the change, without what is noted of a handle
+  -- t: the master after the change, without what is noted of a handle
   end_past : (t : MasterState) (asked : WaitingRequest) (note : Option HandleNote) (answer : CallResult) → t.sessions ≡ s.sessions → t.epoch ≡ s.epoch → is_live s asked.client ≡ true → (asked.client ≡ client → n ≤ asked.number) → PastMaster sent client (ended t asked note answer) n
   end_past t asked note answer same_sessions same_epoch live own =
       let kept : LastCall Reply = answered_by (reply_of t asked.client asked.number answer) in
@@ -252,7 +252,7 @@ telling_past sent s client n tellings h = same_past sent s.epoch client (kept_of
 
 -- ---- who waits
 
--- a call of the client that waits behind a step waited before it, or is of a greater number
+-- a call of the client that waits after a step waited before it, or is of a greater number
 abbrev Stays : ℕ → ℕ → List ℕ → List ℕ → Type 0
 Stays n q before behind = behind ≡ q ∷ [] → (before ≡ q ∷ []) ⊎ (n < q)
 

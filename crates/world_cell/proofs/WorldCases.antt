@@ -130,7 +130,7 @@ pub record IsTake (old : WorldState) (step : Step) (new : WorldState) (printed :
   pub is : new ≡ record old { master = Some (taken_by (noted master old.clock) request case).0; messages = old.messages ++ map ToClient (taken_by (noted master old.clock) request case).1.outs }
   pub tells : printed ≡ (taken_by (noted master old.clock) request case).1.lines
 
--- the master behind the sweep: the clients of handles are told of it last
+-- the master after the sweep: the clients of handles are told of it last
 abbrev pub swept_master : (s : MasterState) → SweepCase s → Action → MasterState
 swept_master s case action = with_tellings (swept_by s case).0 (action_tellings s action)
 
@@ -143,7 +143,7 @@ pub record IsSweep (old : WorldState) (step : Step) (new : WorldState) (printed 
   pub action : Action
   -- that of a Beat alone prints nothing
   pub silent : step ≡ steps.Beats → (swept_by (noted master old.clock) case).1.lines ≡ []
-  -- the map behind it is that of what was planned
+  -- the map after it is that of what was planned
   pub acts : (swept_by (noted master old.clock) case).0.nodes ≡ (acted (noted master old.clock) action).0.nodes
   pub is : new ≡ record old {
     rows = changed_rows old.rows (swept_edits (noted master old.clock) case);
@@ -159,7 +159,7 @@ pub record IsDown (old : WorldState) (step : Step) (new : WorldState) (printed :
   pub is : new ≡ without_master old
   pub tells : printed ≡ lines.Down ∷ []
 
--- mid, told: the world behind the whole sweep, and its lines
+-- mid, told: the world after the whole sweep, and its lines
 pub record IsCutSweep (old : WorldState) (step : Step) (new : WorldState) (printed : List Line) : Type 0 where
   pub is_step : step ≡ steps.CutSweep Kept
   pub mid : WorldState

@@ -29,7 +29,7 @@ AreLegalRows rows = (instance : ℕ) → are_together (locks_at rows.locks insta
 abbrev pub WereLegal : WorldState → WorldState → Type 0
 WereLegal old new = AreLegalRows old.rows ⊎ (is_some old.master ≡ true) ⊎ (old.rows.epoch < new.rows.epoch)
 
--- behind any steps each lock is legal, in a master that is up and in its rows, which tell the same of holders and generations; and in rows that no master is up with, if they were so
+-- after any steps each lock is legal, in a master that is up and in its rows, which tell the same of holders and generations; and in rows that no master is up with, if they were so
 -- before or a master came up by them
 pub record HasLegalLocks (old new : WorldState) : Type 0 where
   pub master : (s : MasterState) → new.master ≡ Some s → (instance : ℕ) → IsLegal (lock_at s.locks instance)

@@ -36,6 +36,6 @@ pub record HoldsOfRun (old : WorldView) (steps : List Step) (printed : List Line
   pub told : ShowsNoOlder old steps new
   pub limits : StaysWithinLimits old.world new.world
 
--- every run that begins with this world, and behind which nothing is in doubt
+-- every run that begins with this world, and after which nothing is in doubt
 abbrev pub HoldsOfRuns : WorldView → Type 0
 HoldsOfRuns old = (steps : List Step) (printed : List Line) (new : WorldView) → AnyRun old steps printed new → IsUndoubted new → HoldsOfRun old steps printed new

@@ -40,7 +40,7 @@ use Rattle.world_cell.specs.Slices.{slice}
 
 -- ---- runs
 
--- one step behind the other, and their lines in order
+-- one step after the other, and their lines in order
 abbrev pub AnyRun : WorldView → List Step → List Line → WorldView → Type 0
 AnyRun old [] printed new = (printed ≡ []) × (new ≡ old)
 AnyRun old (step ∷ steps) printed new =
@@ -162,7 +162,7 @@ Rises numbers = RisesFrom None numbers
 abbrev pub change_of : Effect → Option Mod
 change_of effected = option_map (λ change. change.change) effected.change
 
--- the master took a call: behind a first part of the steps it was up in that epoch, the next step delivered the call's message and was made, and the others followed
+-- the master took a call: after a first part of the steps it was up in that epoch, the next step delivered the call's message and was made, and the others followed
 pub record IsTaken (old : WorldView) (steps : List Step) (printed : List Line) (new : WorldView) (epoch client number : ℕ) (call : Call) (sequencer : Option (List ℕ)) : Type 0 where
   pub front : List Step
   pub at : ℕ
@@ -193,8 +193,8 @@ pub record HasWaited (before : Option MasterState) (epoch client number : ℕ) (
   pub touched : List (List ℕ)
   pub waits : master.gate.waiting ≡ front ++ record { number = turn; change = record { touched = touched; body = tasks.Asked (record { client = client; number = number; work = works.Calls call sequencer }) } } ∷ back
 
--- a change that a line shows, with what is listed of the node that it puts: behind a first part of the steps, with the lines before it, the master was up with the map and the epoch that these lines tell; the next
--- step was a sweep, or one that a crash cut behind its commit, and was made
+-- a change that a line shows, with what is listed of the node that it puts: after a first part of the steps, with the lines before it, the master was up with the map and the epoch that these lines tell; the next
+-- step was a sweep, or one that a crash cut after its commit, and was made
 pub record IsApplied (old : WorldView) (steps : List Step) (before : List Line) (client number : ℕ) (change : Mod) (names : List (List ℕ)) (rest : List Line) (new : WorldView) : Type 0 where
   pub front : List Step
   pub at : Step

@@ -23,7 +23,7 @@ use std::alloc::{AllocError, Global};
 use world_steps::Step;
 
 impl<R: Records + Drop> World<R> {
-    /// Steps, one behind the other; a refused step is the one line that says so. Where memory ends, the steps made so
+    /// Steps, one after the other; a refused step is the one line that says so. Where memory ends, the steps made so
     /// far stand, the last one too, and the lines of all of them are lost. The laws hold where nothing is in doubt.
     pub fn run(&mut self, steps: &[Step]) -> Result<Items<Line>, AllocError>
         ensures run { IfOk result (λ lines. AnyRun self.old steps.now lines self.new) }

@@ -1,4 +1,4 @@
--- A master that a crash cuts while it comes up, behind its commit or before.
+-- A master that a crash cuts while it comes up, after its commit or before.
 use Rattle.std.proofs.Common.{◌≡◌, ℕ, List, [], ◌∷◌, true, false, Result, Ok, Err, Option, Some, None, refl, sym, ap, subst, ◌∙◌, inl, inr, arith}
 use Rattle.std.specs.Prelude.{is_some}
 use Rattle.node_core.specs.declared.refusals.Fault.{Fault}
@@ -41,7 +41,7 @@ refused_so : (w : WorldState) (now : ℕ) (fault : Fault) → world_step w (step
 unfolding world_step
 refused_so w now fault h = refused_by w now fault w.master h
 
--- ---- behind the commit
+-- ---- after the commit
 
 -- it is refused as a master that comes up is
 refused_cut : (old new : WorldView) (now : ℕ) (printed : List Line) → WasRefused old (steps.Up now) new printed → WasRefused old (steps.CutUp now Kept) new printed

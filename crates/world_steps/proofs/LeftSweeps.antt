@@ -1,4 +1,4 @@
--- What is left behind a sweep that is refused.
+-- What is left after a sweep that is refused.
 use Rattle.std.proofs.Common.{◌≡◌, ℕ, Bool, true, false, List, Result, Err, Some, refl, ap, subst, sym, ◌∙◌, inl, inr, arith}
 use Rattle.std.specs.Prelude.{◌⊎◌, Ok, OnErr}
 use Rattle.node_core.specs.declared.refusals.Fault.{Fault}

@@ -22,7 +22,7 @@ abbrev pub MoveFairlyFromEach : List Point → Point → Type 0
 MoveFairlyFromEach [] later = Unit {0}
 MoveFairlyFromEach (point ∷ points) later = MoveFairly point later × MoveFairlyFromEach points later
 
--- the points of a life in their order, and one behind all of them
+-- the points of a life in their order, and one after all of them
 abbrev pub AreInOrder : Point → List Point → Point → Type 0
 AreInOrder here [] then = IsLater here then
 AreInOrder here (point ∷ points) then = IsLater here point × AreInOrder point points then

@@ -54,7 +54,7 @@ moved_beside now clock member =
 abbrev pub moved_alone : ℕ → WorldClient → WorldClient
 moved_alone clock member = record member { clock = clock }
 
--- a client behind one of its steps, in the place of what it was
+-- a client after one of its steps, in the place of what it was
 abbrev pub stepped : Clients → ℕ → WorldClient → ClientState → Clients
 stepped clients number member client = set_value (is_at (nat_cmp number)) clients (record member { client = client })
 

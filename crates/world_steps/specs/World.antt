@@ -353,13 +353,13 @@ step_frees w steps.Sweep = option_map_or (λ master. sweep_frees master w.clock)
 step_frees w (steps.CutSweep Kept) = option_map_or (λ master. sweep_frees master w.clock) w.master false
 step_frees w _ = false
 
--- behind a step that was made: what it commits stands, and the store refused nothing
+-- after a step that was made: what it commits stands, and the store refused nothing
 pub record IsStored (freed : Bool) (edits : List Edit) (old new : WorldView) : Type 0 where
   pub leave : new.may_leave ≡ left_after freed edits old.may_leave new.world.rows
   pub counted : new.refusals ≡ old.refusals
   pub doubted : old.doubt ≤ new.doubt
 
--- behind a refused one: nothing changed, but a crash may perhaps leave the rows of the refused commit too
+-- after a refused one: nothing changed, but a crash may perhaps leave the rows of the refused commit too
 pub record IsLeft (freed : Bool) (edits : List Edit) (old new : WorldView) : Type 0 where
   pub same : new.world ≡ old.world
   pub leave : MayLeaveUp freed edits old.world.rows old.may_leave new.may_leave

@@ -519,7 +519,7 @@ fn is_of_commit(line: &Line) -> bool
     }
 }
 
-// Room for a client's lines and its refusal behind them.
+// Room for a client's lines and its refusal after them.
 fn room(alloc: Global) -> Result<Vec<Line>, AllocError>
     ensures empty { IfOk result (λ room. room.items ≡ []) }
     ensures room { IfOk result (λ room. vec_len room + 1 < vec_capacity room) }
@@ -529,7 +529,7 @@ fn room(alloc: Global) -> Result<Vec<Line>, AllocError>
     Ok(room)
 }
 
-// A client's lines, and its refusal behind them; takes no memory.
+// A client's lines, and its refusal after them; takes no memory.
 fn refused_behind(lines: Items<Line>, fault: Fault, room: Vec<Line>) -> Items<Line>
     requires empty { room.items ≡ [] }
     requires room { vec_len room + length lines < vec_capacity room }

@@ -46,7 +46,7 @@ pub enum Step {
     Beats,
     /// The master is gone; the rows stay.
     Down,
-    /// A sweep that a crash cuts behind its commit, or before: nothing is sent, and the master is gone.
+    /// A sweep that a crash cuts after its commit, or before: nothing is sent, and the master is gone.
     CutSweep(Commit),
     /// The same of a master that comes up at this moment.
     CutUp(u64, Commit),

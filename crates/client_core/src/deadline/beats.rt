@@ -11,7 +11,7 @@ use node_core::NUMBER_LIMIT;
 /// The earliest moment, from the last one that the client noted on, at which `beat` sends a message or prints a line: at
 /// no earlier one it does, and at every later one. None where it does at no moment. A client that has a session, or none
 /// yet, sends at every moment, so that is the moment that it noted; one whose session is lost, or that was told that it
-/// gets none, never does. Behind the last number, 2^63-1, a beat is refused, but for the one that prints that the session
+/// gets none, never does. After the last number, 2^63-1, a beat is refused, but for the one that prints that the session
 /// is lost. In milliseconds of the client's own clock. Takes no memory.
 pub fn next_beat(client: &Client) -> Option<u64>
     ensures { IsNextBeat client.now result }

@@ -39,7 +39,7 @@ pub(crate) fn lease_end(cache: &Cache, from: u64) -> Option<u64>
     Some(search(cache, from))
 }
 
-// The first moment behind one at which the lease runs, where it doesn't at the last moment of all.
+// The first moment after one at which the lease runs, where it doesn't at the last moment of all.
 fn search(cache: &Cache, from: u64) -> u64
     requires moment { IsMoment from }
     requires leased { is_leased cache.now.lease from ≡ true }

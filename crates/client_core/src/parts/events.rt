@@ -21,7 +21,7 @@ pub fn are_events_in_order(processed: u64, events: &[NumberedEvent]) -> bool
     }
 }
 
-// Whether the numbers rise by one from behind this one on.
+// Whether the numbers rise by one from after this one on.
 fn events_follow(mut last: u64, events: &[NumberedEvent]) -> bool
     ensures { result ≡ follow last (event_numbers events.now) }
 {
@@ -44,7 +44,7 @@ pub fn last_event(events: &[NumberedEvent]) -> u64
     }
 }
 
-/// These lines, and behind them what a client prints of the events above this number, in their order.
+/// These lines, and after them what a client prints of the events above this number, in their order.
 pub fn with_events(
     lines: Items<Line>,
     client: u64,

@@ -19,7 +19,7 @@ pub fn is_in_order(processed: u64, invalidations: &[Invalidation]) -> bool
     }
 }
 
-// Whether the numbers rise by one from behind this one on.
+// Whether the numbers rise by one from after this one on.
 fn follow(mut last: u64, invalidations: &[Invalidation]) -> bool
     ensures { result ≡ follow last (invalidation_numbers invalidations.now) }
 {

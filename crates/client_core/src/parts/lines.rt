@@ -16,7 +16,7 @@ pub fn one_line(alloc: Global, line: Line) -> Result<Items<Line>, AllocError>
     pushed(Items::new(alloc), line)
 }
 
-/// These lines, and one more behind them.
+/// These lines, and one more after them.
 pub fn pushed(lines: Items<Line>, line: Line) -> Result<Items<Line>, AllocError>
     ensures { IfOk result (λ more. more ≡ lines ++ line ∷ []) }
 {

@@ -10,7 +10,7 @@ use std::alloc::{AllocError, Global};
 use std::collections::VecDeque;
 use tags_cell::Invalidation;
 
-/// These, and one more behind them.
+/// These, and one more after them.
 pub fn with_op(ops: VecDeque<CacheOp>, op: CacheOp) -> Result<VecDeque<CacheOp>, AllocError>
     ensures { IfOk result (λ more. more.items ≡ ops.items ++ op ∷ []) }
 {
@@ -21,7 +21,7 @@ pub fn with_op(ops: VecDeque<CacheOp>, op: CacheOp) -> Result<VecDeque<CacheOp>,
     }
 }
 
-/// These, and behind them what empties the cache and disables it.
+/// These, and after them what empties the cache and disables it.
 pub fn with_losses(ops: VecDeque<CacheOp>) -> Result<VecDeque<CacheOp>, AllocError>
     ensures { IfOk result (λ more. more.items ≡ ops.items ++ losses) }
 {
@@ -50,7 +50,7 @@ fn is_bare(cache: &Cache) -> bool
     cache.is_empty()
 }
 
-/// These, and behind them a flush for each name that an invalidation above this number is of. Clones these names alone.
+/// These, and after them a flush for each name that an invalidation above this number is of. Clones these names alone.
 pub fn with_flushes(
     ops: VecDeque<CacheOp>,
     processed: u64,
@@ -67,7 +67,7 @@ pub fn with_flushes(
     Ok(ops)
 }
 
-/// These, and behind them what puts the cache under a lease.
+/// These, and after them what puts the cache under a lease.
 pub fn with_lease(
     ops: VecDeque<CacheOp>,
     lease: Lease,

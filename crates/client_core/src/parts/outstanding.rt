@@ -51,7 +51,7 @@ pub fn absence_taught(
     }
 }
 
-/// These lines, and behind them that nobody knows what became of the outstanding call. One whose reply is dropped was told
+/// These lines, and after them that nobody knows what became of the outstanding call. One whose reply is dropped was told
 /// of before.
 pub fn with_unknown(
     lines: Items<Line>,
