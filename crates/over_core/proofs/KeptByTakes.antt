@@ -49,8 +49,7 @@ use Rattle.master_parts.specs.declared.pending.Work.TheVariants as works
 use Rattle.master_state.specs.State.{MasterState}
 use Rattle.master_parts.specs.StoredSessions.{row_of, session_rows}
 use Rattle.master_state.specs.Lookups.{is_full, acknowledgement, stamped_reply, noted}
-use Rattle.cell_core.specs.declared.admissions.Admission.{Admission}
-use Rattle.cell_core.specs.Step.{queued, parked, recorded, with_right, granting, asking, asking_for, leave_admission, admission_of, admission_for, names_of, task_of, with_call, waits, take_step}
+use Rattle.cell_core.specs.Step.{queued, parked, recorded, with_right, granting, asking, asking_for, admission_of, admission_for, names_of, task_of, with_call, waits, take_step}
 use Rattle.master_state.specs.Updates.{with_note}
 use Rattle.master_parts.specs.Answered.{answered_by}
 use Rattle.cell_core.specs.declared.asking.TouchedNames.{TouchedNames}
@@ -171,8 +170,8 @@ same_calls (Some number) before = refl
 -- ---- a new call
 
 -- the end of a session waits for its turn, touches nothing, and is not answered before
-leave_admits : (s : MasterState) (client number : ℕ) (call : Call) (sequencer : Option (List ℕ)) → is_leave call ≡ true → admission_of s client number call sequencer ≡ leave_admission
-leave_admits s client number calls.Leave sequencer h = refl
+leave_admits : (s : MasterState) (client number : ℕ) (call : Call) (sequencer : Option (List ℕ)) → is_leave call ≡ true → ((admission_of s client number call sequencer).answer ≡ None) × ((admission_of s client number call sequencer).touched ≡ None)
+leave_admits s client number calls.Leave sequencer h = (refl, refl)
 leave_admits s client number (calls.Open opening) sequencer h = cc
 leave_admits s client number (calls.Close bytes) sequencer h = cc
 leave_admits s client number (calls.Read bytes) sequencer h = cc
@@ -425,9 +424,8 @@ module _ (cell : List ℕ) (rows : Rows) where
       let last : LastCall Reply = record { number = message.number; reply = None } in
       let before : MasterState = recorded s client last in
       let admits = leave_admits s client message.number message.call message.sequencer beside.leave in
-      let passes : (admission_for s message).answer ≡ None = ap (λ (a : Admission). a.answer) admits in
-      let names : names_of None ≡ names_of (call_touched s.secret message.call) =
-      ap names_of (sym (ap (λ (a : Admission). a.touched) admits) ∙ touched_is_changed s client message.number message.call message.sequencer passes) in
+      let passes : (admission_for s message).answer ≡ None = admits.0 in
+      let names : names_of None ≡ names_of (call_touched s.secret message.call) = ap names_of (sym admits.1 ∙ touched_is_changed s client message.number message.call message.sequencer passes) in
       let own : IsOwnCall s.secret client (works.Calls message.call message.sequencer) = own_call s client message.number message.call message.sequencer passes in
       let one : HaveOneCall (with_call s message None) = one_beside s.gate.waiting s.locks s.sessions client last (s.gate.pushed + 1) [] (task_of message) refl refl live (ap not beside.leave) beside.alone k.one_call in
       queued_kept before [] (tasks.Asked (task_of message)) beside.serving beside.room spare names own in_range one
