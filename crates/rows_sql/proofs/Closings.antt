@@ -33,6 +33,12 @@ module _ {D : Type 0} (g : Ghosts D) (c : Held (FileStore D g)) where
         },
       )
 
+  -- nothing was in doubt, if the store that comes back is clean
+  pub was_sure : (last : FileStore D g) (owed : ℕ) → doubt (file_state c).is_clean ≡ owed → IsClosed c last → IsClean (view last) → owed ≡ 0
+  was_sure last owed owes closed clean =
+      let was : HasCleanDisk (file_state c) = omega (arith, closed.quiet.clean, clean) in
+      sym owes ∙ was
+
   pub left_by : (last : FileStore D g) (left : List Rows) → (HasCleanDisk (file_state c) → (db : Trees) → (file_state c).may_leave db → IsLeft left db) → IsClosed c last → IsClean (view last) → (db : Trees) → recovers last db → IsLeft left db
   left_by last left owes closed clean db may =
       let was : HasCleanDisk (file_state c) = omega (arith, closed.quiet.clean, clean) in

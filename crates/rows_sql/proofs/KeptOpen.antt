@@ -1,6 +1,6 @@
 -- A connection that is taken over as it is.
 use Rattle.std.proofs.Common.{◌≡◌, ◌≤◌, Bool, true, false, not, inl, inr, refl, sym, ap, ◌∙◌, subst, arith, true≢false, Result, Ok, Err}
-use Rattle.std.specs.Prelude.{IsTrue, IfOk, is_ok}
+use Rattle.std.specs.Prelude.{IsTrue, IfOk, IfErr, is_ok}
 use Rattle.sqlite_trees.specs.declared.store.Store.{Ghosts}
 use Rattle.sqlite_trees.specs.View.{View, IsClean, IsQuiet, doubt}
 use Rattle.sqlite.specs.Tree.{Trees}
@@ -18,6 +18,13 @@ unbegun told false is t = refl
 pub told_unchanged : {X E : Type 0} (Q : X → Type 0) (P : Type 0) (r : Result X E) (told : Bool) → told ≡ is_ok r → IsTrue told → IfOk r (λ x. Q x × P) → P
 told_unchanged Q P (Ok x) told is went h = h.1
 told_unchanged Q P (Err e) told is went h = absurd (true≢false (sym went ∙ is))
+
+-- what may be left of a store that comes back may be left of a clean one
+pub back_if_err : {X S : Type 0} (g : Ghosts S) (old : Held S) (r : Result X S)
+    → IfErr r (λ store. (doubt (state g old).is_clean ≤ doubt (g.view store).is_clean) × ((db : Trees) → g.recovers store db → (state g old).may_leave db))
+    → IfErr r (λ store. (doubt (state g old).is_clean ≤ doubt (g.view store).is_clean) × (IsClean (g.view store) → (db : Trees) → g.recovers store db → (state g old).may_leave db))
+back_if_err g old (Ok x) h = tt
+back_if_err g old (Err store) h = (h.0, λ _. h.1)
 
 -- the last commit, as a view of its own
 abbrev as_committed : View → View

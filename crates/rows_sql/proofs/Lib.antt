@@ -35,6 +35,7 @@ pub mod RenewNode
 pub mod Cascades
 pub mod RemoveNode
 pub mod WriteSteps
+pub mod Overtaking
 pub mod MeaningOfCreation
 pub mod Creates
 pub mod PutCell

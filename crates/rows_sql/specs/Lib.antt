@@ -17,6 +17,7 @@ pub mod WriteTexts
 pub mod WriteCommands
 pub mod Numbers
 pub mod Ongoing
+pub mod Overtaken
 pub mod Creation
 pub mod Carrying
 pub mod Indexing

@@ -76,9 +76,9 @@ fn keep_open<S: OrderedStore + Drop>(mut conn: Connection<S>) -> Result<Connecti
     Err(conn.into_store())
 }
 
-/// Gives a connection to what was last committed: this one, as it is, where nothing is begun there; else the database is
+/// Gives a connection to what was last committed: this one, as it is, if nothing is begun there; else the database is
 /// opened anew, which tests all its rows once more.
-pub(crate) fn settle<S: OrderedStore + Drop>(
+pub(crate) fn last_committed<S: OrderedStore + Drop>(
     alloc: Global,
     conn: Connection<S>,
 ) -> Result<Connection<S>, S>
@@ -88,10 +88,7 @@ pub(crate) fn settle<S: OrderedStore + Drop>(
     if conn.is_autocommit() {
         return keep_open(conn);
     }
-    match reopen(alloc, conn) {
-        Ok(conn) => Ok(conn),
-        Err(store) => Err(store),
-    }
+    reopen(alloc, conn)
 }
 
 // Whether there is no table, no index and no view.

@@ -19,6 +19,8 @@ impl<D: Disk + Drop> SqlRecords<FileStore<D>> {
     pub fn close(self) -> Result<Files<D>, (Error, FileStore<D>)>
         ensures closed { IfOk result (λ files. AreClean D.Disk files.log files.db → (self.doubt ≡ 0) × StandsAlone D.Disk files self.rows) }
         ensures refused { IfErr result (λ e. IsClean (view e.1) → (db : _) → recovers e.1 db → IsLeft self.may_leave db) }
+        // And if the disk gave back what was written, nothing of the records was in doubt.
+        ensures sure { IfErr result (λ e. IsClean (view e.1) → self.doubt ≡ 0) }
     {
         let conn = self.release();
         match conn.close_files() {

@@ -10,7 +10,7 @@ ghost use Rattle.rows_cell.specs.Stores.{Loads, told};
 ghost use Rattle.rows_sql.specs.Keeping.{told_in, noted, stood, IsLeft};
 ghost use Rattle.rows_sql.specs.Adopting.{Adopts, ComesBack, IsOther, IsFull};
 
-use crate::adoption::{settle, take_over};
+use crate::adoption::{last_committed, take_over};
 use crate::history::StoreLog;
 use crate::orders::OrderedStore;
 use crate::steps::{goes_on, is_committed, load_sound};
@@ -202,7 +202,7 @@ impl<S: OrderedStore + Drop> SqlRecords<S> {
             Ok(cell) => cell,
             Err(_) => return Err((StoreFault::NoMemory, conn.into_store())),
         };
-        let mut conn = match settle(alloc, conn) {
+        let mut conn = match last_committed(alloc, conn) {
             Ok(conn) => conn,
             Err(store) => return Err((StoreFault::Refused, store)),
         };

@@ -1,7 +1,9 @@
 use Rattle.std.proofs.Common.{◌≡◌, ◌+◌, ◌<◌, suc, length, rules, arith, [], ◌∷◌, drop, drop-cons, add-one, sym, ap, ◌∙◌, subst}
 use Rattle.std.proofs.lemmas.List.{drop_all}
 use Rattle.sqlite.specs.Held.{state}
-use Rattle.rows_sql.proofs.WriteSteps.{Along, along_step, all_done}
+use Rattle.rows_sql.specs.Overtaken.{GoesOver}
+use Rattle.rows_sql.proofs.WriteSteps.{Along, all_done}
+use Rattle.rows_sql.proofs.Overtaking.{along_over}
 use Rattle.rows_sql.proofs.writing.changes.edit_all.Goals as goal
 
 pub loop-it-preserved : goal.loop-it-preserved
@@ -13,10 +15,13 @@ loop-it-preserved g c =
     let left = drop (i + 1) all in
     let within : i < length all = search rules in
     let is : drop i all ≡ c.it-item.result ∷ left = rw add-one (drop-cons all i c.it-item.result within ∙ ap (λ x. x ∷ drop (suc i) all) (sym c.it-item.is)) in
+    let now = state g.S.Store c.edit_or_leave.new.tx.conn.now in
+    let rest : c.after_first-later.result ≡ left = c.after_first-later.ensures ∙ ap (drop 1) (c.loop-it.invariant.later ∙ is) in
     record {
-      same = c.in_ok-edit.ensures.same ∙ c.loop-it.invariant.same;
-      along = along_step all left c.it-item.result a b (state g.S.Store c.edit.new.tx.conn.now) (subst (λ l. Along all l a b) is c.loop-it.invariant.along)
-          c.in_ok-edit.ensures.ok c.edit.ensures.kept c.edit.ensures.survives;
+      same = c.in_ok-edit_or_leave.ensures.same ∙ c.loop-it.invariant.same;
+      later = rest;
+      along = along_over all left c.it-item.result a b now (subst (λ l. Along all l a b) is c.loop-it.invariant.along)
+          (λ clean. subst (λ l. GoesOver c.it-item.result l b now) rest (c.in_ok-edit_or_leave.ensures.ok clean)) c.edit_or_leave.ensures.kept c.edit_or_leave.ensures.survives;
     }
 
 pub returns-clause-ok : goal.returns-clause-ok
