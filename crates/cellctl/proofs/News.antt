@@ -13,7 +13,7 @@ use Rattle.rows_cell.specs.Opening.{opening}
 use Rattle.rows_cell.specs.Stores.{Store}
 use Rattle.world_steps.specs.World.{WorldView, IsUndoubted, opened, store_in}
 use Rattle.scripts.specs.Ran.{EndsWith, EndsSurely}
-use Rattle.rows_sql.specs.declared.schema.ours.Version.TheVariants.{First, Unindexed, Second}
+use Rattle.rows_sql.specs.declared.schema.ours.Version.TheVariants.{Third}
 use Rattle.rows_sql.specs.Creation.{no_schema}
 use Rattle.rows_sql.specs.Adopting.{Takes}
 use Rattle.rows_sql.proofs.Adoptions.{some_tables}
@@ -37,10 +37,9 @@ sure_of A B P (Err e) a b p = tt
 
 -- a database with no table is taken over as the opening rows
 takes_opening : (settings : Settled) (db : Database) (rows : Rows) → db.schema ≡ no_schema → Takes settings db rows → rows ≡ opening settings
-takes_opening settings db rows none (inl p) = absurd (some_tables Second db.schema none p.0)
+takes_opening settings db rows none (inl p) = absurd (some_tables Third db.schema none p.0)
 takes_opening settings db rows none (inr (inl p)) = p.1
-takes_opening settings db rows none (inr (inr (inl p))) = absurd (some_tables Unindexed db.schema none p.schema)
-takes_opening settings db rows none (inr (inr (inr (before, said, end, is)))) = absurd (some_tables First db.schema none said.schema)
+takes_opening settings db rows none (inr (inr (version, before, said, can, is))) = absurd (some_tables version db.schema none said.schema)
 
 pub ran_anew : (settings : Settled) (had : State) (text before after : Known) (status : ℕ) (first last : Store) (old new : WorldView) → IsFirst settings had first → had.committed.schema ≡ no_schema
     → old ≡ opened first (terms_of settings) → last ≡ store_in new → (IsUndoubted new → IsUndoubted old × EndsWith status (EndsSurely text old new) before after) → last.doubt ≡ 0

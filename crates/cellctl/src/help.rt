@@ -67,8 +67,8 @@ Exit status:
   4                 memory ran out outside a step
 Behind each but 0 the standard error says what is wrong, and what cures it. Of a refused step it tells the line.
 
-The store is a SQLite file. Where it isn't there, or has no table, a new store is made in it; one of version 1 is made one of
-version 2, for good; else its rows are taken as they are. Nobody else may write it meanwhile. Behind the script it is closed:
+The store is a SQLite file. Where it isn't there, or has no table, a new store is made in it; one of version 1 or 2 is made
+one of version 3; else its rows are taken as they are. Nobody else may write it meanwhile. Behind the script it is closed:
 the rows stand in that one file. What a step printed is written before the next line is begun. Where a run is killed, the log
 beside the file (FILE-wal) is a part of the store. A file that is made is for its owner alone.
 

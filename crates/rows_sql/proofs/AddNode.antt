@@ -24,16 +24,16 @@ use Rattle.sqlite.specs.State.{State, Executes}
 use Rattle.names_cell.specs.Text.{is_component, is_name}
 use Rattle.node_core.specs.declared.nodes.Node.{Node}
 use Rattle.rows_cell.specs.declared.tables.StoredNode.{StoredNode}
+use Rattle.rows_cell.specs.declared.tables.Edit.TheVariants.{PutNode}
 use Rattle.rows_cell.specs.Rows.{StoredNodes, stored_node, put_stored}
 use Rattle.rows_sql.specs.OurSchema.{nodes}
 use Rattle.rows_sql.specs.Decode.{count_of, count_in, kind_of, life_of, acls_from, numbers_from, node_from, node_in}
-use Rattle.rows_sql.specs.declared.schema.ours.Version.TheVariants.{Second}
-use Rattle.rows_sql.specs.Children.{children_of}
+use Rattle.rows_sql.specs.declared.schema.ours.Version.TheVariants.{Third}
 use Rattle.rows_sql.specs.Held.{Holds}
 use Rattle.rows_sql.specs.Ready.{node_shown}
 use Rattle.rows_sql.specs.WriteTexts.{add_node_text}
 use Rattle.rows_sql.specs.Numbers.{IsNumber, IsReadAs}
-use Rattle.rows_sql.specs.Ongoing.{IsStore, RanInside, PutsEntry}
+use Rattle.rows_sql.specs.Ongoing.{IsStore, RanInside, Changed}
 use Rattle.rows_sql.proofs.WriteMeaning.{add_node_is, add_node_plain}
 use Rattle.rows_sql.proofs.Casts.{cast_null, cast_int, component_reads, name_reads}
 use Rattle.rows_sql.proofs.Columns.{equal-Text}
@@ -138,7 +138,7 @@ pub record Given (t : List ℕ) (node : Node) (name read write change content : 
 
 pub node_added : (t : List ℕ) (node : Node) (name i k l g a read write change content : ValueRef) → Given t node name read write change content → is_name t ≡ true → HasNames node → IsNumber i node.instance → IsReadAs kind_of k node.kind → IsReadAs life_of l node.life → IsNumber g node.content_generation → IsNumber a node.acl_generation
     → (old new : State) → RanInside add_node_text (bound (name ∷ i ∷ k ∷ l ∷ g ∷ a ∷ read ∷ write ∷ change ∷ content ∷ [])) old new
-    → PutsEntry t node old new
+    → Changed (PutNode t node ∷ []) old new
 node_added t node name i k l g a read write change content texts named names ni nk nl ng na old new run =
     let row : bound (name ∷ i ∷ k ∷ l ∷ g ∷ a ∷ read ∷ write ∷ change ∷ content ∷ []) ≡ Text t ∷ Int ni.0 ∷ Int nk.0 ∷ Int nl.0 ∷ Int ng.0 ∷ Int na.0 ∷ Text node.read ∷ Text node.write ∷ Text node.change ∷ Blob node.content ∷ [] = λ j.
     texts.name_is j ∷ bound_value (owned (ni.1 j)) ∷ bound_value (owned (nk.1 j)) ∷ bound_value (owned (nl.1 j)) ∷ bound_value (owned (ng.1 j)) ∷ bound_value (owned (na.1 j)) ∷ texts.read_is j ∷ texts.write_is j ∷ texts.change_is j ∷ texts.content_is j ∷ [] in
@@ -150,6 +150,6 @@ node_added t node name i k l g a read write change content texts named names ni 
       says = λ store rows said.
           let done = row_added t node c old new store r.count r.ran in
           let held = held_as_shown (slice_cmp nat_cmp) node_in node_shown (old.now.trees 1) rows.nodes said.nodes in
-          nodes_say old.now new.now (new.now.trees 1) Second rows (children_of rows.nodes) said done.1 (put_stored rows.nodes t node)
+          nodes_say old.now new.now (new.now.trees 1) Third rows [] said done.1 (put_stored rows.nodes t node)
           (shown_as_held (slice_cmp nat_cmp) node_in node_shown (new.now.trees 1) (put_stored rows.nodes t node) (nodes_then t node c old new store counts names named rows.nodes held done.0 done.1.store));
     }

@@ -12,24 +12,25 @@ use Rattle.sqlite.specs.Held.{Held, state, IsNew}
 use Rattle.sqlite.specs.Steps.{IsFresh}
 use Rattle.node_core.specs.declared.nodes.Node.{Node}
 use Rattle.rows_cell.specs.declared.tables.StoredNode.{StoredNode}
+use Rattle.rows_cell.specs.declared.records.StoreFault.{StoreFault}
 use Rattle.rows_cell.specs.declared.tables.Rows.{Rows}
 use Rattle.rows_cell.specs.declared.tables.Edit.{Edit}
 use Rattle.rows_cell.specs.declared.tables.Edit.TheVariants.{PutNode}
 use Rattle.rows_cell.specs.Rows.{StoredNodes}
 use Rattle.rows_cell.specs.Opening.{opening}
 use Rattle.rows_cell.specs.Settings.{Settled}
-use Rattle.rows_sql.specs.OurSchema.{first_schema, unindexed_schema, the_schema}
+use Rattle.rows_sql.specs.OurSchema.{first_schema, unindexed_schema, second_schema, the_schema}
 use Rattle.rows_cell.specs.Sound.{sound}
 use Rattle.rows_sql.specs.declared.schema.ours.Version.{Version}
-use Rattle.rows_sql.specs.declared.schema.ours.Version.TheVariants.{First, Unindexed, Second}
-use Rattle.rows_sql.specs.Versions.{schema_of}
+use Rattle.rows_sql.specs.declared.schema.ours.Version.TheVariants.{First, Unindexed, Second, Third}
+use Rattle.rows_sql.specs.Versions.{schema_of, IsEarlier}
 use Rattle.rows_sql.specs.Held.{Says, SaysAs}
 use Rattle.rows_sql.specs.Ready.{tables_of, tables_as, IsReady, IsStill, Quiet}
 use Rattle.rows_sql.proofs.OneSchema.{one_database}
 use Rattle.rows_sql.specs.Ongoing.{IsStore}
 use Rattle.rows_sql.specs.Creation.{no_schema, puts_of, IsMade, MayOpen}
 use Rattle.rows_sql.specs.Keeping.{Keeps}
-use Rattle.rows_sql.specs.Adopting.{IsAnew, Takes, IsTakenAs, IsForeign, IsAtItsEnd, Adopts, IsOther, IsFull, IsTaken, IsLeftAlone, IsReopened, ComesBack}
+use Rattle.rows_sql.specs.Adopting.{IsAnew, CanCarry, Takes, IsTakenAs, IsForeign, IsAtItsEnd, Adopts, IsOther, IsFull, IsTaken, IsLeftAlone, IsReopened, ComesBack}
 use Rattle.rows_sql.proofs.Opened.{opened}
 use Rattle.rows_sql.proofs.InspectLemmas.{one_version}
 
@@ -47,9 +48,7 @@ anew {S = S} g store (Ok c) ordered listed fresh opens cleaner trees new =
       is_open = λ clean. (opens clean).0.is_open;
       settled = λ clean. sym (opens clean).0.clean;
       listed = λ clean. let at = opens clean in (at.1 at.0.is_open).0;
-      store = both.0;
-      unindexed = both.1;
-      first = both.2;
+      stores = both;
     }
 
 -- ---- what an unbroken store is that was rolled back
@@ -125,11 +124,16 @@ module _ {S : Type 0} (g : Ghosts S) (settings : Settled) (old new : Held S) (at
       idle = q.idle at.idle;
       clean = q.clean;
       is_open = λ clean. (still clean (ready clean)).is_open;
-      store = λ clean. subst IsStore (sym (still clean (ready clean)).now_is) (at.store (was clean) ours);
+      store = λ clean. subst IsStore (sym (still clean (ready clean)).now_is) (at.stores (was clean) Third ours);
       committed = λ clean. let s = still clean (ready clean) in s.ready.settled s.is_open;
       said = λ clean. subst (λ (d : Database). Says (tables_of d.trees) rows) (sym (still clean (ready clean)).now_is) (said clean (ready clean));
       takes = λ clean. inl (ours, said clean (ready clean));
     }
+
+    pub taken_if_ok : (r : Result Rows StoreFault) → (HasCleanDisk (state g new) → IsReady (state g old) → IfOk r (λ rows. Says (tables_of (state g old).now.trees) rows))
+        → (HasCleanDisk (state g new) → IsReady (state g old) → r ≢ Err StoreFault.Refused → IsStill (state g old) (state g new)) → IfOk r (λ rows. IsTaken g settings old new rows)
+    taken_if_ok (Ok rows) said still = taken_store rows said (λ clean ready. still clean ready (λ e. cc))
+    taken_if_ok (Err e) said still = tt
 
     pub left_store : IsLeftAlone g settings old new
     left_store = record { clean = q.clean; crash = λ clean db may. inl (q.crash clean (ready clean) db may) }
@@ -163,48 +167,54 @@ foreign_none cell db schema none same some = inl (λ version e. none version (sa
 pub foreign_store : (cell : List ℕ) (db : Database) → db.schema ≡ the_schema → ((rows : Rows) → ¬ Says (tables_of db.trees) rows) → IsForeign cell db
 foreign_store cell db ours none = inr (inl (ours, none))
 
+pub foreign_earlier : (version : Version) → IsEarlier version → (cell : List ℕ) (db : Database) → db.schema ≡ schema_of version → ((rows : Rows) → SaysAs version (tables_as version db.trees) rows → sound cell rows ≡ false) → IsForeign cell db
+foreign_earlier version earlier cell db ours none = inr (inr (version, earlier, (ours, none)))
+
+pub foreign_second : (cell : List ℕ) (db : Database) → db.schema ≡ second_schema → ((rows : Rows) → SaysAs Second (tables_as Second db.trees) rows → sound cell rows ≡ false) → IsForeign cell db
+foreign_second = foreign_earlier Second tt
+
 pub foreign_unindexed : (cell : List ℕ) (db : Database) → db.schema ≡ unindexed_schema → ((rows : Rows) → SaysAs Unindexed (tables_as Unindexed db.trees) rows → sound cell rows ≡ false) → IsForeign cell db
-foreign_unindexed cell db unindexed none = inr (inr (inl (unindexed, none)))
+foreign_unindexed = foreign_earlier Unindexed tt
 
 pub foreign_first : (cell : List ℕ) (db : Database) → db.schema ≡ first_schema → ((rows : Rows) → SaysAs First (tables_as First db.trees) rows → sound cell rows ≡ false) → IsForeign cell db
-foreign_first cell db first none = inr (inr (inr (first, none)))
+foreign_first = foreign_earlier First tt
 
 -- a schema with tables is that of one version
 pub some_tables : (version : Version) (s : Schema) → s ≡ no_schema → s ≡ schema_of version → ⊥
 some_tables First s n t = let e : 0 ≡ 4 = ap (λ (x : Schema). length x.tables) (sym n ∙ t) in omega (arith, e)
 some_tables Unindexed s n t = let e : 0 ≡ 5 = ap (λ (x : Schema). length x.tables) (sym n ∙ t) in omega (arith, e)
 some_tables Second s n t = let e : 0 ≡ 5 = ap (λ (x : Schema). length x.tables) (sym n ∙ t) in omega (arith, e)
+some_tables Third s n t = let e : 0 ≡ 4 = ap (λ (x : Schema). length x.tables) (sym n ∙ t) in omega (arith, e)
 
-pub not_both : (a b : Version) → (a ≡ b → ⊥) → (s : Schema) → s ≡ schema_of a → s ≡ schema_of b → ⊥
-not_both a b apart s p q = apart (one_version a b (sym p ∙ q))
+-- an earlier version is another than that of now
+pub now_is_later : (version : Version) → IsEarlier version → Third ≡ version → ⊥
+now_is_later First earlier e = cc
+now_is_later Unindexed earlier e = cc
+now_is_later Second earlier e = cc
+now_is_later Third earlier e = absurd earlier
 
-pub second_first : Second ≡ First → ⊥
-second_first e = cc
+pub not_now : (version : Version) → IsEarlier version → (s : Schema) → s ≡ the_schema → s ≡ schema_of version → ⊥
+not_now version earlier s p q = now_is_later version earlier (one_version Third version (sym p ∙ q))
 
-pub second_unindexed : Second ≡ Unindexed → ⊥
-second_unindexed e = cc
-
-pub unindexed_first : Unindexed ≡ First → ⊥
-unindexed_first e = cc
+pub can_carry : (version : Version) (epoch : ℕ) → CanCarry version epoch → IsEarlier version
+can_carry First epoch can = tt
+can_carry Unindexed epoch can = tt
+can_carry Second epoch can = tt
+can_carry Third epoch can = absurd can
 
 -- rows are taken of what isn't a cell's
 none_of_other : (settings : Settled) (db : Database) (rows : Rows) → Takes settings db rows → IsForeign settings.cell db → ⊥
-none_of_other settings db rows (inl t) (inl f) = f.0 Second t.0
+none_of_other settings db rows (inl t) (inl f) = f.0 Third t.0
 none_of_other settings db rows (inl t) (inr (inl f)) = f.1 rows t.1
-none_of_other settings db rows (inl t) (inr (inr (inl f))) = not_both Second Unindexed second_unindexed db.schema t.0 f.0
-none_of_other settings db rows (inl t) (inr (inr (inr f))) = not_both Second First second_first db.schema t.0 f.0
+none_of_other settings db rows (inl t) (inr (inr (version, earlier, unsound))) = not_now version earlier db.schema t.0 unsound.0
 none_of_other settings db rows (inr (inl t)) (inl f) = f.1 t.0
-none_of_other settings db rows (inr (inl t)) (inr (inl f)) = some_tables Second db.schema t.0 f.0
-none_of_other settings db rows (inr (inl t)) (inr (inr (inl f))) = some_tables Unindexed db.schema t.0 f.0
-none_of_other settings db rows (inr (inl t)) (inr (inr (inr f))) = some_tables First db.schema t.0 f.0
-none_of_other settings db rows (inr (inr (inl t))) (inl f) = f.0 Unindexed t.schema
-none_of_other settings db rows (inr (inr (inl t))) (inr (inl f)) = not_both Second Unindexed second_unindexed db.schema f.0 t.schema
-none_of_other settings db rows (inr (inr (inl t))) (inr (inr (inl f))) = true≢false (sym t.sound_rows ∙ f.1 rows t.said)
-none_of_other settings db rows (inr (inr (inl t))) (inr (inr (inr f))) = not_both Unindexed First unindexed_first db.schema t.schema f.0
-none_of_other settings db rows (inr (inr (inr t))) (inl f) = f.0 First t.1.schema
-none_of_other settings db rows (inr (inr (inr t))) (inr (inl f)) = not_both Second First second_first db.schema f.0 t.1.schema
-none_of_other settings db rows (inr (inr (inr t))) (inr (inr (inl f))) = not_both Unindexed First unindexed_first db.schema f.0 t.1.schema
-none_of_other settings db rows (inr (inr (inr t))) (inr (inr (inr f))) = true≢false (sym t.1.sound_rows ∙ f.1 t.0 t.1.said)
+none_of_other settings db rows (inr (inl t)) (inr (inl f)) = some_tables Third db.schema t.0 f.0
+none_of_other settings db rows (inr (inl t)) (inr (inr (version, earlier, unsound))) = some_tables version db.schema t.0 unsound.0
+none_of_other settings db rows (inr (inr (version, before, said, can, is))) (inl f) = f.0 version said.schema
+none_of_other settings db rows (inr (inr (version, before, said, can, is))) (inr (inl f)) = not_now version (can_carry version before.epoch can) db.schema f.0 said.schema
+none_of_other settings db rows (inr (inr (version, before, said, can, is))) (inr (inr (other, earlier, unsound))) =
+    let same : version ≡ other = one_version version other (sym said.schema ∙ unsound.0) in
+    true≢false (sym said.sound_rows ∙ unsound.1 before (subst (λ v. SaysAs v (tables_as v db.trees) before) same said.said))
 
 pub not_other : (settings : Settled) (s : State) (rows : Rows) → Adopts settings s rows → ¬ IsOther settings.cell s
 not_other settings s rows adopts other = none_of_other settings s.committed rows adopts.takes other.foreign

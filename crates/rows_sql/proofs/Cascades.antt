@@ -1,7 +1,6 @@
--- What a DELETE makes of the trees that takes nodes out, and their locks and their names under their parents with them.
+-- What a DELETE makes of the trees that takes nodes out, and their locks with them.
 use Rattle.std.proofs.Common.{◌≡◌, ◌≢◌, inl, inr, ℕ, zero, suc, ℤ, arith, Bool, true, false, not, ◌&&◌, List, [], ◌∷◌, ◌++◌, length, length-append, map, filter, Some, None, Ok, refl, sym, ap, ap₂, ◌∙◌, subst}
 use Rattle.std.specs.List.{list_any, cons_option, AllByRecursion}
-use Rattle.std.proofs.lemmas.Slice.Eq.{bytes_eq-Decides}
 use Rattle.sqlite.specs.Table.{Table}
 use Rattle.sqlite_schema.specs.declared.schema.Reference.{Reference}
 use Rattle.std.specs.List.Sorted.{IsPermutation}
@@ -10,7 +9,7 @@ use Rattle.std.specs.Prelude.{if◌then◌else◌}
 use Rattle.std.proofs.lemmas.Bool.{and_parts, and_from, cases_Bool, both_ways, false_from_ne_true}
 use Rattle.std.proofs.lemmas.Cmp.{tied_itself, int_cmp_total}
 use Rattle.std.proofs.lemmas.List.Sorted.{IsPermutation-sym}
-use Rattle.sqlite_value.specs.declared.value.Value.TheVariants.{Null, Int, Text}
+use Rattle.sqlite_value.specs.declared.value.Value.TheVariants.{Null, Int}
 use Rattle.sqlite_value.specs.declared.keys.Collation.TheVariants.{Binary}
 use Rattle.sqlite_value.specs.Order.{Row, column, value_cmp}
 use Rattle.sqlite_value.specs.Keys.{joined, first_key, plain}
@@ -34,9 +33,9 @@ use Rattle.sqlite_rules.specs.Action as action
 use Rattle.sqlite_rules.proofs.ListLemmas.{all_has, all_from, some_has, some_from, has_kept, has_filtered}
 use Rattle.sqlite_rules.proofs.TableLemmas.{int_is}
 use Rattle.sqlite_rules.proofs.PlaceLemmas.{row_at_is}
-use Rattle.rows_sql.specs.OurSchema.{the_schema, nodes, locks, children, of_node, of_name}
+use Rattle.rows_sql.specs.OurSchema.{the_schema, nodes, locks, of_node}
 use Rattle.rows_sql.proofs.Held.{has_mapped, mapped_has, has_permuted}
-use Rattle.rows_sql.proofs.Columns.{equal-Int, equal-Text}
+use Rattle.rows_sql.proofs.Columns.{equal-Int}
 use Rattle.rows_sql.proofs.Truths.{equal_is, same_truth}
 use Rattle.rows_sql.proofs.Trees.{without_some, same_row, has_itself}
 
@@ -94,7 +93,7 @@ module _ (table : Table) (ref : Reference) (places : List ℕ) (no_more : (olds 
     pub others : AllByRecursion (λ (t : Table). t.tree ≢ table.tree → mid t.tree ≡ next t.tree) the_schema.tables
 
   acts : (olds : List Row) (next end : Trees) (below : List Work) (n : ℕ) (ids : List ℤ) → AreChildren next (work olds) ids → ActsOn the_schema Enforced (Leads the_schema Enforced n) next (work olds) below (Ok end) ids → (mid : Trees) × Leads the_schema Enforced n mid below (Ok end) × Taken olds next mid
-  acts olds next end below n [] are h = (next, h, record { ids = []; children = are; rows = refl; others = (λ _. refl, (λ _. refl, (λ _. refl, (λ _. refl, (λ _. refl, tt))))) })
+  acts olds next end below n [] are h = (next, h, record { ids = []; children = are; rows = refl; others = (λ _. refl, (λ _. refl, (λ _. refl, (λ _. refl, tt)))) })
   acts olds next end below n (id ∷ ids) are (inl refused) = absurd (let e = refused.2 in cc)
   acts olds next end below n (id ∷ ids) are (inr (inl big)) = absurd (let e = big.3 in cc)
   acts olds next end below n (id ∷ ids) are (inr (inr went_on)) =
@@ -125,7 +124,7 @@ module _ (table : Table) (ref : Reference) (places : List ℕ) (no_more : (olds 
       let childless : (r : Row) → Has rows r → not (child olds r) ≡ true = λ r h. ap not (false_from_ne_true _ (λ t.
       let move = some_has (is_child_of (work olds) r) (pairs olds []) t in
       both_ways _ none (some_from (loses plain places) (pairs olds []) move.0 move.1 (and_parts _ _ move.2).0))) in
-      record { rows = sym (filter_all _ rows (all_from _ rows childless)); others = (λ _. refl, (λ _. refl, (λ _. refl, (λ _. refl, (λ _. refl, tt))))) }
+      record { rows = sym (filter_all _ rows (all_from _ rows childless)); others = (λ _. refl, (λ _. refl, (λ _. refl, (λ _. refl, tt)))) }
 
   leads : (olds : List Row) (next end : Trees) (below : List Work) (n : ℕ) → Leads the_schema Enforced n next (below ++ work olds ∷ []) (Ok end) → (mid : Trees) × (m : ℕ) × Leads the_schema Enforced m mid below (Ok end) × Taken olds next mid
   leads olds next end below zero h = absurd (not_empty below (work olds) h.0)
@@ -163,38 +162,26 @@ module _ (table : Table) (ref : Reference) (places : List ℕ) (no_more : (olds 
         (λ c. let p = child_has olds r c in ap (λ x. is_of x r) (sym (one p.0 p.1)) ∙ p.2)
         (λ of. some_from (is_child_of (work olds) r) (pairs olds []) (o, []) (subst (λ l. Has l (o, [])) (sym (pairs_are olds)) (has_mapped (λ (x : Row). (x, [])) olds o there)) (from r of))
 
--- ---- what the removal of nodes sets off: first on their children, then on their locks
+-- ---- what the removal of nodes sets off
 
 pub no_more_locks : (olds : List Row) → works the_schema Enforced 1 5 olds [] ≡ []
 unfolding same_name joined
 no_more_locks olds = refl
 
-pub no_more_children : (olds : List Row) → works the_schema Enforced 1 7 olds [] ≡ []
-unfolding same_name joined
-no_more_children olds = refl
-
 abbrev pub locks_to_do : List Row → List Work
 locks_to_do = to_do locks of_node (2 ∷ []) no_more_locks
 
-abbrev pub children_to_do : List Row → List Work
-children_to_do = to_do children of_name (1 ∷ []) no_more_children
-
-the_works : (olds : List Row) → works the_schema Enforced 0 1 olds [] ≡ locks_to_do olds ++ (children_to_do olds ++ [])
+the_works : (olds : List Row) → works the_schema Enforced 0 1 olds [] ≡ locks_to_do olds ++ []
 unfolding same_name joined
 the_works olds = refl
 
 abbrev pub lock_of : List Row → Row → Bool
 lock_of = child locks of_node (2 ∷ []) no_more_locks
 
-abbrev pub name_of : List Row → Row → Bool
-name_of = child children of_name (1 ∷ []) no_more_children
-
 pub record Cascaded (db : Trees) (edit : Edit) (end : Trees) : Type 0 where
   pub next : Trees
   pub applied : Applies the_schema Enforced db edit next
-  pub mid : Trees
-  pub names : Gone children of_name (1 ∷ []) no_more_children (taken_by db edit) next mid
-  pub locks : Gone locks of_node (2 ∷ []) no_more_locks (taken_by db edit) mid end
+  pub locks : Gone locks of_node (2 ∷ []) no_more_locks (taken_by db edit) next end
 
 module _ (db end : Trees) (ids0 : List ℤ) where
   abbrev edit0 : Edit
@@ -203,24 +190,21 @@ module _ (db end : Trees) (ids0 : List ℤ) where
   abbrev olds0 : List Row
   olds0 = taken_by db edit0
 
-  pub cascaded : IsShaped shape.Table (db 5) → IsShaped shape.Table (db 7) → action.Writes the_schema Enforced db edit0 (Ok end) → Cascaded db edit0 end
-  cascaded shaped_locks shaped_children (inl refused) = absurd (let e = refused.2 in cc)
-  cascaded shaped_locks shaped_children (inr (inl big)) = absurd (let e = big.3 in cc)
-  cascaded shaped_locks shaped_children (inr (inr went_on)) =
+  pub cascaded : IsShaped shape.Table (db 5) → action.Writes the_schema Enforced db edit0 (Ok end) → Cascaded db edit0 end
+  cascaded shaped_locks (inl refused) = absurd (let e = refused.2 in cc)
+  cascaded shaped_locks (inr (inl big)) = absurd (let e = big.3 in cc)
+  cascaded shaped_locks (inr (inr went_on)) =
       let next = went_on.0 in
       let applied = went_on.1 in
       let n = went_on.2.0 in
-      let whole : Leads the_schema Enforced n next (locks_to_do olds0 ++ (children_to_do olds0 ++ [])) (Ok end) = subst (λ s. Leads the_schema Enforced n next s (Ok end)) (the_works olds0) went_on.2.1 in
-      let stack : Leads the_schema Enforced n next (locks_to_do olds0 ++ children_to_do olds0) (Ok end) = subst (λ s. Leads the_schema Enforced n next (locks_to_do olds0 ++ s) (Ok end)) (nothing_more (children_to_do olds0)) whole in
-      let same_children : next 7 ≡ db 7 = applied.tables.1.1.1.1.0 (λ e. absurd (omega (arith, e))) in
+      let whole : Leads the_schema Enforced n next (locks_to_do olds0 ++ []) (Ok end) = subst (λ s. Leads the_schema Enforced n next s (Ok end)) (the_works olds0) went_on.2.1 in
+      let stack : Leads the_schema Enforced n next (locks_to_do olds0) (Ok end) = subst (λ s. Leads the_schema Enforced n next s (Ok end)) (nothing_more (locks_to_do olds0)) whole in
       let same_locks : next 5 ≡ db 5 = applied.tables.1.1.1.0 (λ e. absurd (omega (arith, e))) in
-      let first = done children of_name (1 ∷ []) no_more_children olds0 next end (locks_to_do olds0) n (subst (IsShaped shape.Table) (sym same_children) shaped_children) stack in
-      let mid_locks : first.0 5 ≡ db 5 = first.3.others.1.1.1.0 (λ e. absurd (omega (arith, e))) ∙ same_locks in
-      let second = done locks of_node (2 ∷ []) no_more_locks olds0 first.0 end [] first.1 (subst (IsShaped shape.Table) (sym mid_locks) shaped_locks) first.2 in
-      let ends : second.0 ≡ end = settled second.1 second.0 end second.2 in
-      record { next = next; applied = applied; mid = first.0; names = first.3; locks = subst (Gone locks of_node (2 ∷ []) no_more_locks olds0 first.0) ends second.3 }
+      let only = done locks of_node (2 ∷ []) no_more_locks olds0 next end [] n (subst (IsShaped shape.Table) (sym same_locks) shaped_locks) stack in
+      let ends : only.0 ≡ end = settled only.1 only.0 end only.2 in
+      record { next = next; applied = applied; locks = subst (Gone locks of_node (2 ∷ []) no_more_locks olds0 next) ends only.3 }
 
--- ---- which locks and which names go
+-- ---- which locks go
 
 -- a lock of the row
 abbrev pub is_of_row : Row → Row → Bool
@@ -234,19 +218,6 @@ lock_from : (olds : List Row) (r o : Row) (k : ℤ) → column o 2 ≡ Int k →
 unfolding first_key binary
 lock_from olds r o k int h =
     and_from _ _ (and_from _ _ (and_from _ _ (ap₂ (equal Binary) int int ∙ equal-Int k k ∙ ap is_eq (tied_itself int_cmp_total k)) refl) (ap (λ v. not (equal Binary v Null && true)) int)) h
-
--- the name of the row, under its parent
-abbrev pub is_name_of : Row → Row → Bool
-is_name_of o r = equal Binary (column r 2) (column o 1) && true
-
-name_parts : (olds : List Row) (r o : Row) → is_child_of (work children of_name (1 ∷ []) no_more_children olds) r (o, []) ≡ true → is_name_of o r ≡ true
-unfolding first_key
-name_parts olds r o h = (and_parts _ _ h).1
-
-name_from : (olds : List Row) (r o : Row) (t : List ℕ) → column o 1 ≡ Text t → is_name_of o r ≡ true → is_child_of (work children of_name (1 ∷ []) no_more_children olds) r (o, []) ≡ true
-unfolding first_key binary
-name_from olds r o t text h =
-    and_from _ _ (and_from _ _ (and_from _ _ (ap₂ (equal Binary) text text ∙ equal-Text t t ∙ (bytes_eq-Decides t t).1 refl) refl) (ap (λ v. not (equal Binary v Null && true)) text)) h
 
 -- The rows of the nodes that pass a test are taken out, and what goes with them.
 module _ (db end : Trees) (goes : Row → Bool) (rows : List Row) (shown : IsPermutation (map (λ r. rowid r ∷ []) (filter goes (db 1))) rows) (shaped : IsShaped shape.Table (db 1)) where
@@ -276,34 +247,24 @@ module _ (db end : Trees) (goes : Row → Bool) (rows : List Row) (shown : IsPer
   pub no_lock_goes : ((o : Row) → Has es o → goes o ≡ false) → (r : Row) → lock_of olds r ≡ false
   no_lock_goes none = none_goes locks of_node (2 ∷ []) no_more_locks is_of_row lock_parts olds (λ o h. let w = was o h in both_ways _ (none o w.0) w.1)
 
-  pub no_name_goes : ((o : Row) → Has es o → goes o ≡ false) → (r : Row) → name_of olds r ≡ false
-  no_name_goes none = none_goes children of_name (1 ∷ []) no_more_children is_name_of name_parts olds (λ o h. let w = was o h in both_ways _ (none o w.0) w.1)
-
   pub one_lock_goes : (o : Row) (k : ℤ) → Has es o → goes o ≡ true → column o 2 ≡ Int k → ((a : Row) → Has es a → goes a ≡ true → a ≡ o) → (r : Row) → lock_of olds r ≡ is_of_row o r
   one_lock_goes o k h t int one = one_goes locks of_node (2 ∷ []) no_more_locks is_of_row lock_parts olds o (taken o h t) (λ a ha. let w = was a ha in one a w.0 w.1) (λ r of. lock_from olds r o k int of)
-
-  pub one_name_goes : (o : Row) (t : List ℕ) → Has es o → goes o ≡ true → column o 1 ≡ Text t → ((a : Row) → Has es a → goes a ≡ true → a ≡ o) → (r : Row) → name_of olds r ≡ is_name_of o r
-  one_name_goes o t h k text one = one_goes children of_name (1 ∷ []) no_more_children is_name_of name_parts olds o (taken o h k) (λ a ha. let w = was a ha in one a w.0 w.1) (λ r of. name_from olds r o t text of)
 
   pub record Went : Type 0 where
     pub left : end 1 ≡ without_all es (ids_of rows)
     pub locks : end 5 ≡ filter (λ r. not (lock_of olds r)) (db 5)
-    pub children : end 7 ≡ filter (λ r. not (name_of olds r)) (db 7)
     pub metas : end 0 ≡ db 0
     pub sessions : end 4 ≡ db 4
 
-  pub went_with : IsShaped shape.Table (db 5) → IsShaped shape.Table (db 7) → action.Writes the_schema Enforced db (edit_of db nodes (ids_of rows) Given 0 []) (Ok end) → Went
-  went_with shaped_locks shaped_children writes =
-      let c = cascaded db end (ids_of rows) shaped_locks shaped_children writes in
-      let n = c.names.others in
+  pub went_with : IsShaped shape.Table (db 5) → action.Writes the_schema Enforced db (edit_of db nodes (ids_of rows) Given 0 []) (Ok end) → Went
+  went_with shaped_locks writes =
+      let c = cascaded db end (ids_of rows) shaped_locks writes in
       let l = c.locks.others in
       let a = c.applied.tables in
-      let next_children : c.next 7 ≡ db 7 = a.1.1.1.1.0 (λ e. absurd (omega (arith, e))) in
-      let mid_locks : c.mid 5 ≡ db 5 = n.1.1.1.0 (λ e. absurd (omega (arith, e))) ∙ a.1.1.1.0 (λ e. absurd (omega (arith, e))) in
+      let next_locks : c.next 5 ≡ db 5 = a.1.1.1.0 (λ e. absurd (omega (arith, e))) in
       record {
-        left = l.1.0 (λ e. absurd (omega (arith, e))) ∙ n.1.0 (λ e. absurd (omega (arith, e))) ∙ c.applied.rows;
-        locks = c.locks.rows ∙ ap (filter (λ r. not (lock_of olds r))) mid_locks;
-        children = l.1.1.1.1.0 (λ e. absurd (omega (arith, e))) ∙ c.names.rows ∙ ap (filter (λ r. not (name_of olds r))) next_children;
-        metas = l.0 (λ e. absurd (omega (arith, e))) ∙ n.0 (λ e. absurd (omega (arith, e))) ∙ a.0 (λ e. absurd (omega (arith, e)));
-        sessions = l.1.1.0 (λ e. absurd (omega (arith, e))) ∙ n.1.1.0 (λ e. absurd (omega (arith, e))) ∙ a.1.1.0 (λ e. absurd (omega (arith, e)));
+        left = l.1.0 (λ e. absurd (omega (arith, e))) ∙ c.applied.rows;
+        locks = c.locks.rows ∙ ap (filter (λ r. not (lock_of olds r))) next_locks;
+        metas = l.0 (λ e. absurd (omega (arith, e))) ∙ a.0 (λ e. absurd (omega (arith, e)));
+        sessions = l.1.1.0 (λ e. absurd (omega (arith, e))) ∙ a.1.1.0 (λ e. absurd (omega (arith, e)));
       }

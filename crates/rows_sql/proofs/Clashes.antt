@@ -37,9 +37,6 @@ pub lock_clash : (new r : Row) → conflicts (Some (1 ∷ 2 ∷ 3 ∷ [])) the_s
 unfolding first_key
 lock_clash new r = alone_or _
 
-abbrev pub same_child : Row → Row → Bool
-same_child r new = equal Binary (column r 1) (column new 1) && (equal Binary (column r 2) (column new 2) && true)
-
 pub session_clash : (new r : Row) → conflicts (Some (0 ∷ [])) the_schema.indexes sessions new r ≡ (equal Binary (rowid r) (rowid new) && true)
 unfolding first_key
 session_clash new r = alone_or _
@@ -74,10 +71,3 @@ module _ (db : Database) (store : IsStore db) where
 
   pub one_node : (a b : Row) → Has (db.trees 1) a → Has (db.trees 1) b → same_name a b ≡ true → a ≡ b
   one_node a b ha hb same = one_of_key (db.trees 1) same_name a b store.nodes ha hb (name_unique b hb) same
-
-  child_unique : (r : Row) → Has (db.trees 7) r → list_any (λ x. same_child x r && differ (rowid x) (rowid r)) (db.trees 7) ≡ false
-  unfolding first_key
-  child_unique r h = not-true _ (and_parts _ _ (all_has _ (db.trees 7) r (rule_kept db store Unique).1.1.1.1.0 h)).0
-
-  pub one_child : (a b : Row) → Has (db.trees 7) a → Has (db.trees 7) b → same_child a b ≡ true → a ≡ b
-  one_child a b ha hb same = one_of_key (db.trees 7) same_child a b store.children ha hb (child_unique b hb) same

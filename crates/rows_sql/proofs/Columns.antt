@@ -22,7 +22,7 @@ use Rattle.sqlite_schema.specs.Names.{is_key}
 use Rattle.sqlite_schema.specs.Rules.{equal, differ, is_of, has_affinity, suits, are_typed, are_present}
 use Rattle.sqlite.specs.Edit.{id_in}
 use Rattle.rows_sql.proofs.Truths.{equal_is}
-use Rattle.rows_sql.specs.OurSchema.{meta, nodes, sessions, locks, children}
+use Rattle.rows_sql.specs.OurSchema.{meta, nodes, sessions, locks}
 
 -- ---- when two are equal
 
@@ -194,10 +194,3 @@ pub lock_typed : (r : Row) → are_typed None 0 locks.columns (drop 1 r) ≡ tru
 lock_typed r t p =
     let h = typed locks.columns None 0 r (drop 1 r) refl refl t p in
     record { instance = h.0; client = h.1.0; handle = h.1.1.0; mode = h.1.1.1.0; delay = h.1.1.1.1.0 }
-
-pub record IsChildRow (r : Row) : Type 0 where
-  pub parent : column r 1 ≡ Text (bytes (column r 1))
-  pub child : column r 2 ≡ Text (bytes (column r 2))
-
-pub child_typed : (r : Row) → are_typed None 0 children.columns (drop 1 r) ≡ true → are_present None 0 children.columns r ≡ true → IsChildRow r
-child_typed r t p = let h = typed children.columns None 0 r (drop 1 r) refl refl t p in record { parent = h.0; child = h.1.0 }

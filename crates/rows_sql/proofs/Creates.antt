@@ -1,15 +1,15 @@
 -- What the statements make of a database that make the tables.
-use Rattle.std.proofs.Common.{◌≡◌, ℕ, List, [], ◌∷◌, ◌++◌, slice_get, false, Option, Some, None, Ok, refl, sym, ap, ap₂, subst, ◌∙◌, arith}
+use Rattle.std.proofs.Common.{◌≡◌, ℕ, List, [], ◌∷◌, ◌++◌, false, None, Ok, refl, sym, ap, ap₂, subst, ◌∙◌, arith}
 use Rattle.std.specs.Prelude.{codes}
 use Rattle.std.proofs.lemmas.Fmt.{decimal_digit}
 use Rattle.std.specs.List.{AllByRecursion}
 use Rattle.sqlite.specs.Table.{Table}
 use Rattle.sqlite.specs.Tree.{Trees}
 use Rattle.sqlite.specs.Schema.{Schema}
-use Rattle.sqlite.specs.Command.TheVariants.{CreateTable, CreateIndex}
-use Rattle.sqlite.specs.Compile.{table_defined_by, index_defined_by}
-use Rattle.sqlite.specs.Change.{created, indexed, next_tree}
-use Rattle.sqlite.specs.Does.{Tally, AtPlace, Defines, MakesIndex, lacks_sequence}
+use Rattle.sqlite.specs.Command.TheVariants.{CreateTable, CreateView}
+use Rattle.sqlite.specs.Compile.{table_defined_by}
+use Rattle.sqlite.specs.Change.{created, with_view, next_tree}
+use Rattle.sqlite.specs.Does.{Tally, Defines, MakesView, lacks_sequence}
 use Rattle.sqlite.specs.Given.{IsPlain}
 use Rattle.sqlite.specs.Listing.{understood}
 use Rattle.sqlite.specs.Effect.{Database, IsDatabase}
@@ -18,10 +18,10 @@ use Rattle.sqlite.proofs.Callers.{command_of, statement_of, runs_as}
 use Rattle.sqlite.proofs.StateLemmas.{survives_then}
 use Rattle.sqlite.proofs.InsideLemmas.{keeps_then}
 use Rattle.sqlite_catalog.specs.Change.{KeepsRows}
-use Rattle.rows_sql.specs.OurSchema.{meta, nodes, sessions, locks, children, key_index, by_child, first_schema, unindexed_schema, the_schema}
+use Rattle.rows_sql.specs.OurSchema.{meta, nodes, sessions, locks, children_text, key_index, first_schema, the_schema}
 use Rattle.rows_sql.specs.Ongoing.{RanInside}
-use Rattle.rows_sql.specs.Creation.{make_meta_text, make_nodes_text, make_sessions_text, make_locks_text, make_children_text, make_index_text, no_schema, with_meta, with_nodes, with_sessions, Makes, AddsChildren, AddsIndex, StaysInside}
-use Rattle.rows_sql.proofs.MeaningOfCreation.{meta_made, meta_made_plain, meta_defined, nodes_made, nodes_made_plain, nodes_defined, sessions_made, sessions_made_plain, sessions_defined, locks_made, locks_made_plain, locks_defined, children_made, children_made_plain, children_defined, index_made, index_made_plain, index_defined}
+use Rattle.rows_sql.specs.Creation.{make_meta_text, make_nodes_text, make_sessions_text, make_locks_text, no_schema, with_meta, with_nodes, with_sessions, Makes, AddsView, StaysInside}
+use Rattle.rows_sql.proofs.MeaningOfCreation.{meta_made, meta_made_plain, meta_defined, nodes_made, nodes_made_plain, nodes_defined, sessions_made, sessions_made_plain, sessions_defined, locks_made, locks_made_plain, locks_defined, view_made, view_made_plain, view_defined}
 use Rattle.rows_sql.proofs.Deletes.{went, same_value}
 
 -- the tables of before are empty still, and so is one more
@@ -73,19 +73,11 @@ nodes_as a b = record with_nodes { indexes = key_index (codes "sqlite_autoindex_
 abbrev locks_as : List ℕ → Schema
 locks_as a = record first_schema { indexes = key_index (codes "sqlite_autoindex_nodes_1") 2 1 (1 ∷ []) ∷ key_index (codes "sqlite_autoindex_nodes_2") 3 1 (2 ∷ []) ∷ key_index (codes "sqlite_autoindex_locks_" ++ a) 6 5 (1 ∷ 2 ∷ 3 ∷ []) ∷ [] }
 
-abbrev children_as : List ℕ → Schema
-children_as a = record unindexed_schema {
-  indexes = key_index (codes "sqlite_autoindex_nodes_1") 2 1 (1 ∷ []) ∷ key_index (codes "sqlite_autoindex_nodes_2") 3 1 (2 ∷ []) ∷ key_index (codes "sqlite_autoindex_locks_1") 6 5 (1 ∷ 2 ∷ 3 ∷ []) ∷ key_index (codes "sqlite_autoindex_children_" ++ a) 8 7 (1 ∷ 2 ∷ []) ∷ [];
-}
-
 nodes_created : created with_meta (record nodes { tree = 0 }) ≡ with_nodes
 nodes_created = ap₂ nodes_as (decimal_digit 1 (omega arith)) (decimal_digit 2 (omega arith))
 
 locks_created : created with_sessions (record locks { tree = 0 }) ≡ first_schema
 locks_created = ap locks_as (decimal_digit 1 (omega arith))
-
-children_created : created first_schema (record children { tree = 0 }) ≡ unindexed_schema
-children_created = ap children_as (decimal_digit 1 (omega arith))
 
 pub makes_meta : (old new : State) → RanInside make_meta_text [] old new → Makes no_schema with_meta old new
 makes_meta = creates make_meta_text no_schema with_meta (record meta { tree = 0 }) meta_made meta_made_plain meta_defined refl refl
@@ -99,32 +91,24 @@ makes_sessions = creates make_sessions_text with_nodes with_sessions (record ses
 pub makes_locks : (old new : State) → RanInside make_locks_text [] old new → Makes with_sessions first_schema old new
 makes_locks = creates make_locks_text with_sessions first_schema (record locks { tree = 0 }) locks_made locks_made_plain locks_defined locks_created refl
 
-pub makes_children : (old new : State) → RanInside make_children_text [] old new → Makes first_schema unindexed_schema old new
-makes_children = creates make_children_text first_schema unindexed_schema (record children { tree = 0 }) children_made children_made_plain children_defined children_created refl
+-- ---- the view
 
-pub adds_children : (old new : State) → RanInside make_children_text [] old new → AddsChildren old new
-adds_children old new run has =
-    let m = creates_more make_children_text first_schema unindexed_schema (record children { tree = 0 }) children_made children_made_plain children_defined children_created refl old new run has in
-    record { schema = m.schema; sound = m.sound; kept = m.kept; empty = m.empty }
+abbrev AtView : State → Schema → Tally × Database → Type 0
+AtView old schema out = Defines (mode_of old) (MakesView children_text (record { schema = schema; trees = old.now.trees })) (Ok out)
 
--- ---- the last index
-
-abbrev AtChildren : State → Schema → Option Table → Tally × Database → Type 0
-AtChildren old schema o out = AtPlace (λ (t : Table). Defines (mode_of old) (MakesIndex make_index_text (record { schema = schema; trees = old.now.trees }) t)) o (Ok out)
-
-pub adds_index : (old new : State) → RanInside make_index_text [] old new → AddsIndex old new
-adds_index old new run has =
-    let w = subst (λ t. Writes old new None (CreateIndex 4) t [] run.count) index_made.1 (runs_as make_index_text [] old new unindexed_schema has (CreateIndex 4) index_made.0 index_made_plain run.count run.ran) in
-    let placed : AtChildren old unindexed_schema (Some children) (w.tally, new.now) = subst (λ s. AtChildren old s (slice_get s.tables 4) (w.tally, new.now)) has w.changed in
+pub adds_view : (old new : State) → RanInside children_text [] old new → AddsView old new
+adds_view old new run has =
+    let w = subst (λ t. Writes old new None CreateView t [] run.count) view_made.1 (runs_as children_text [] old new first_schema has CreateView view_made.0 view_made_plain run.count run.ran) in
+    let placed : AtView old first_schema (w.tally, new.now) = subst (λ s. AtView old s (w.tally, new.now)) has w.changed in
     let all = went placed in
     let it = all.1 in
-    let both : Ok it.index ≡ Ok (record by_child { tree = 0 }) = sym it.defined ∙ index_defined in
-    let same : it.index ≡ record by_child { tree = 0 } = same_value both in
+    let both : Ok it.name ≡ Ok (codes "children") = sym it.defined ∙ view_defined in
+    let same : it.name ≡ codes "children" = same_value both in
     let now : new.now ≡ all.0 = ap (λ (p : Tally × Database). p.1) (same_value all.2) in
     record {
-      schema = ap (λ (d : Database). d.schema) now ∙ it.is ∙ ap (indexed unindexed_schema children) same;
+      schema = ap (λ (d : Database). d.schema) now ∙ it.is ∙ ap (λ n. with_view first_schema (record { name = n; tree = next_tree first_schema; sql = children_text; foreign = None; binds = false; is_bound = false })) same;
       sound = w.sound;
-      kept = subst (λ (d : Database). KeepsRows unindexed_schema.tables old.now.trees d.trees) (sym now) it.rows;
+      kept = subst (λ (d : Database). KeepsRows first_schema.tables old.now.trees d.trees) (sym now) it.rows;
     }
 
 -- tables that keep their rows have none where they had none
@@ -132,10 +116,10 @@ empty_still : (old new : Trees) (tables : List Table) → KeepsRows tables old n
 empty_still old new [] keeps were = tt
 empty_still old new (t ∷ tables) keeps were = (keeps.0 ∙ were.0, empty_still old new tables keeps.1 were.1)
 
-pub makes_index : (old new : State) → RanInside make_index_text [] old new → Makes unindexed_schema the_schema old new
-makes_index old new run was =
-    let m = adds_index old new run was.has in
-    (record { has = m.schema; empty = empty_still old.now.trees new.now.trees unindexed_schema.tables m.kept was.empty }, m.sound)
+pub makes_view : (old new : State) → RanInside children_text [] old new → Makes first_schema the_schema old new
+makes_view old new run was =
+    let m = adds_view old new run was.has in
+    (record { has = m.schema; empty = empty_still old.now.trees new.now.trees first_schema.tables m.kept was.empty }, m.sound)
 
 -- ---- one step behind another
 

@@ -18,12 +18,13 @@ use Rattle.sqlite_schema.specs.declared.schema.Column.{Column}
 use Rattle.sqlite_schema.specs.declared.schema.Reference.{Reference}
 use Rattle.sqlite_schema.specs.declared.schema.Index.{Index}
 use Rattle.sqlite_schema.specs.declared.schema.Table.{Table}
+use Rattle.sqlite_schema.specs.declared.schema.View.{View}
 use Rattle.sqlite_schema.specs.declared.schema.Schema.{Schema}
 use Rattle.rows_sql.specs.declared.schema.ours.Version.{Version}
-use Rattle.rows_sql.specs.declared.schema.ours.Version.TheVariants.{First, Unindexed, Second}
+use Rattle.rows_sql.specs.declared.schema.ours.Version.TheVariants.{First, Unindexed, Second, Third}
 use Rattle.rows_sql.specs.Versions.{schema_of}
-use Rattle.rows_sql.specs.OurSchema.{needed, meta, nodes, sessions, locks, children, of_node, by_child, first_schema, unindexed_schema, the_schema}
-use Rattle.rows_sql.specs.Fields.{same_kind, is_nothing, is_binary, is_needed, has_meta_columns, has_node_columns, has_session_columns, has_lock_columns, has_child_columns, is_key_of, has_orders, is_plain, has_key, is_only_name, is_cascade, is_no_action, is_to_node, is_bound, is_bare, is_meta, is_nodes, is_sessions, is_locks, is_children, is_over, is_index, is_by_child, has_key_indexes, has_four_indexes, has_indexes, has_four, has_fifth, is_first, is_unindexed, is_ours}
+use Rattle.rows_sql.specs.OurSchema.{needed, meta, nodes, sessions, locks, children, of_node, by_child, children_text, the_children, first_schema, unindexed_schema, second_schema, the_schema}
+use Rattle.rows_sql.specs.Fields.{same_kind, is_nothing, is_binary, is_needed, has_meta_columns, has_node_columns, has_session_columns, has_lock_columns, has_child_columns, is_key_of, has_orders, is_plain, has_key, is_only_name, is_cascade, is_no_action, is_to_node, is_bound, is_bare, is_meta, is_nodes, is_sessions, is_locks, is_children, is_over, is_index, is_by_child, has_key_indexes, has_four_indexes, has_indexes, has_four, has_fifth, is_the_children, has_the_children, is_first, is_unindexed, is_second, is_ours}
 
 both : (a b : Bool) → (a && b) ≡ true → (a ≡ true) × (b ≡ true)
 both true b h = (refl, h)
@@ -243,7 +244,7 @@ key_is : (n : ℕ) (o : Option ℕ) → is_key_of n o ≡ true → o ≡ Some n
 key_is n None h = absurd (true≢false (sym h))
 key_is n (Some m) h = ap (λ k. Some k) (number_is m n h)
 
-no_key : (o : Option ℕ) → not (is_some o) ≡ true → o ≡ None
+no_key : {X : Type 0} (o : Option X) → not (is_some o) ≡ true → o ≡ None
 no_key None h = refl
 no_key (Some m) h = absurd (true≢false (sym h))
 
@@ -554,7 +555,7 @@ unindexed_are xs n h =
     let four = index_is (codes "sqlite_autoindex_children_1") 8 7 (1 ∷ 2 ∷ []) s.3 k.1 in
     s.4 ∙ (λ i. one i ∷ two i ∷ three i ∷ four i ∷ [])
 
-indexes_are : (xs : List Index) → has_indexes xs ≡ true → xs ≡ the_schema.indexes
+indexes_are : (xs : List Index) → has_indexes xs ≡ true → xs ≡ second_schema.indexes
 indexes_are xs h =
     let a = both _ _ h in
     let s = exactly_5 xs (number_is (length xs) 5 a.0) in
@@ -594,7 +595,7 @@ first_tables_are ts n h =
     let last = locks_is s.3 d.1 in
     s.4 ∙ (λ i. one i ∷ two i ∷ three i ∷ last i ∷ [])
 
-tables_are : (ts : List Table) → (length ts == 5) ≡ true → has_four ts ≡ true → has_fifth ts ≡ true → ts ≡ the_schema.tables
+tables_are : (ts : List Table) → (length ts == 5) ≡ true → has_four ts ≡ true → has_fifth ts ≡ true → ts ≡ second_schema.tables
 tables_are ts n h f =
     let s = exactly_5 ts (number_is (length ts) 5 n) in
     let at = subst (λ (x : List Table). has_four x ≡ true) s.5 h in
@@ -608,8 +609,42 @@ tables_are ts n h f =
     let last = children_is s.4 (subst (λ (x : List Table). has_fifth x ≡ true) s.5 f) in
     s.5 ∙ (λ i. one i ∷ two i ∷ three i ∷ four i ∷ last i ∷ [])
 
+view_is : (v : View) → is_the_children v ≡ true → v ≡ the_children
+view_is v h =
+    let a = both _ _ h in
+    let b = both _ _ a.1 in
+    let c = both _ _ b.1 in
+    let d = both _ _ c.1 in
+    let e = both _ _ d.1 in
+    let name = same_list v.name (codes "children") a.0 in
+    let tree = number_is v.tree 7 b.0 in
+    let sql = same_list v.sql children_text c.0 in
+    let foreign = no_key v.foreign d.0 in
+    let binds = neither v.binds e.0 in
+    let bound = neither v.is_bound e.1 in
+    λ i. record { name = name i; tree = tree i; sql = sql i; foreign = foreign i; binds = binds i; is_bound = bound i }
+
+views_are : (vs : List View) → has_the_children vs ≡ true → vs ≡ the_children ∷ []
+views_are vs h =
+    let a = both _ _ h in
+    let s = exactly_1 vs (number_is (length vs) 1 a.0) in
+    let at = subst (λ (x : List View). has_the_children x ≡ true) s.1 h in
+    let one = view_is s.0 at in
+    s.1 ∙ (λ i. one i ∷ [])
+
 pub schema_is : (s : Schema) → is_ours s ≡ true → s ≡ the_schema
 schema_is s h =
+    let a = both _ _ h in
+    let b = both _ _ a.1 in
+    let c = both _ _ b.1 in
+    let d = both _ _ c.1 in
+    let views = views_are s.views a.0 in
+    let indexes = first_indexes_are s.indexes b.0 c.0 in
+    let tables = first_tables_are s.tables d.0 d.1 in
+    λ i. record { tables = tables i; indexes = indexes i; views = views i }
+
+pub second_schema_is : (s : Schema) → is_second s ≡ true → s ≡ second_schema
+second_schema_is s h =
     let a = both _ _ h in
     let b = both _ _ a.1 in
     let c = both _ _ b.1 in
@@ -646,6 +681,9 @@ first_schema_is s h =
 pub passes : is_ours the_schema ≡ true
 passes = refl
 
+pub second_passes : is_second second_schema ≡ true
+second_passes = refl
+
 pub unindexed_passes : is_unindexed unindexed_schema ≡ true
 unindexed_passes = refl
 
@@ -655,6 +693,9 @@ first_passes = refl
 -- so the tests say just that
 ours_is : (b : Bool) (s : Schema) → b ≡ is_ours s → IsTrue b ↔ (s ≡ the_schema)
 ours_is b s h = (λ t. schema_is s (sym h ∙ t), λ e. h ∙ ap is_ours e ∙ passes)
+
+second_is : (b : Bool) (s : Schema) → b ≡ is_second s → IsTrue b ↔ (s ≡ second_schema)
+second_is b s h = (λ t. second_schema_is s (sym h ∙ t), λ e. h ∙ ap is_second e ∙ second_passes)
 
 unindexed_is : (b : Bool) (s : Schema) → b ≡ is_unindexed s → IsTrue b ↔ (s ≡ unindexed_schema)
 unindexed_is b s h = (λ t. unindexed_schema_is s (sym h ∙ t), λ e. h ∙ ap is_unindexed e ∙ unindexed_passes)
@@ -666,6 +707,10 @@ pub ours_told : {E : Type 0} (r : Result Bool E) (s : Schema) → IfOk r (λ b. 
 ours_told (Ok b) s h = ours_is b s h
 ours_told (Err e) s h = tt
 
+pub second_told : {E : Type 0} (r : Result Bool E) (s : Schema) → IfOk r (λ b. b ≡ is_second s) → IfOk r (λ b. IsTrue b ↔ (s ≡ second_schema))
+second_told (Ok b) s h = second_is b s h
+second_told (Err e) s h = tt
+
 pub unindexed_told : {E : Type 0} (r : Result Bool E) (s : Schema) → IfOk r (λ b. b ≡ is_unindexed s) → IfOk r (λ b. IsTrue b ↔ (s ≡ unindexed_schema))
 unindexed_told (Ok b) s h = unindexed_is b s h
 unindexed_told (Err e) s h = tt
@@ -675,7 +720,8 @@ first_told (Ok b) s h = first_is b s h
 first_told (Err e) s h = tt
 
 -- a schema of no version
-pub of_none : (s : Schema) (a b c : Bool) → IsTrue a ↔ (s ≡ the_schema) → IsTrue b ↔ (s ≡ unindexed_schema) → IsTrue c ↔ (s ≡ first_schema) → a ≡ false → b ≡ false → c ≡ false → (version : Version) → s ≢ schema_of version
-of_none s a b c ours unindexed first no_a no_b no_c First is = true≢false (sym (first.1 is) ∙ no_c)
-of_none s a b c ours unindexed first no_a no_b no_c Unindexed is = true≢false (sym (unindexed.1 is) ∙ no_b)
-of_none s a b c ours unindexed first no_a no_b no_c Second is = true≢false (sym (ours.1 is) ∙ no_a)
+pub of_none : (s : Schema) (a b c d : Bool) → IsTrue a ↔ (s ≡ the_schema) → IsTrue b ↔ (s ≡ second_schema) → IsTrue c ↔ (s ≡ unindexed_schema) → IsTrue d ↔ (s ≡ first_schema) → a ≡ false → b ≡ false → c ≡ false → d ≡ false → (version : Version) → s ≢ schema_of version
+of_none s a b c d ours second unindexed first no_a no_b no_c no_d First is = true≢false (sym (first.1 is) ∙ no_d)
+of_none s a b c d ours second unindexed first no_a no_b no_c no_d Unindexed is = true≢false (sym (unindexed.1 is) ∙ no_c)
+of_none s a b c d ours second unindexed first no_a no_b no_c no_d Second is = true≢false (sym (second.1 is) ∙ no_b)
+of_none s a b c d ours second unindexed first no_a no_b no_c no_d Third is = true≢false (sym (ours.1 is) ∙ no_a)

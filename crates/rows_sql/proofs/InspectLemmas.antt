@@ -9,7 +9,7 @@ use Rattle.sqlite_trees.specs.declared.store.Store.{Ghosts}
 use Rattle.sqlite.specs.State.{State}
 use Rattle.sqlite.specs.Held.{Held, state}
 use Rattle.rows_sql.specs.declared.schema.ours.Version.{Version}
-use Rattle.rows_sql.specs.declared.schema.ours.Version.TheVariants.{First, Unindexed, Second}
+use Rattle.rows_sql.specs.declared.schema.ours.Version.TheVariants.{First, Unindexed, Second, Third}
 use Rattle.rows_sql.specs.Versions.{schema_of}
 use Rattle.rows_sql.specs.Ready.{IsReadyAs, IsSettled, QuietAs, tables_as}
 
@@ -24,12 +24,19 @@ pub one_version : (a b : Version) → schema_of a ≡ schema_of b → a ≡ b
 one_version First First e = refl
 one_version Unindexed Unindexed e = refl
 one_version Second Second e = refl
+one_version Third Third e = refl
 one_version First Unindexed e = let n : 3 ≡ 4 = ap (λ (s : Schema). length s.indexes) e in absurd (omega (arith, n))
 one_version First Second e = let n : 3 ≡ 5 = ap (λ (s : Schema). length s.indexes) e in absurd (omega (arith, n))
+one_version First Third e = let n : 0 ≡ 1 = ap (λ (s : Schema). length s.views) e in absurd (omega (arith, n))
 one_version Unindexed First e = let n : 4 ≡ 3 = ap (λ (s : Schema). length s.indexes) e in absurd (omega (arith, n))
 one_version Unindexed Second e = let n : 4 ≡ 5 = ap (λ (s : Schema). length s.indexes) e in absurd (omega (arith, n))
+one_version Unindexed Third e = let n : 4 ≡ 3 = ap (λ (s : Schema). length s.indexes) e in absurd (omega (arith, n))
 one_version Second First e = let n : 5 ≡ 3 = ap (λ (s : Schema). length s.indexes) e in absurd (omega (arith, n))
 one_version Second Unindexed e = let n : 5 ≡ 4 = ap (λ (s : Schema). length s.indexes) e in absurd (omega (arith, n))
+one_version Second Third e = let n : 5 ≡ 3 = ap (λ (s : Schema). length s.indexes) e in absurd (omega (arith, n))
+one_version Third First e = let n : 1 ≡ 0 = ap (λ (s : Schema). length s.views) e in absurd (omega (arith, n))
+one_version Third Unindexed e = let n : 3 ≡ 4 = ap (λ (s : Schema). length s.indexes) e in absurd (omega (arith, n))
+one_version Third Second e = let n : 3 ≡ 5 = ap (λ (s : Schema). length s.indexes) e in absurd (omega (arith, n))
 
 -- what is quiet by the rules of its own version is quiet by those of each
 pub quiet_as : {S : Type 0} (g : Ghosts S) (old new : Held S) (schema : Schema) (own : Version) → schema ≡ schema_of own → schema ≡ (state g old).now.schema → QuietAs own g old new → (version : Version) → QuietAs version g old new

@@ -11,8 +11,7 @@ use Rattle.sqlite.specs.Held.{Held, state}
 use Rattle.rows_cell.specs.declared.tables.Rows.{Rows}
 use Rattle.rows_cell.specs.declared.tables.Edit.{Edit}
 use Rattle.rows_cell.specs.Rows.{changed_rows}
-use Rattle.rows_sql.specs.declared.schema.ours.Version.TheVariants.{Second}
-use Rattle.rows_sql.specs.Children.{children_of}
+use Rattle.rows_sql.specs.declared.schema.ours.Version.TheVariants.{Third}
 use Rattle.rows_sql.specs.Held.{Says}
 use Rattle.rows_sql.specs.Ready.{tables_of, IsReady, IsStill, Quiet}
 use Rattle.rows_sql.proofs.SaidTables.{one_said}
@@ -63,7 +62,7 @@ module _ {S : Type 0} (g : Ghosts S) (old new : Held S) (rows : Rows) (left : Li
   pub same_rows : (read : Rows) → Quiet g old new → (HasCleanDisk (state g new) → IsReady (state g old) → Says (tables_of (state g old).now.trees) read) → HasCleanDisk (state g new) → read ≡ rows
   same_rows read q said clean =
       let was : HasCleanDisk (state g old) = omega (arith, q.clean, clean) in
-      one_said Second (tables_of (state g old).now.trees) read rows (children_of read.nodes) (children_of rows.nodes) (said clean (before was)) (keeps.store was (open_before was)).2
+      one_said Third (tables_of (state g old).now.trees) read rows [] [] (said clean (before was)) (keeps.store was (open_before was)).2
 
   -- of the rows that stand, all that is found of rows which the tables say
   pub found_of : (P : Rows → Type 0) → Quiet g old new → (HasCleanDisk (state g new) → IsReady (state g old) → (r : Rows) → Says (tables_of (state g old).now.trees) r → P r) → HasCleanDisk (state g new) → P rows

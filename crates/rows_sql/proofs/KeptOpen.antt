@@ -8,8 +8,8 @@ use Rattle.sqlite.specs.Effect.{Database, IsDatabase}
 use Rattle.sqlite.specs.State.{HasCleanDisk, IsLive, IsUnchanged, Survives}
 use Rattle.sqlite.specs.Held.{Held, state}
 use Rattle.rows_sql.specs.Orders.{StandsInOrder}
-use Rattle.rows_sql.specs.Adopting.{IsAnew, HasDatabase, IsReopened}
-use Rattle.rows_sql.proofs.Shaped.{is_store, is_unindexed_store, is_first_store}
+use Rattle.rows_sql.specs.Adopting.{IsAnew, IsReopened}
+use Rattle.rows_sql.proofs.Shaped.{is_store_of}
 
 pub unbegun : (told begun : Bool) → told ≡ not begun → told ≡ true → begun ≡ false
 unbegun told true is t = absurd (true≢false (sym t ∙ is))
@@ -62,9 +62,7 @@ module _ {S : Type 0} (g : Ghosts S) (old new : Held S) (survives : Survives (st
       is_open = λ clean. (same clean).0.is_open;
       settled = λ clean. sym (now_is clean);
       listed = listed;
-      store = λ clean ours. is_store (as_committed (g.view new.store)) (state g new).now (trees_are clean) ours (listed clean) (stands clean).listed (stands clean).ordered;
-      unindexed = λ clean ours. is_unindexed_store (as_committed (g.view new.store)) (state g new).now (trees_are clean) ours (listed clean) (stands clean).listed (stands clean).ordered;
-      first = λ clean ours. is_first_store (as_committed (g.view new.store)) (state g new).now (trees_are clean) ours (listed clean) (stands clean).listed (stands clean).ordered;
+      stores = λ clean version ours. is_store_of version (as_committed (g.view new.store)) (state g new).now (trees_are clean) ours (listed clean) (stands clean).listed (stands clean).ordered;
     }
 
     pub kept : IsReopened g old new

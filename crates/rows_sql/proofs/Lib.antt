@@ -2,6 +2,7 @@ pub mod FieldLemmas
 pub mod Meaning
 pub mod Held
 pub mod Ascii
+pub mod MetaRows
 pub mod ReadLemmas
 pub mod ReadLoops
 pub mod SaidTables
@@ -41,14 +42,9 @@ pub mod Creates
 pub mod PutCell
 pub mod OpeningEdits
 pub mod Made
-pub mod ChildLists
-pub mod ChildKeys
 pub mod Inserts
-pub mod PutChild
 pub mod NodeSteps
 pub mod Carried
-pub mod Indexed
-pub mod Fifth
 pub mod Inspections
 pub mod Keepings
 pub mod Shaped
@@ -58,4 +54,3 @@ pub mod Adoptions
 pub mod StoreCases
 pub mod Closings
 pub mod Carryings
-pub mod Indexings

@@ -1,13 +1,17 @@
 -- What the statements mean that make a store.
-use Rattle.std.proofs.Common.{◌≡◌, refl, Ok}
+use Rattle.std.proofs.Common.{◌≡◌, refl, Ok, false, codes}
 use Rattle.sqlite_tied.specs.Compute.{everything}
 use Rattle.sqlite.specs.Listing.{understood}
 use Rattle.sqlite.specs.Given.{IsPlain}
-use Rattle.sqlite.specs.Compile.{table_defined_by, index_defined_by}
-use Rattle.sqlite.specs.Command.TheVariants.{CreateTable, CreateIndex}
+use Rattle.sqlite.specs.Compile.{table_defined_by, view_defined_by}
+use Rattle.sqlite.specs.Command.TheVariants.{CreateTable, CreateView, DropTable}
 use Rattle.sqlite.proofs.Callers.{command_of, statement_of}
-use Rattle.rows_sql.specs.OurSchema.{meta, nodes, sessions, locks, children, by_child, first_schema, unindexed_schema, the_schema}
-use Rattle.rows_sql.specs.Creation.{make_meta_text, make_nodes_text, make_sessions_text, make_locks_text, make_children_text, make_index_text, put_cell_text, put_cell_command, no_schema, with_meta, with_nodes, with_sessions}
+use Rattle.sqlite.specs.Does.{is_acted_on}
+use Rattle.sqlite_schema.specs.declared.schema.Keys.TheVariants.{Enforced}
+use Rattle.sqlite_schema.specs.Names.{same_name}
+use Rattle.rows_sql.specs.OurSchema.{meta, nodes, sessions, locks, children, children_text, first_schema, unindexed_schema, second_schema, the_schema}
+use Rattle.rows_sql.specs.Carrying.{drop_children_text}
+use Rattle.rows_sql.specs.Creation.{make_meta_text, make_nodes_text, make_sessions_text, make_locks_text, put_cell_text, put_cell_command, no_schema, with_meta, with_nodes, with_sessions}
 
 pub put_cell_is : command_of (understood the_schema put_cell_text) ≡ put_cell_command
 unfolding understood everything
@@ -65,26 +69,40 @@ pub locks_defined : table_defined_by make_locks_text ≡ Ok (record locks { tree
 unfolding understood everything
 locks_defined = refl
 
-pub children_made : (command_of (understood first_schema make_children_text) ≡ CreateTable) × (statement_of make_children_text (understood first_schema make_children_text) ≡ make_children_text)
+pub view_made : (command_of (understood first_schema children_text) ≡ CreateView) × (statement_of children_text (understood first_schema children_text) ≡ children_text)
 unfolding understood everything
-children_made = (refl, refl)
+view_made = (refl, refl)
 
-pub children_made_plain : IsPlain (understood first_schema make_children_text)
+pub view_made_plain : IsPlain (understood first_schema children_text)
 unfolding understood everything
-children_made_plain = (refl, refl)
+view_made_plain = (refl, refl)
 
-pub children_defined : table_defined_by make_children_text ≡ Ok (record children { tree = 0 })
+pub view_defined : view_defined_by children_text ≡ Ok (codes "children")
 unfolding understood everything
-children_defined = refl
+view_defined = refl
 
-pub index_made : (command_of (understood unindexed_schema make_index_text) ≡ CreateIndex 4) × (statement_of make_index_text (understood unindexed_schema make_index_text) ≡ make_index_text)
+-- the table of children goes, of a store of the second version with its last index or without it
+pub drop_second : command_of (understood second_schema drop_children_text) ≡ DropTable 4
 unfolding understood everything
-index_made = (refl, refl)
+drop_second = refl
 
-pub index_made_plain : IsPlain (understood unindexed_schema make_index_text)
+pub drop_second_plain : IsPlain (understood second_schema drop_children_text)
 unfolding understood everything
-index_made_plain = (refl, refl)
+drop_second_plain = (refl, refl)
 
-pub index_defined : index_defined_by children make_index_text ≡ Ok (record by_child { tree = 0 })
+pub drop_unindexed : command_of (understood unindexed_schema drop_children_text) ≡ DropTable 4
 unfolding understood everything
-index_defined = refl
+drop_unindexed = refl
+
+pub drop_unindexed_plain : IsPlain (understood unindexed_schema drop_children_text)
+unfolding understood everything
+drop_unindexed_plain = (refl, refl)
+
+-- no row of another table goes with a child
+pub second_idle : is_acted_on second_schema Enforced children ≡ false
+unfolding same_name
+second_idle = refl
+
+pub unindexed_idle : is_acted_on unindexed_schema Enforced children ≡ false
+unfolding same_name
+unindexed_idle = refl

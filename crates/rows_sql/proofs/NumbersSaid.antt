@@ -17,9 +17,8 @@ use Rattle.sqlite_rules.specs.Lists.{Has}
 use Rattle.rows_cell.specs.declared.tables.Edit.TheVariants.{Epoch, NextInstance}
 use Rattle.rows_sql.specs.declared.reading.stored.Meta.{Meta}
 use Rattle.rows_sql.specs.declared.schema.ours.Version.{Version}
-use Rattle.rows_sql.specs.declared.schema.ours.Version.TheVariants.{First, Second}
+use Rattle.rows_sql.specs.declared.schema.ours.Version.TheVariants.{Third}
 use Rattle.rows_sql.specs.Versions.{number_of}
-use Rattle.rows_sql.specs.Children.{children_of}
 use Rattle.rows_sql.specs.Decode.{count_in, secret_in, component_in, meta_from, meta_as}
 use Rattle.rows_sql.specs.Held.{meta_of}
 use Rattle.rows_sql.specs.Ready.{meta_shown}
@@ -83,23 +82,23 @@ module _ (old : Database) (store : IsStore old) (n : ℤ) (m after : Meta) where
   abbrev goes : Row → Bool
   goes = passes 0 next_terms next_project (params n)
 
-  next_says : ((r : Row) → Has (old.trees 0) r → meta_as Second (meta_shown r) ≡ Some m → (is_row Second r ≡ true) × (meta_as Second (meta_shown (with_next n r)) ≡ Some after))
-      → ((r : Row) → meta_as Second (meta_shown r) ≡ Some m → column r 6 ≡ Int n → m ≡ after)
-      → map (meta_as Second) (map meta_shown (old.trees 0)) ≡ Some m ∷ []
-      → map (meta_as Second) (map meta_shown (map (renewed goes (with_next n)) (old.trees 0))) ≡ Some after ∷ []
+  next_says : ((r : Row) → Has (old.trees 0) r → meta_as Third (meta_shown r) ≡ Some m → (is_row Third r ≡ true) × (meta_as Third (meta_shown (with_next n r)) ≡ Some after))
+      → ((r : Row) → meta_as Third (meta_shown r) ≡ Some m → column r 6 ≡ Int n → m ≡ after)
+      → map (meta_as Third) (map meta_shown (old.trees 0)) ≡ Some m ∷ []
+      → map (meta_as Third) (map meta_shown (map (renewed goes (with_next n)) (old.trees 0))) ≡ Some after ∷ []
   next_says changes stays said =
-      let one = one_mapped (λ r. meta_as Second (meta_shown r)) (old.trees 0) (Some m) (sym (map-map (meta_as Second) meta_shown (old.trees 0)) ∙ said) in
+      let one = one_mapped (λ r. meta_as Third (meta_shown r)) (old.trees 0) (Some m) (sym (map-map (meta_as Third) meta_shown (old.trees 0)) ∙ said) in
       let there : Has (old.trees 0) one.0 = subst (λ xs. Has xs one.0) (sym one.1) (inl refl) in
       let became = changes one.0 there one.2 in
       let found = (and_parts _ _ became.0).0 in
-      let either : meta_as Second (meta_shown (renewed goes (with_next n) one.0)) ≡ Some after = elim (cases_Bool (goes one.0)) [
-        | inl t ↦ ap (λ b. meta_as Second (meta_shown (cond b (with_next n one.0) one.0))) t ∙ became.1
+      let either : meta_as Third (meta_shown (renewed goes (with_next n) one.0)) ≡ Some after = elim (cases_Bool (goes one.0)) [
+        | inl t ↦ ap (λ b. meta_as Third (meta_shown (cond b (with_next n one.0) one.0))) t ∙ became.1
         | inr f ↦
             let same = says_it _ _ found (sym (next_goes_is n old store next_project one.0 there) ∙ f) in
             let is : column one.0 6 ≡ Int n = (meta_rows old store one.0 there).next_instance ∙ ap Int (int_cmp-IsAntisymmetric _ _ (equal_is _ same)) in
-            ap (λ b. meta_as Second (meta_shown (cond b (with_next n one.0) one.0))) f ∙ one.2 ∙ ap (λ k. Some k) (stays one.0 one.2 is)
+            ap (λ b. meta_as Third (meta_shown (cond b (with_next n one.0) one.0))) f ∙ one.2 ∙ ap (λ k. Some k) (stays one.0 one.2 is)
       ] in
-      ap (λ xs. map (meta_as Second) (map meta_shown (map (renewed goes (with_next n)) xs))) one.1 ∙ ap (λ o. o ∷ []) either
+      ap (λ xs. map (meta_as Third) (map meta_shown (map (renewed goes (with_next n)) xs))) one.1 ∙ ap (λ o. o ∷ []) either
 
 pub epoch_done : (v : ValueRef) (n : ℕ) → IsNumber v n → (old new : State) → RanInside set_epoch_text (bound (v ∷ [])) old new → Changed (Epoch n ∷ []) old new
 epoch_done v n is old new run =
@@ -108,11 +107,11 @@ epoch_done v n is old new run =
     let done = λ (store : IsStore old.now). set_epoch_done e old new r.count store r.ran in
     record {
       store = λ store. (done store).store;
-      says = λ store rows h. metas_say old.now new.now _ Second rows (children_of rows.nodes) h (done store) Second (record rows { epoch = n }) refl refl refl
-          (set_says old.now store Second Second e epoch_project (with_epoch e) (meta_of rows) (record (meta_of rows) { epoch = n })
+      says = λ store rows h. metas_say old.now new.now _ Third rows [] h (done store) Third (record rows { epoch = n }) refl refl refl
+          (set_says old.now store Third Third e epoch_project (with_epoch e) (meta_of rows) (record (meta_of rows) { epoch = n })
           (λ x there said.
-          let s = epoch_from (is_row Second x) (count_in (column x 5)) (count_in (column x 6)) (secret_in (column x 4)) (component_in (column x 3)) (meta_of rows) n said in
-          (s.0, ap (λ o. meta_from (is_row Second x) o (count_in (column x 6)) (secret_in (column x 4)) (component_in (column x 3))) is.2 ∙ s.1))
+          let s = epoch_from (is_row Third x) (count_in (column x 5)) (count_in (column x 6)) (secret_in (column x 4)) (component_in (column x 3)) (meta_of rows) n said in
+          (s.0, ap (λ o. meta_from (is_row Third x) o (count_in (column x 6)) (secret_in (column x 4)) (component_in (column x 3))) is.2 ∙ s.1))
           h.meta);
     }
 
@@ -123,12 +122,12 @@ next_done v n is old new run =
     let done = λ (store : IsStore old.now). set_next_done e old new r.count store r.ran in
     record {
       store = λ store. (done store).store;
-      says = λ store rows h. metas_say old.now new.now _ Second rows (children_of rows.nodes) h (done store) Second (record rows { next_instance = n }) refl refl refl
+      says = λ store rows h. metas_say old.now new.now _ Third rows [] h (done store) Third (record rows { next_instance = n }) refl refl refl
           (next_says old.now store e (meta_of rows) (record (meta_of rows) { next_instance = n })
           (λ x there said.
-          let s = next_from (is_row Second x) (count_in (column x 5)) (count_in (column x 6)) (secret_in (column x 4)) (component_in (column x 3)) (meta_of rows) n said in
-          (s.0, ap (λ o. meta_from (is_row Second x) (count_in (column x 5)) o (secret_in (column x 4)) (component_in (column x 3))) is.2 ∙ s.1))
-          (λ x said same. next_same (is_row Second x) (count_in (column x 5)) (count_in (column x 6)) (secret_in (column x 4)) (component_in (column x 3)) (meta_of rows) n (ap count_in same ∙ is.2) said)
+          let s = next_from (is_row Third x) (count_in (column x 5)) (count_in (column x 6)) (secret_in (column x 4)) (component_in (column x 3)) (meta_of rows) n said in
+          (s.0, ap (λ o. meta_from (is_row Third x) (count_in (column x 5)) o (secret_in (column x 4)) (component_in (column x 3))) is.2 ∙ s.1))
+          (λ x said same. next_same (is_row Third x) (count_in (column x 5)) (count_in (column x 6)) (secret_in (column x 4)) (component_in (column x 3)) (meta_of rows) n (ap count_in same ∙ is.2) said)
           h.meta);
     }
 
@@ -139,10 +138,10 @@ version_done v n is old new run =
     let done = λ (store : IsStore old.now). set_version_done e old new r.count store r.ran in
     record {
       store = λ store. (done store).store;
-      says = λ store rows children h. metas_say old.now new.now _ First rows children h (done store) Second (record rows { epoch = n }) refl refl refl
-          (set_says old.now store First Second e version_project (with_version e) (meta_of rows) (record (meta_of rows) { epoch = n })
+      says = λ store version rows h. metas_say old.now new.now _ version rows [] h (done store) Third (record rows { epoch = n }) refl refl refl
+          (set_says old.now store version Third e version_project (with_version e) (meta_of rows) (record (meta_of rows) { epoch = n })
           (λ x there said.
-          let s = version_from (int_eq (id_in (column x 0)) (pos 1)) (int_eq (id_in (column x 2)) (pos 1)) (count_in (column x 5)) (count_in (column x 6)) (secret_in (column x 4)) (component_in (column x 3)) (meta_of rows) n said in
+          let s = version_from (int_eq (id_in (column x 0)) (pos 1)) (int_eq (id_in (column x 2)) (number_of version)) (count_in (column x 5)) (count_in (column x 6)) (secret_in (column x 4)) (component_in (column x 3)) (meta_of rows) n said in
           (s.0, ap (λ o. meta_from (int_eq (id_in (column x 0)) (pos 1) && true) o (count_in (column x 6)) (secret_in (column x 4)) (component_in (column x 3))) is.2 ∙ s.1))
           h.meta);
     }

@@ -37,8 +37,8 @@ use Rattle.names_cell.specs.Text.{is_component}
 use Rattle.rows_cell.specs.Settings.{Settled}
 use Rattle.rows_sql.specs.OurSchema.{the_schema, meta}
 use Rattle.rows_sql.specs.Decode.{meta_from, meta_in, node_in, session_in, lock_in, child_in, secret_in}
-use Rattle.rows_sql.specs.Held.{HoldsNodes, HoldsSessions, HoldsLocks, HoldsChildren, meta_of}
-use Rattle.rows_sql.specs.Ready.{meta_shown, node_shown, session_shown, lock_shown, child_shown}
+use Rattle.rows_sql.specs.Held.{HoldsNodes, HoldsSessions, HoldsLocks, meta_of}
+use Rattle.rows_sql.specs.Ready.{meta_shown, node_shown, session_shown, lock_shown}
 use Rattle.rows_sql.specs.WriteCommands.{is}
 use Rattle.rows_sql.specs.Ongoing.{IsStore, RanInside}
 use Rattle.rows_sql.specs.Creation.{put_cell_text, IsEmptyAs, PutsCell, bare_rows}
@@ -52,7 +52,7 @@ use Rattle.rows_sql.proofs.Trees.{same_row}
 use Rattle.rows_sql.proofs.Upserts as upserts
 
 abbrev values : List Term
-values = lit (Int (pos 1)) ∷ lit Null ∷ lit (Int (pos 2)) ∷ col 0 0 ∷ col 0 1 ∷ lit (Int (pos 0)) ∷ lit (Int (pos 4)) ∷ []
+values = lit (Int (pos 1)) ∷ lit Null ∷ lit (Int (pos 3)) ∷ col 0 0 ∷ col 0 1 ∷ lit (Int (pos 0)) ∷ lit (Int (pos 4)) ∷ []
 
 abbrev terms : List Term
 terms = is (col 1 0) (col 0 2) ∷ []
@@ -76,20 +76,20 @@ meta_clash new r = alone_or _
 pub empty_store : (db : Database) → IsEmptyAs the_schema db → IsDatabase db → IsStore db
 empty_store db none sound =
     let shaped : (rows : List Row) → rows ≡ [] → IsShaped shape.Table rows = λ rows e. subst (IsShaped shape.Table) (sym e) (tt, tt) in
-    record { schema = none.has; sound = sound; metas = shaped _ none.empty.0; nodes = shaped _ none.empty.1.0; sessions = shaped _ none.empty.1.1.0; locks = shaped _ none.empty.1.1.1.0; children = shaped _ none.empty.1.1.1.1.0 }
+    record { schema = none.has; sound = sound; metas = shaped _ none.empty.0; nodes = shaped _ none.empty.1.0; sessions = shaped _ none.empty.1.1.0; locks = shaped _ none.empty.1.1.1.0 }
 
 module _ (cell secret : List ℕ) where
   abbrev params : Row
   params = Text cell ∷ Blob secret ∷ []
 
   abbrev new : Row
-  new = Int (pos 1) ∷ Null ∷ Int (pos 2) ∷ Text cell ∷ Blob secret ∷ Int (pos 0) ∷ Int (pos 4) ∷ []
+  new = Int (pos 1) ∷ Null ∷ Int (pos 3) ∷ Text cell ∷ Blob secret ∷ Int (pos 0) ∷ Int (pos 4) ∷ []
 
   abbrev becomes : Row → Row
-  becomes r = column r 0 ∷ Null ∷ Int (pos 2) ∷ Text cell ∷ Blob secret ∷ Int (pos 0) ∷ Int (pos 4) ∷ []
+  becomes r = column r 0 ∷ Null ∷ Int (pos 3) ∷ Text cell ∷ Blob secret ∷ Int (pos 0) ∷ Int (pos 4) ∷ []
 
   fits : cast_row meta new ≡ new
-  fits = λ j. cast_int (pos 1) j ∷ cast_null j ∷ cast_int (pos 2) j ∷ Text cell ∷ Blob secret ∷ cast_int (pos 0) j ∷ cast_int (pos 4) j ∷ []
+  fits = λ j. cast_int (pos 1) j ∷ cast_null j ∷ cast_int (pos 3) j ∷ Text cell ∷ Blob secret ∷ cast_int (pos 0) j ∷ cast_int (pos 4) j ∷ []
 
   module _ (old new_state : State) (store : IsStore old.now) where
     abbrev es : List Row
@@ -116,7 +116,7 @@ module _ (cell secret : List ℕ) where
       finds = λ r0 r. refl;
       shows_it = λ r0 r there t. refl;
       same_id = λ r. refl;
-      stays = λ r there t. λ j. int_stays (column r 0) (int_at r there) j ∷ cast_null j ∷ cast_int (pos 2) j ∷ Text cell ∷ Blob secret ∷ cast_int (pos 0) j ∷ cast_int (pos 4) j ∷ [];
+      stays = λ r there t. λ j. int_stays (column r 0) (int_at r there) j ∷ cast_null j ∷ cast_int (pos 3) j ∷ Text cell ∷ Blob secret ∷ cast_int (pos 0) j ∷ cast_int (pos 4) j ∷ [];
       alone = no_action;
       idle = nor_none;
     }
@@ -156,6 +156,6 @@ cell_there settings named long old new_state run none =
         nodes = subst (λ rs. HoldsNodes (map node_shown rs) []) (sym (others.1.0 (λ e. absurd (omega (arith, e))) ∙ none.0.empty.1.0)) (holds_none (slice_cmp nat_cmp) nat_list_cmp_total node_in);
         sessions = subst (λ rs. HoldsSessions (map session_shown rs) []) (sym (others.1.1.0 (λ e. absurd (omega (arith, e))) ∙ none.0.empty.1.1.0)) (holds_none nat_cmp nat_cmp_total session_in);
         locks = subst (λ rs. HoldsLocks (map lock_shown rs) []) (sym (others.1.1.1.0 (λ e. absurd (omega (arith, e))) ∙ none.0.empty.1.1.1.0)) (holds_none lock_order locks_total lock_in);
-        children = subst (λ rs. HoldsChildren (map child_shown rs) []) (sym (others.1.1.1.1.0 (λ e. absurd (omega (arith, e))) ∙ none.0.empty.1.1.1.1.0)) (holds_none (slice_cmp nat_cmp) nat_list_cmp_total child_in);
+        children = holds_none (slice_cmp nat_cmp) nat_list_cmp_total child_in;
       };
     }

@@ -32,8 +32,7 @@ use Rattle.rows_sql.specs.OurSchema.{the_schema, locks}
 use Rattle.rows_sql.specs.Decode.{count_of, lock_state_of, lock_from, lock_in}
 use Rattle.rows_sql.specs.Ready.{lock_shown}
 use Rattle.rows_sql.proofs.ReadLoops.{locks_total}
-use Rattle.rows_sql.specs.declared.schema.ours.Version.TheVariants.{Second}
-use Rattle.rows_sql.specs.Children.{children_of}
+use Rattle.rows_sql.specs.declared.schema.ours.Version.TheVariants.{Third}
 use Rattle.rows_sql.specs.WriteTexts.{put_lock_text}
 use Rattle.rows_sql.specs.WriteCommands.{is}
 use Rattle.rows_sql.specs.Numbers.{IsNumber, IsReadAs}
@@ -144,7 +143,7 @@ lock_there key row i c h m d ni nc nh nm nd old new run =
                 let keyed : lock_in (column one.0 1 ∷ column one.0 2 ∷ column one.0 3 ∷ Int nm.0 ∷ Int nd.0 ∷ []) ≡ lock_in (Int ni.0 ∷ Int nc.0 ∷ Int nh.0 ∷ Int nm.0 ∷ Int nd.0 ∷ []) = λ j. lock_in (k.0 j ∷ k.1 j ∷ k.2 j ∷ Int nm.0 ∷ Int nd.0 ∷ []) in
                 ap (λ (x : Row). lock_in (lock_shown x)) one.3 ∙ keyed ∙ said_by
           ] in
-          locks_say old.now new.now (new.now.trees 5) Second rows (children_of rows.nodes) said done.1 _
+          locks_say old.now new.now (new.now.trees 5) Third rows [] said done.1 _
           (shown_as_held lock_order lock_in lock_shown (new.now.trees 5) _
           (holds_put lock_order locks_total (λ x. lock_in (lock_shown x)) es rows.locks (held_as_shown lock_order lock_in lock_shown es rows.locks said.locks) key goes
           (tested ni.0 nc.0 nh.0 nm.0 nd.0 old new store key ni.2 nc.2 nh.2)

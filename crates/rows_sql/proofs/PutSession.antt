@@ -33,8 +33,7 @@ use Rattle.rows_cell.specs.declared.tables.Edit.TheVariants.{PutSession}
 use Rattle.rows_sql.specs.OurSchema.{the_schema, sessions}
 use Rattle.rows_sql.specs.Decode.{count_of, count_in, live_of, component_in, session_from, session_in}
 use Rattle.rows_sql.specs.Ready.{session_shown}
-use Rattle.rows_sql.specs.declared.schema.ours.Version.TheVariants.{Second}
-use Rattle.rows_sql.specs.Children.{children_of}
+use Rattle.rows_sql.specs.declared.schema.ours.Version.TheVariants.{Third}
 use Rattle.rows_sql.specs.WriteTexts.{put_session_text}
 use Rattle.rows_sql.specs.WriteCommands.{is}
 use Rattle.rows_sql.specs.Numbers.{IsNumber, IsReadAs}
@@ -145,7 +144,7 @@ session_there client session c p l is_text named nc nl old new run =
                 let k = id_of nc.0 text nl.0 old new store one.0 one.1 one.2 in
                 ap (λ (x : Row). session_in (session_shown x)) one.3 ∙ ap (λ v. session_in (v ∷ Text text ∷ Int nl.0 ∷ [])) k ∙ said_by
           ] in
-          sessions_say old.now new.now (new.now.trees 4) Second rows (children_of rows.nodes) said done.1 _
+          sessions_say old.now new.now (new.now.trees 4) Third rows [] said done.1 _
           (shown_as_held nat_cmp session_in session_shown (new.now.trees 4) _
           (holds_put nat_cmp nat_cmp_total (λ x. session_in (session_shown x)) es rows.sessions (held_as_shown nat_cmp session_in session_shown es rows.sessions said.sessions) client goes
           (tested nc.0 text nl.0 old new store client nc.2)

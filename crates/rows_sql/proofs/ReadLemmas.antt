@@ -20,14 +20,14 @@ use Rattle.sqlite.specs.Clock.{timed}
 use Rattle.sqlite.proofs.Callers.{reads_as, never_commits}
 use Rattle.sqlite_trees.proofs.ListLemmas.{map-map}
 use Rattle.rows_sql.specs.declared.schema.ours.Version.{Version}
-use Rattle.rows_sql.specs.Versions.{schema_of}
+use Rattle.rows_sql.specs.Versions.{schema_of, HasFifth}
 use Rattle.rows_sql.specs.Texts.{read_meta_text, read_nodes_text, read_sessions_text, read_locks_text, read_children_text}
 use Rattle.rows_sql.specs.Commands.{over, meta_terms, nodes_terms, sessions_terms, locks_terms, children_terms, read_meta_command, read_nodes_command, read_sessions_command, read_locks_command, read_children_command}
 use Rattle.sqlite_trees.specs.declared.store.Store.{Ghosts}
 use Rattle.sqlite.specs.Held.{Held, state}
 use Rattle.std.proofs.Common.{arith}
 use Rattle.rows_sql.specs.Ready.{IsReadyAs, Rests, QuietAs, IsStillAs, meta_shown, node_shown, session_shown, lock_shown, child_shown, children_shown}
-use Rattle.rows_sql.proofs.Meaning.{HasFifth, read_meta_is, read_meta_plain, read_meta_unlisted, read_nodes_is, read_nodes_plain, read_nodes_unlisted, read_sessions_is, read_sessions_plain, read_sessions_unlisted, read_locks_is, read_locks_plain, read_locks_unlisted, read_children_is, read_children_plain, read_children_unlisted}
+use Rattle.rows_sql.proofs.Meaning.{read_meta_is, read_meta_plain, read_meta_unlisted, read_nodes_is, read_nodes_plain, read_nodes_unlisted, read_sessions_is, read_sessions_plain, read_sessions_unlisted, read_locks_is, read_locks_plain, read_locks_unlisted, read_children_is, read_children_plain, read_children_unlisted}
 
 module _ (table : ℕ) (project : List Term) (order : List (Term × Key)) (params : Row) where
   abbrev shows : Row → Row

@@ -25,8 +25,7 @@ use Rattle.rows_sql.specs.Commands.{over}
 use Rattle.rows_sql.specs.Decode.{lock_in}
 use Rattle.rows_sql.specs.Ready.{lock_shown}
 use Rattle.rows_sql.proofs.ReadLoops.{locks_total}
-use Rattle.rows_sql.specs.declared.schema.ours.Version.TheVariants.{Second}
-use Rattle.rows_sql.specs.Children.{children_of}
+use Rattle.rows_sql.specs.declared.schema.ours.Version.TheVariants.{Third}
 use Rattle.rows_sql.specs.WriteTexts.{remove_lock_text}
 use Rattle.rows_sql.specs.WriteCommands.{is, remove_lock_command}
 use Rattle.rows_sql.specs.Numbers.{IsNumber}
@@ -69,7 +68,7 @@ lock_gone key i c h ni nc nh old new run =
     let goes = has_key ni.0 nc.0 nh.0 in
     record {
       store = λ store. (done store).store;
-      says = λ store rows said. locks_say old.now new.now _ Second rows (children_of rows.nodes) said (done store) _
+      says = λ store rows said. locks_say old.now new.now _ Third rows [] said (done store) _
           (shown_as_held lock_order lock_in lock_shown (filter (λ x. not (goes x)) (old.now.trees 5)) _
           (holds_removed lock_order locks_total (λ x. lock_in (lock_shown x)) (old.now.trees 5) rows.locks (held_as_shown lock_order lock_in lock_shown (old.now.trees 5) rows.locks said.locks) key goes
           (λ x there e. key_test key ni.0 nc.0 nh.0 ni.2 nc.2 nh.2 x (lock_rows old.now store x there) e)));

@@ -5,14 +5,14 @@ use Rattle.std.specs.BTreeMap.{is_at}
 use Rattle.std.specs.Map.{remove_entry}
 use Rattle.std.specs.Ordering.{nat_cmp, is_eq}
 use Rattle.std.specs.Cmp.Lexicographic.{slice_cmp}
-use Rattle.std.proofs.lemmas.Bool.{cases_Bool, both_ways, false_from_ne_true, and_parts}
+use Rattle.std.proofs.lemmas.Bool.{cases_Bool, both_ways, false_from_ne_true}
 use Rattle.std.proofs.lemmas.Bool.Decides.{nat_tests}
 use Rattle.std.proofs.lemmas.Cmp.{nat_list_cmp_total}
 use Rattle.sqlite_value.specs.declared.value.Value.TheVariants.{Text}
 use Rattle.sqlite_value.specs.declared.value.ValueRef.{ValueRef}
 use Rattle.sqlite_value.specs.Value.{owned}
 use Rattle.sqlite_value.specs.declared.keys.Collation.TheVariants.{Binary}
-use Rattle.sqlite_value.specs.Order.{Row, column, bytes}
+use Rattle.sqlite_value.specs.Order.{Row, column}
 use Rattle.sqlite.specs.Term.{Term, col}
 use Rattle.sqlite.specs.Values.{bound, bound_value}
 use Rattle.sqlite.specs.View.{IsShaped}
@@ -37,27 +37,23 @@ use Rattle.rows_cell.specs.Keys.{lock_order}
 use Rattle.rows_cell.specs.Rows.{StoredNodes, StoredLocks, stored_node, without_locks_of}
 use Rattle.rows_sql.specs.OurSchema.{the_schema, nodes}
 use Rattle.rows_sql.specs.Commands.{over}
-use Rattle.rows_sql.specs.Children.{children_of}
-use Rattle.rows_sql.specs.Decode.{count_in, meta_in, node_in, lock_in, child_in}
+use Rattle.rows_sql.specs.Decode.{count_in, meta_in, node_in, lock_in}
 use Rattle.rows_sql.specs.Held.{Holds, HoldsSessions}
-use Rattle.rows_sql.specs.Ready.{meta_shown, node_shown, session_shown, lock_shown, child_shown}
+use Rattle.rows_sql.specs.Ready.{meta_shown, node_shown, session_shown, lock_shown}
 use Rattle.rows_sql.proofs.ReadLoops.{locks_total}
 use Rattle.rows_sql.specs.WriteTexts.{remove_node_text}
 use Rattle.rows_sql.specs.WriteCommands.{is, remove_node_command}
 use Rattle.rows_sql.specs.Ongoing.{IsStore, RanInside, Changed}
 use Rattle.rows_sql.proofs.WriteMeaning.{remove_node_is, remove_node_plain}
-use Rattle.rows_sql.proofs.Cascades.{is_of_row, is_name_of, lock_of, name_of, olds, went_with, no_lock_goes, no_name_goes, one_lock_goes, one_name_goes}
+use Rattle.rows_sql.proofs.Cascades.{is_of_row, lock_of, olds, went_with, no_lock_goes, one_lock_goes}
 use Rattle.rows_sql.proofs.Deletes as deletes
 use Rattle.rows_sql.proofs.Entries.{holds_removed, holds_kept, found_at, none_at, entry_of}
-use Rattle.rows_sql.proofs.Truths.{alone_and, same_some}
-use Rattle.rows_sql.proofs.Columns.{text_value}
-use Rattle.rows_sql.proofs.ChildLists.{not_child, children_removed}
-use Rattle.rows_sql.proofs.ChildKeys.{child_test}
+use Rattle.rows_sql.proofs.Truths.{alone_and}
 use Rattle.rows_sql.proofs.Counts.{equal_counts}
 use Rattle.rows_sql.proofs.LockKeys.{lock_said}
 use Rattle.rows_sql.proofs.NodeKeys.{has_name, name_test, node_said}
 use Rattle.rows_sql.proofs.SetGeneration.{one_named}
-use Rattle.rows_sql.proofs.Stores.{node_rows, lock_rows, child_rows, held_as_shown, shown_as_held}
+use Rattle.rows_sql.proofs.Stores.{node_rows, lock_rows, held_as_shown, shown_as_held}
 
 abbrev terms : List Term
 terms = is (col 1 1) (col 0 0) ∷ []
@@ -68,18 +64,14 @@ q = record { lets = []; body = over 1 terms (col 1 0 ∷ []) }
 same_number : (x y : ℕ) → is_eq (nat_cmp y x) ≡ (x == y)
 same_number x y = grind (arith, nat_tests)
 
--- the rows of the name are gone, the locks of their instances, and the name under its parent
+-- the rows of the name are gone, and the locks of their instances
 record NodeGone (t : List ℕ) (old new : Database) : Type 0 where
   pub store : IsStore new
   pub lock : Row → Bool
   pub no_lock : ((o : Row) → Has (old.trees 1) o → has_name t o ≡ false) → (r : Row) → lock r ≡ false
   pub one_lock : (o : Row) → Has (old.trees 1) o → has_name t o ≡ true → (r : Row) → lock r ≡ is_of_row o r
-  pub name : Row → Bool
-  pub no_name : ((o : Row) → Has (old.trees 1) o → has_name t o ≡ false) → (r : Row) → name r ≡ false
-  pub one_name : (o : Row) → Has (old.trees 1) o → has_name t o ≡ true → (r : Row) → name r ≡ is_name_of o r
   pub nodes : new.trees 1 ≡ filter (λ r. not (has_name t r)) (old.trees 1)
   pub locks : new.trees 5 ≡ filter (λ r. not (lock r)) (old.trees 5)
-  pub children : new.trees 7 ≡ filter (λ r. not (name r)) (old.trees 7)
   pub metas : new.trees 0 ≡ old.trees 0
   pub sessions : new.trees 4 ≡ old.trees 4
 
@@ -93,7 +85,7 @@ module _ (t : List ℕ) where
       let w : Writes old new None (Delete 1 q) text params count = runs_as remove_node_text params old new the_schema store.schema remove_node_command remove_node_is remove_node_plain count ran in
       let wrote = deletes.wrote 1 nodes refl text params old new store.schema (Delete 1 q) count w (λ _ _ _. refl) in
       let d = deletes.deleted 1 nodes refl text params old new store.schema terms refl store.nodes wrote in
-      let went = went_with old.now.trees new.now.trees (has_name t) d.rows d.shown store.nodes store.locks store.children d.wrote in
+      let went = went_with old.now.trees new.now.trees (has_name t) d.rows d.shown store.nodes store.locks d.wrote in
       let left : new.now.trees 1 ≡ filter (λ r. not (has_name t r)) (old.now.trees 1) = went.left ∙ d.left in
       record {
         store = record {
@@ -103,17 +95,12 @@ module _ (t : List ℕ) where
           nodes = subst (IsShaped shape.Table) (sym left) (IsShaped-filter shape.Table _ _ store.nodes);
           sessions = subst (IsShaped shape.Table) (sym went.sessions) store.sessions;
           locks = subst (IsShaped shape.Table) (sym went.locks) (IsShaped-filter shape.Table _ _ store.locks);
-          children = subst (IsShaped shape.Table) (sym went.children) (IsShaped-filter shape.Table _ _ store.children);
         };
         lock = lock_of (olds old.now.trees new.now.trees (has_name t) d.rows d.shown store.nodes);
         no_lock = no_lock_goes old.now.trees new.now.trees (has_name t) d.rows d.shown store.nodes;
         one_lock = λ o h k. one_lock_goes old.now.trees new.now.trees (has_name t) d.rows d.shown store.nodes o (id_in (column o 2)) h k (node_rows old.now store o h).instance (λ a ha ka. one_named old.now store t a o ha h ka k);
-        name = name_of (olds old.now.trees new.now.trees (has_name t) d.rows d.shown store.nodes);
-        no_name = no_name_goes old.now.trees new.now.trees (has_name t) d.rows d.shown store.nodes;
-        one_name = λ o h k. one_name_goes old.now.trees new.now.trees (has_name t) d.rows d.shown store.nodes o (bytes (column o 1)) h k (node_rows old.now store o h).name (λ a ha ka. one_named old.now store t a o ha h ka k);
         nodes = left;
         locks = went.locks;
-        children = went.children;
         metas = went.metas;
         sessions = went.sessions;
       }
@@ -149,22 +136,6 @@ module _ (t : List ℕ) where
       | inr none ↦ with_none (λ o h. false_from_ne_true _ (λ k. both_ways _ none (some_from (has_name t) (old.trees 1) o h k)))
     ]
 
-    -- the name goes from under its parent
-    names_left : Holds (slice_cmp nat_cmp) (λ r. child_in (child_shown r)) (old.trees 7) (children_of nodes) → Holds (slice_cmp nat_cmp) (λ r. child_in (child_shown r)) (filter (λ r. not (gone.name r)) (old.trees 7)) (remove_entry (is_at (slice_cmp nat_cmp t)) (children_of nodes))
-    names_left held_children =
-        holds_removed (slice_cmp nat_cmp) nat_list_cmp_total (λ r. child_in (child_shown r)) (old.trees 7) (children_of nodes) held_children t gone.name (λ r there e says. elim (cases_Bool (list_any (has_name t) (old.trees 1))) [
-          | inl some ↦
-              let o = some_has (has_name t) (old.trees 1) some in
-              let text : column o.0 1 ≡ Text t = text_value (column o.0 1) t (node_rows old store o.0 o.1).name (and_parts _ _ o.2).0 in
-              gone.one_name o.0 o.1 o.2 r ∙ ap (λ v. equal Binary (column r 2) v && true) text ∙ child_test t r (child_rows old store r there) e says
-          | inr none ↦
-              let nobody : (o : Row) → Has (old.trees 1) o → has_name t o ≡ false = λ o h. false_from_ne_true _ (λ k. both_ways _ none (some_from (has_name t) (old.trees 1) o h k)) in
-              let absent : stored_node nodes t ≡ None = none_at (slice_cmp nat_cmp) nat_list_cmp_total (λ x. node_in (node_shown x)) (old.trees 1) nodes held t (has_name t) test nobody in
-              let member = entry_of (slice_cmp nat_cmp) nat_list_cmp_total (λ x. child_in (child_shown x)) (old.trees 7) (children_of nodes) held_children r there in
-              let same : member.0 ≡ e = same_some (sym member.2 ∙ says) in
-              gone.no_name nobody r ∙ sym (not_child nodes t absent e (subst (Has (children_of nodes)) same member.1))
-        ])
-
     nodes_left : Holds (slice_cmp nat_cmp) (λ r. node_in (node_shown r)) (filter (λ r. not (has_name t r)) (old.trees 1)) (remove_entry (is_at (slice_cmp nat_cmp t)) nodes)
     nodes_left = holds_removed (slice_cmp nat_cmp) nat_list_cmp_total (λ r. node_in (node_shown r)) (old.trees 1) nodes held t (has_name t) test
 
@@ -172,11 +143,9 @@ pub node_gone : (t : List ℕ) (v : ValueRef) → bound_value (owned v) ≡ Text
 node_gone t v is_text old new run = record {
   store = λ store. (node_removed t old new run.count store (ran run)).store;
   says = λ store rows said.
-      let children = children_of rows.nodes in
       let gone = node_removed t old new run.count store (ran run) in
       let held = held_as_shown (slice_cmp nat_cmp) node_in node_shown (old.now.trees 1) rows.nodes said.nodes in
       let held_locks = held_as_shown lock_order lock_in lock_shown (old.now.trees 5) rows.locks said.locks in
-      let held_children = held_as_shown (slice_cmp nat_cmp) child_in child_shown (old.now.trees 7) children said.children in
       record {
         meta = ap (λ rs. map meta_in (map meta_shown rs)) gone.metas ∙ said.meta;
         nodes = shown_as_held (slice_cmp nat_cmp) node_in node_shown (new.now.trees 1) _
@@ -184,10 +153,7 @@ node_gone t v is_text old new run = record {
         sessions = subst (λ rs. HoldsSessions (map session_shown rs) rows.sessions) (sym gone.sessions) said.sessions;
         locks = shown_as_held lock_order lock_in lock_shown (new.now.trees 5) _
             (subst (λ rs. Holds lock_order (λ r. lock_in (lock_shown r)) rs (without_locks_of (stored_node rows.nodes t) rows.locks)) (sym gone.locks) (locks_left t old.now new.now store gone rows.nodes rows.locks held held_locks));
-        children = shown_as_held (slice_cmp nat_cmp) child_in child_shown (new.now.trees 7) _
-            (subst (Holds (slice_cmp nat_cmp) (λ r. child_in (child_shown r)) (new.now.trees 7)) (sym (children_removed rows.nodes t held.sorted))
-            (subst (λ rs. Holds (slice_cmp nat_cmp) (λ r. child_in (child_shown r)) rs (remove_entry (is_at (slice_cmp nat_cmp t)) children)) (sym gone.children)
-            (names_left t old.now new.now store gone rows.nodes rows.locks held held_locks held_children)));
+        children = said.children;
       };
 }
   where

@@ -27,9 +27,8 @@ use Rattle.rows_cell.specs.declared.tables.Edit.TheVariants.{PutNode}
 use Rattle.rows_cell.specs.Rows.{StoredNodes, edited, stored_node, put_stored}
 use Rattle.rows_sql.specs.OurSchema.{nodes}
 use Rattle.rows_sql.specs.Decode.{count_in, kind_of, life_of, node_in}
-use Rattle.rows_sql.specs.declared.schema.ours.Version.TheVariants.{Second}
-use Rattle.rows_sql.specs.Children.{children_of}
-use Rattle.rows_sql.specs.Held.{Holds, Says, SaysWith}
+use Rattle.rows_sql.specs.declared.schema.ours.Version.TheVariants.{Third}
+use Rattle.rows_sql.specs.Held.{Holds, Says}
 use Rattle.rows_sql.specs.Ready.{node_shown, tables_of}
 use Rattle.rows_sql.specs.WriteTexts.{renew_node_text}
 use Rattle.rows_sql.specs.WriteCommands.{is}
@@ -38,7 +37,6 @@ use Rattle.rows_sql.specs.Ongoing.{IsStore, RanCounted, Renews}
 use Rattle.rows_sql.proofs.WriteMeaning.{renew_node_is, renew_node_plain}
 use Rattle.rows_sql.proofs.Casts.{cast_int, int_stays, text_stays}
 use Rattle.rows_sql.proofs.Columns.{text_value}
-use Rattle.rows_sql.proofs.ChildLists.{children_renewed}
 use Rattle.rows_sql.proofs.Entries.{holds_put, found_at, none_at, entry_of}
 use Rattle.rows_sql.proofs.NodeKeys.{has_name, name_test, node_said}
 use Rattle.rows_sql.proofs.AddNode.{Counted, Counts, HasNames, Given, params, says_view}
@@ -129,14 +127,12 @@ module _ (t : List ℕ) (node : Node) (c : Counted) where
       when_absent empty done =
           let same = subst (λ rs. Holds (slice_cmp nat_cmp) (λ x. node_in (node_shown x)) rs rows.nodes) (sym (none_renewed (has_name t) becomes es empty).0) held in (
             absent counts names named rows.nodes held empty,
-            nodes_say old.now new.now _ Second rows (children_of rows.nodes) said done rows.nodes (shown_as_held (slice_cmp nat_cmp) node_in node_shown (map (renewed (has_name t) becomes) es) rows.nodes same),
+            nodes_say old.now new.now _ Third rows [] said done rows.nodes (shown_as_held (slice_cmp nat_cmp) node_in node_shown (map (renewed (has_name t) becomes) es) rows.nodes same),
           )
 
       when_present : Present counts names named rows.nodes held → Rewrote 1 (map (renewed (has_name t) becomes) es) old.now new.now → Says (tables_of new.now.trees) (edited rows (PutNode t node))
       when_present p done =
-          let put = edited rows (PutNode t node) in
-          subst (SaysWith Second (tables_of new.now.trees) put) (sym (children_renewed rows.nodes t node p.was held.sorted p.found))
-          (nodes_say old.now new.now _ Second rows (children_of rows.nodes) said done (put_stored rows.nodes t node) (shown_as_held (slice_cmp nat_cmp) node_in node_shown (map (renewed (has_name t) becomes) es) (put_stored rows.nodes t node) p.holds))
+          nodes_say old.now new.now _ Third rows [] said done (put_stored rows.nodes t node) (shown_as_held (slice_cmp nat_cmp) node_in node_shown (map (renewed (has_name t) becomes) es) (put_stored rows.nodes t node) p.holds)
 
       outcome : (count : ℕ) → count ≡ length (filter (has_name t) es) → Found → Rewrote 1 (map (renewed (has_name t) becomes) es) old.now new.now → Outcome (not (count == 0))
       outcome count counted (inl empty) done = subst (λ n. Outcome (not (n == 0))) (sym (counted ∙ ap length empty)) (when_absent empty done)

@@ -31,10 +31,9 @@ use Rattle.rows_cell.specs.Rows.{StoredNodes, stored_node, at_generation}
 use Rattle.rows_cell.proofs.EntriesInOrder.{put_is_set}
 use Rattle.rows_sql.specs.OurSchema.{the_schema, nodes}
 use Rattle.rows_sql.specs.Decode.{count_of, count_in, kind_of, life_of, acls_in, name_in, numbers_from, node_from, node_in}
-use Rattle.rows_sql.specs.declared.schema.ours.Version.TheVariants.{Second}
-use Rattle.rows_sql.specs.Children.{children_of}
-use Rattle.rows_sql.specs.Held.{Holds, SaysWith}
-use Rattle.rows_sql.specs.Ready.{node_shown, tables_of}
+use Rattle.rows_sql.specs.declared.schema.ours.Version.TheVariants.{Third}
+use Rattle.rows_sql.specs.Held.{Holds}
+use Rattle.rows_sql.specs.Ready.{node_shown}
 use Rattle.rows_sql.specs.WriteTexts.{set_lock_generation_text}
 use Rattle.rows_sql.specs.WriteCommands.{is}
 use Rattle.rows_sql.specs.Numbers.{IsNumber}
@@ -42,7 +41,6 @@ use Rattle.rows_sql.specs.Ongoing.{IsStore, RanInside, Changed}
 use Rattle.rows_sql.proofs.WriteMeaning.{set_lock_generation_is, set_lock_generation_plain}
 use Rattle.rows_sql.proofs.Casts.{cast_int, int_stays, text_stays}
 use Rattle.rows_sql.proofs.Columns.{text_value}
-use Rattle.rows_sql.proofs.ChildLists.{children_at}
 use Rattle.rows_sql.proofs.Clashes.{one_node}
 use Rattle.rows_sql.proofs.Entries.{holds_put, found_at, none_at, entry_of}
 use Rattle.rows_sql.proofs.NodeKeys.{has_name, name_test, name_said, generation_from}
@@ -151,6 +149,5 @@ generation_there t n v g is_text ng old new run =
             | inl empty ↦ none_changed t e old new store n ng.2 rows.nodes held empty
             | inr one ↦ one_changed t e old new store n ng.2 rows.nodes held one.0 one.1 one.2 one.3
           ] in
-          subst (SaysWith Second (tables_of new.now.trees) (record rows { nodes = at_generation rows.nodes t (stored_node rows.nodes t) n })) (sym (children_at rows.nodes t (stored_node rows.nodes t) n))
-          (nodes_say old.now new.now _ Second rows (children_of rows.nodes) said done.1 _ (shown_as_held (slice_cmp nat_cmp) node_in node_shown (map (renewed (has_name t) (becomes t e)) es) _ after));
+          nodes_say old.now new.now _ Third rows [] said done.1 _ (shown_as_held (slice_cmp nat_cmp) node_in node_shown (map (renewed (has_name t) (becomes t e)) es) _ after);
     }

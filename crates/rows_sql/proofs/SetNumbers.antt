@@ -51,7 +51,7 @@ abbrev pub next_project : List Term
 next_project = col 1 0 ∷ col 1 0 ∷ lit Null ∷ col 1 2 ∷ col 1 3 ∷ col 1 4 ∷ col 1 5 ∷ col 0 0 ∷ []
 
 abbrev pub version_project : List Term
-version_project = col 1 0 ∷ col 1 0 ∷ lit Null ∷ lit (Int (pos 2)) ∷ col 1 3 ∷ col 1 4 ∷ col 0 0 ∷ col 1 6 ∷ []
+version_project = col 1 0 ∷ col 1 0 ∷ lit Null ∷ lit (Int (pos 3)) ∷ col 1 3 ∷ col 1 4 ∷ col 0 0 ∷ col 1 6 ∷ []
 
 no_action : (olds : List Row) (n : Row) → works the_schema Enforced 0 0 olds (n ∷ []) ≡ []
 unfolding same_name joined
@@ -72,7 +72,7 @@ module _ (n : ℤ) where
   with_next r = column r 0 ∷ Null ∷ column r 2 ∷ column r 3 ∷ column r 4 ∷ column r 5 ∷ Int n ∷ []
 
   abbrev pub with_version : Row → Row
-  with_version r = column r 0 ∷ Null ∷ Int (pos 2) ∷ column r 3 ∷ column r 4 ∷ Int n ∷ column r 6 ∷ []
+  with_version r = column r 0 ∷ Null ∷ Int (pos 3) ∷ column r 3 ∷ column r 4 ∷ Int n ∷ column r 6 ∷ []
 
   module _ (db : Database) (store : IsStore db) (project : List Term) where
     int_at : (r : Row) → Has (db.trees 0) r → is_int (rowid r) ≡ true
@@ -139,7 +139,7 @@ module _ (n : ℤ) where
         same_id = λ r h t. refl;
         fits = λ r h t.
             let typed = meta_rows old.now store r h in
-            λ j. int_stays (column r 0) (int_is (rowid r) (int_at old.now store version_project r h)) j ∷ cast_null j ∷ cast_int (pos 2) j ∷ text_stays (column r 3) typed.cell j ∷ column r 4 ∷ cast_int n j ∷ int_stays (column r 6) typed.next_instance j ∷ [];
+            λ j. int_stays (column r 0) (int_is (rowid r) (int_at old.now store version_project r h)) j ∷ cast_null j ∷ cast_int (pos 3) j ∷ text_stays (column r 3) typed.cell j ∷ column r 4 ∷ cast_int n j ∷ int_stays (column r 6) typed.next_instance j ∷ [];
         one = one_first old.now store version_project;
         alone = no_action;
         idle = nor_none;

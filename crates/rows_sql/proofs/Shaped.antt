@@ -18,9 +18,11 @@ use Rattle.sqlite_rules.specs.Lists.{Has}
 use Rattle.sqlite_rules.proofs.ListLemmas.{has_filtered}
 use Rattle.sqlite_rules.proofs.PlaceLemmas.{row_at_is}
 use Rattle.sqlite.specs.Effect.{Database, IsDatabase}
-use Rattle.rows_sql.specs.OurSchema.{first_schema, unindexed_schema, the_schema, meta, nodes, sessions, locks, children}
-use Rattle.rows_sql.specs.Ongoing.{IsStoreBy, IsStore}
-use Rattle.rows_sql.specs.Carrying.{IsFirstStore}
+use Rattle.rows_sql.specs.OurSchema.{meta, nodes, sessions, locks}
+use Rattle.rows_sql.specs.declared.schema.ours.Version.{Version}
+use Rattle.rows_sql.specs.declared.schema.ours.Version.TheVariants.{First, Unindexed, Second, Third}
+use Rattle.rows_sql.specs.Versions.{schema_of}
+use Rattle.rows_sql.specs.Ongoing.{IsStoreBy}
 
 zip_has : {A B : Type 0} (R : A → B → Type 0) (xs : List A) (ys : List B) (y : B) → AllZip R xs ys → Has ys y → (x : A) × Has xs x × R x y
 zip_has R [] [] y z h = absurd h
@@ -60,40 +62,22 @@ shaped_as schema v db same ours sound listed ordered table h =
     let zipped = subst (λ (t : Trees). AllZip IsTableRow (filter is_table_row (t catalog_tree)) schema.tables) same zip in
     subst (λ (t : Trees). IsShaped Rows (t table.tree)) (sym same) (shaped (v.trees catalog_tree) v.shape v.reals v.trees listed rises ordered schema.tables zipped table h)
 
-pub is_store : (v : View) (db : Database) → db.trees ≡ v.trees → db.schema ≡ the_schema → IsDatabase db → IsListed (v.trees catalog_tree) v.shape v.reals → IsOrdered v.shape v.trees → IsStore db
-is_store v db same ours sound listed ordered =
-    let at = shaped_as the_schema v db same ours sound listed ordered in
+-- the four tables are those of each version
+has_four : (version : Version) → Has (schema_of version).tables meta × Has (schema_of version).tables nodes × Has (schema_of version).tables sessions × Has (schema_of version).tables locks
+has_four First = (inl refl, inr (inl refl), inr (inr (inl refl)), inr (inr (inr (inl refl))))
+has_four Unindexed = (inl refl, inr (inl refl), inr (inr (inl refl)), inr (inr (inr (inl refl))))
+has_four Second = (inl refl, inr (inl refl), inr (inr (inl refl)), inr (inr (inr (inl refl))))
+has_four Third = (inl refl, inr (inl refl), inr (inr (inl refl)), inr (inr (inr (inl refl))))
+
+pub is_store_of : (version : Version) (v : View) (db : Database) → db.trees ≡ v.trees → db.schema ≡ schema_of version → IsDatabase db → IsListed (v.trees catalog_tree) v.shape v.reals → IsOrdered v.shape v.trees → IsStoreBy (schema_of version) db
+is_store_of version v db same ours sound listed ordered =
+    let at = shaped_as (schema_of version) v db same ours sound listed ordered in
+    let four = has_four version in
     record {
       schema = ours;
       sound = sound;
-      metas = at meta (inl refl);
-      nodes = at nodes (inr (inl refl));
-      sessions = at sessions (inr (inr (inl refl)));
-      locks = at locks (inr (inr (inr (inl refl))));
-      children = at children (inr (inr (inr (inr (inl refl)))));
-    }
-
-pub is_unindexed_store : (v : View) (db : Database) → db.trees ≡ v.trees → db.schema ≡ unindexed_schema → IsDatabase db → IsListed (v.trees catalog_tree) v.shape v.reals → IsOrdered v.shape v.trees → IsStoreBy unindexed_schema db
-is_unindexed_store v db same unindexed sound listed ordered =
-    let at = shaped_as unindexed_schema v db same unindexed sound listed ordered in
-    record {
-      schema = unindexed;
-      sound = sound;
-      metas = at meta (inl refl);
-      nodes = at nodes (inr (inl refl));
-      sessions = at sessions (inr (inr (inl refl)));
-      locks = at locks (inr (inr (inr (inl refl))));
-      children = at children (inr (inr (inr (inr (inl refl)))));
-    }
-
-pub is_first_store : (v : View) (db : Database) → db.trees ≡ v.trees → db.schema ≡ first_schema → IsDatabase db → IsListed (v.trees catalog_tree) v.shape v.reals → IsOrdered v.shape v.trees → IsFirstStore db
-is_first_store v db same first sound listed ordered =
-    let at = shaped_as first_schema v db same first sound listed ordered in
-    record {
-      schema = first;
-      sound = sound;
-      metas = at meta (inl refl);
-      nodes = at nodes (inr (inl refl));
-      sessions = at sessions (inr (inr (inl refl)));
-      locks = at locks (inr (inr (inr (inl refl))));
+      metas = at meta four.0;
+      nodes = at nodes four.1;
+      sessions = at sessions four.2;
+      locks = at locks four.3;
     }

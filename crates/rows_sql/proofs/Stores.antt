@@ -22,10 +22,10 @@ use Rattle.rows_cell.specs.declared.tables.SessionRow.{SessionRow}
 use Rattle.rows_cell.specs.Rows.{StoredNodes, StoredLocks}
 use Rattle.sqlite_trees.proofs.ListLemmas.{map-map}
 use Rattle.std.specs.List.Sorted.{IsPermutation}
-use Rattle.rows_sql.specs.Held.{Holds, SaysWith, HoldsNodes, HoldsSessions, HoldsLocks, HoldsChildren, meta_of}
-use Rattle.rows_sql.specs.Ready.{tables_of, meta_shown, node_shown, session_shown, lock_shown, child_shown}
+use Rattle.rows_sql.specs.Held.{Holds, SaysWith, HoldsNodes, HoldsSessions, HoldsLocks, meta_of}
+use Rattle.rows_sql.specs.Ready.{tables_of, meta_shown, node_shown, session_shown, lock_shown}
 use Rattle.rows_sql.specs.Ongoing.{IsStore}
-use Rattle.rows_sql.proofs.Columns.{IsMetaRow, IsNodeRow, IsSessionRow, IsLockRow, IsChildRow, meta_typed, node_typed, session_typed, lock_typed, child_typed}
+use Rattle.rows_sql.proofs.Columns.{IsMetaRow, IsNodeRow, IsSessionRow, IsLockRow, meta_typed, node_typed, session_typed, lock_typed}
 
 -- the tables are as before, but for that of one tree
 abbrev pub SameOthers : ℕ → Database → Database → Type 0
@@ -46,7 +46,6 @@ still_store at old new store schema sound shaped others = record {
   nodes = stays at 1 old new shaped others.1.0 store.nodes;
   sessions = stays at 4 old new shaped others.1.1.0 store.sessions;
   locks = stays at 5 old new shaped others.1.1.1.0 store.locks;
-  children = stays at 7 old new shaped others.1.1.1.1.0 store.children;
 }
 
 -- ---- the rows of a store have values of the types of their columns
@@ -66,9 +65,6 @@ module _ (db : Database) (store : IsStore db) where
 
   pub lock_rows : (r : Row) → Has (db.trees 5) r → IsLockRow r
   lock_rows r h = lock_typed r (and_parts _ _ (all_has _ (db.trees 5) r (rule_kept Datatype).1.1.1.0 h)).0 (all_has _ (db.trees 5) r (rule_kept NotNull).1.1.1.0 h)
-
-  pub child_rows : (r : Row) → Has (db.trees 7) r → IsChildRow r
-  child_rows r h = child_typed r (and_parts _ _ (all_has _ (db.trees 7) r (rule_kept Datatype).1.1.1.1.0 h)).0 (all_has _ (db.trees 7) r (rule_kept NotNull).1.1.1.1.0 h)
 
 -- one tree has these rows, and the other tables are as before
 pub record Rewrote (at : ℕ) (rows : List Row) (old new : Database) : Type 0 where
@@ -99,9 +95,6 @@ module _ (old new : Database) (rows : List Row) where
   locks_kept : (at : ℕ) → 5 ≢ at → Rewrote at rows old new → new.trees 5 ≡ old.trees 5
   locks_kept at apart done = done.others.1.1.1.0 apart
 
-  children_kept : (at : ℕ) → 7 ≢ at → Rewrote at rows old new → new.trees 7 ≡ old.trees 7
-  children_kept at apart done = done.others.1.1.1.1.0 apart
-
   module _ (version : Version) (was : Rows) (children : Parents) (h : SaysWith version (tables_of old.trees) was children) where
     -- the row of the cell
     pub metas_say : Rewrote 0 rows old new → (kind : Version) (is : Rows) → is.nodes ≡ was.nodes → is.sessions ≡ was.sessions → is.locks ≡ was.locks
@@ -111,7 +104,7 @@ module _ (old new : Database) (rows : List Row) where
       nodes = subst (HoldsNodes _) (sym n) (subst (λ rs. HoldsNodes (map node_shown rs) was.nodes) (sym (nodes_kept 0 (λ e. absurd (omega (arith, e))) done)) h.nodes);
       sessions = subst (HoldsSessions _) (sym s) (subst (λ rs. HoldsSessions (map session_shown rs) was.sessions) (sym (sessions_kept 0 (λ e. absurd (omega (arith, e))) done)) h.sessions);
       locks = subst (HoldsLocks _) (sym l) (subst (λ rs. HoldsLocks (map lock_shown rs) was.locks) (sym (locks_kept 0 (λ e. absurd (omega (arith, e))) done)) h.locks);
-      children = subst (λ rs. HoldsChildren (map child_shown rs) children) (sym (children_kept 0 (λ e. absurd (omega (arith, e))) done)) h.children;
+      children = h.children;
     }
 
     pub nodes_say : Rewrote 1 rows old new → (nodes : StoredNodes) → HoldsNodes (map node_shown rows) nodes → SaysWith version (tables_of new.trees) (record was { nodes = nodes }) children
@@ -120,7 +113,7 @@ module _ (old new : Database) (rows : List Row) where
       nodes = subst (λ rs. HoldsNodes (map node_shown rs) nodes) (sym done.tree) said;
       sessions = subst (λ rs. HoldsSessions (map session_shown rs) was.sessions) (sym (sessions_kept 1 (λ e. absurd (omega (arith, e))) done)) h.sessions;
       locks = subst (λ rs. HoldsLocks (map lock_shown rs) was.locks) (sym (locks_kept 1 (λ e. absurd (omega (arith, e))) done)) h.locks;
-      children = subst (λ rs. HoldsChildren (map child_shown rs) children) (sym (children_kept 1 (λ e. absurd (omega (arith, e))) done)) h.children;
+      children = h.children;
     }
 
     pub sessions_say : Rewrote 4 rows old new → (sessions : List (ℕ × SessionRow)) → HoldsSessions (map session_shown rows) sessions → SaysWith version (tables_of new.trees) (record was { sessions = sessions }) children
@@ -129,7 +122,7 @@ module _ (old new : Database) (rows : List Row) where
       nodes = subst (λ rs. HoldsNodes (map node_shown rs) was.nodes) (sym (nodes_kept 4 (λ e. absurd (omega (arith, e))) done)) h.nodes;
       sessions = subst (λ rs. HoldsSessions (map session_shown rs) sessions) (sym done.tree) said;
       locks = subst (λ rs. HoldsLocks (map lock_shown rs) was.locks) (sym (locks_kept 4 (λ e. absurd (omega (arith, e))) done)) h.locks;
-      children = subst (λ rs. HoldsChildren (map child_shown rs) children) (sym (children_kept 4 (λ e. absurd (omega (arith, e))) done)) h.children;
+      children = h.children;
     }
 
     pub locks_say : Rewrote 5 rows old new → (locks : StoredLocks) → HoldsLocks (map lock_shown rows) locks → SaysWith version (tables_of new.trees) (record was { locks = locks }) children
@@ -138,14 +131,5 @@ module _ (old new : Database) (rows : List Row) where
       nodes = subst (λ rs. HoldsNodes (map node_shown rs) was.nodes) (sym (nodes_kept 5 (λ e. absurd (omega (arith, e))) done)) h.nodes;
       sessions = subst (λ rs. HoldsSessions (map session_shown rs) was.sessions) (sym (sessions_kept 5 (λ e. absurd (omega (arith, e))) done)) h.sessions;
       locks = subst (λ rs. HoldsLocks (map lock_shown rs) locks) (sym done.tree) said;
-      children = subst (λ rs. HoldsChildren (map child_shown rs) children) (sym (children_kept 5 (λ e. absurd (omega (arith, e))) done)) h.children;
-    }
-
-    pub children_say : Rewrote 7 rows old new → (next : Parents) → HoldsChildren (map child_shown rows) next → SaysWith version (tables_of new.trees) was next
-    children_say done next said = record {
-      meta = ap (λ rs. map (meta_as version) (map meta_shown rs)) (metas_kept 7 (λ e. absurd (omega (arith, e))) done) ∙ h.meta;
-      nodes = subst (λ rs. HoldsNodes (map node_shown rs) was.nodes) (sym (nodes_kept 7 (λ e. absurd (omega (arith, e))) done)) h.nodes;
-      sessions = subst (λ rs. HoldsSessions (map session_shown rs) was.sessions) (sym (sessions_kept 7 (λ e. absurd (omega (arith, e))) done)) h.sessions;
-      locks = subst (λ rs. HoldsLocks (map lock_shown rs) was.locks) (sym (locks_kept 7 (λ e. absurd (omega (arith, e))) done)) h.locks;
-      children = subst (λ rs. HoldsChildren (map child_shown rs) next) (sym done.tree) said;
+      children = h.children;
     }

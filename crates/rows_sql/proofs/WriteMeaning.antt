@@ -5,9 +5,9 @@ use Rattle.sqlite.specs.Listing.{understood}
 use Rattle.sqlite.specs.Given.{IsPlain}
 use Rattle.sqlite.proofs.Callers.{command_of}
 use Rattle.rows_sql.specs.OurSchema.{the_schema}
-use Rattle.rows_sql.specs.WriteTexts.{set_epoch_text, set_next_instance_text, renew_node_text, add_node_text, put_child_text, set_lock_generation_text, remove_node_text, put_session_text, put_lock_text, remove_lock_text}
+use Rattle.rows_sql.specs.WriteTexts.{set_epoch_text, set_next_instance_text, renew_node_text, add_node_text, set_lock_generation_text, remove_node_text, put_session_text, put_lock_text, remove_lock_text}
 use Rattle.rows_sql.specs.Carrying.{set_version_text, set_version_command}
-use Rattle.rows_sql.specs.WriteCommands.{set_epoch_command, set_next_instance_command, renew_node_command, add_node_command, put_child_command, set_lock_generation_command, remove_node_command, put_session_command, put_lock_command, remove_lock_command}
+use Rattle.rows_sql.specs.WriteCommands.{set_epoch_command, set_next_instance_command, renew_node_command, add_node_command, set_lock_generation_command, remove_node_command, put_session_command, put_lock_command, remove_lock_command}
 
 pub set_epoch_is : command_of (understood the_schema set_epoch_text) ≡ set_epoch_command
 unfolding understood everything
@@ -80,14 +80,6 @@ remove_lock_is = refl
 pub remove_lock_plain : IsPlain (understood the_schema remove_lock_text)
 unfolding understood everything
 remove_lock_plain = (refl, refl)
-
-pub put_child_is : command_of (understood the_schema put_child_text) ≡ put_child_command
-unfolding understood everything
-put_child_is = refl
-
-pub put_child_plain : IsPlain (understood the_schema put_child_text)
-unfolding understood everything
-put_child_plain = (refl, refl)
 
 pub set_version_is : command_of (understood the_schema set_version_text) ≡ set_version_command
 unfolding understood everything

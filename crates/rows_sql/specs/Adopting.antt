@@ -1,5 +1,5 @@
 -- Taking a database over.
-use Rattle.std.specs.Prelude.{◌≡◌, ◌≢◌, ◌⊎◌, ◌≤◌, ◌<◌, ◌+◌, ℕ, List, true, false, IsTrue}
+use Rattle.std.specs.Prelude.{◌≡◌, ◌≢◌, ◌⊎◌, ◌≤◌, ◌<◌, ◌+◌, ℕ, List, true, false, IsTrue, ⊤}
 use Rattle.sqlite_trees.specs.declared.store.Store.{Ghosts}
 use Rattle.sqlite_trees.specs.View.{doubt, IsClean}
 use Rattle.sqlite.specs.Tree.{Trees}
@@ -12,25 +12,22 @@ use Rattle.rows_cell.specs.declared.tables.Rows.{Rows}
 use Rattle.node_core.specs.Limits.{number_limit}
 use Rattle.rows_cell.specs.Sound.{sound}
 use Rattle.rows_cell.specs.Rows.{map_of}
-use Rattle.rows_sql.specs.OurSchema.{first_schema, unindexed_schema, the_schema}
+use Rattle.rows_sql.specs.OurSchema.{the_schema}
 use Rattle.rows_sql.specs.declared.schema.ours.Version.{Version}
-use Rattle.rows_sql.specs.declared.schema.ours.Version.TheVariants.{First, Unindexed}
-use Rattle.rows_sql.specs.Versions.{schema_of}
+use Rattle.rows_sql.specs.declared.schema.ours.Version.TheVariants.{First, Unindexed, Second, Third}
+use Rattle.rows_sql.specs.Versions.{schema_of, IsEarlier}
 use Rattle.rows_sql.specs.Held.{Says, SaysAs}
 use Rattle.rows_sql.specs.Ready.{tables_of, tables_as}
 use Rattle.rows_sql.specs.Ongoing.{IsStoreBy, IsStore}
 use Rattle.rows_sql.specs.Creation.{no_schema}
-use Rattle.rows_sql.specs.Carrying.{IsFirstStore}
 
--- a connection that was just opened: nothing is begun, and of a store the rowids of each table rise
+-- a connection that was just opened: nothing is begun, and of a store of each version the rowids of the four tables rise
 pub record IsAnew (s : State) : Type 0 where
   pub idle : s.in_transaction ≡ false
   pub is_open : HasCleanDisk s → IsTrue s.is_open
   pub settled : HasCleanDisk s → s.committed ≡ s.now
   pub listed : HasCleanDisk s → IsDatabase s.now
-  pub store : HasCleanDisk s → s.now.schema ≡ the_schema → IsStore s.now
-  pub unindexed : HasCleanDisk s → s.now.schema ≡ unindexed_schema → IsStoreBy unindexed_schema s.now
-  pub first : HasCleanDisk s → s.now.schema ≡ first_schema → IsFirstStore s.now
+  pub stores : HasCleanDisk s → (version : Version) → s.now.schema ≡ schema_of version → IsStoreBy (schema_of version) s.now
 
 -- it is a store of this version, which says these rows, and by its rules a cell of this name may have them
 pub record SaysSound (version : Version) (cell : List ℕ) (db : Database) (rows : Rows) : Type 0 where
@@ -42,23 +39,36 @@ pub record SaysSound (version : Version) (cell : List ℕ) (db : Database) (rows
 abbrev pub IsUnsound : Version → List ℕ → Database → Type 0
 IsUnsound version cell db = (db.schema ≡ schema_of version) × ((rows : Rows) → SaysAs version (tables_as version db.trees) rows → sound cell rows ≡ false)
 
--- what a store of the first version is carried over as: the same rows, of the next epoch
-abbrev pub carried : Rows → Rows
-carried rows = record rows { epoch = rows.epoch + 1 }
+-- the epoch with which a store is carried over: of the first version the next one
+abbrev pub next_epoch : Version → ℕ → ℕ
+next_epoch First epoch = epoch + 1
+next_epoch Unindexed epoch = epoch
+next_epoch Second epoch = epoch
+next_epoch Third epoch = epoch
 
--- the rows that its tables say; the opening rows, where there is no table yet; those of a store that lacks its last index, as they are;
--- or those that a store of the first version is carried over as
+-- what a store of an earlier version is carried over as
+abbrev pub carried : Version → Rows → Rows
+carried version rows = record rows { epoch = next_epoch version rows.epoch }
+
+-- it is carried over with this epoch: if that has to go on, it can
+abbrev pub CanCarry : Version → ℕ → Type 0
+CanCarry First epoch = epoch < number_limit
+CanCarry Unindexed epoch = ⊤
+CanCarry Second epoch = ⊤
+CanCarry Third epoch = ⊥
+
+-- the rows that its tables say; the opening rows, if there is no table yet; or those that a store of an earlier version is carried over as
 abbrev pub Takes : Settled → Database → Rows → Type 0
 Takes settings db rows =
     ((db.schema ≡ the_schema) × Says (tables_of db.trees) rows)
     ⊎ (((db.schema ≡ no_schema) × (rows ≡ opening settings))
-    ⊎ (SaysSound Unindexed settings.cell db rows ⊎ ((before : Rows) × SaysSound First settings.cell db before × (before.epoch < number_limit) × (rows ≡ carried before))))
+    ⊎ ((version : Version) × (before : Rows) × SaysSound version settings.cell db before × CanCarry version before.epoch × (rows ≡ carried version before)))
 
--- it has other tables; or they say no rows; or it is of an earlier program, and says none that a cell of this name may have
+-- it has other tables; or they say no rows; or it is of an earlier version, and says none that a cell of this name may have
 abbrev pub IsForeign : List ℕ → Database → Type 0
 IsForeign cell db =
     (((version : Version) → db.schema ≢ schema_of version) × (db.schema ≢ no_schema))
-    ⊎ (((db.schema ≡ the_schema) × ((rows : Rows) → ¬ Says (tables_of db.trees) rows)) ⊎ (IsUnsound Unindexed cell db ⊎ IsUnsound First cell db))
+    ⊎ (((db.schema ≡ the_schema) × ((rows : Rows) → ¬ Says (tables_of db.trees) rows)) ⊎ ((version : Version) × IsEarlier version × IsUnsound version cell db))
 
 -- it is of the first version, and its epoch can't go on
 abbrev pub IsAtItsEnd : List ℕ → Database → Type 0
@@ -116,8 +126,8 @@ pub record IsFull (cell : List ℕ) (s : State) : Type 0 where
   pub has : HasDatabase s
   pub at_end : IsAtItsEnd cell s.committed
 
--- whatever a store of the first version is taken over as has its map, its sessions and its locks, and is of the next epoch
+-- whatever a store of an earlier version is taken over as has its map, its sessions and its locks, and its epoch, or of the first version the next one
 abbrev pub CarryingKeeps : Type 0
 CarryingKeeps =
-    (settings : Settled) (db : Database) (before after : Rows) → SaysSound First settings.cell db before → Takes settings db after
-    → (map_of after ≡ map_of before) × (after.sessions ≡ before.sessions) × (after.locks ≡ before.locks) × (after.epoch ≡ before.epoch + 1)
+    (settings : Settled) (db : Database) (version : Version) (before after : Rows) → IsEarlier version → SaysSound version settings.cell db before → Takes settings db after
+    → (map_of after ≡ map_of before) × (after.sessions ≡ before.sessions) × (after.locks ≡ before.locks) × (after.epoch ≡ next_epoch version before.epoch)

@@ -1,4 +1,4 @@
--- A new store: the statements that make its five tables, their index and the row of its cell, and what is there behind each.
+-- A new store: the statements that make its four tables, their view and the row of its cell, and what is there after each.
 use Rattle.std.specs.Prelude.{◌≡◌, List, [], ◌∷◌, map, ℕ, codes, Some, pos, IsTrue}
 use Rattle.std.specs.List.{AllByRecursion}
 use Rattle.sqlite.specs.declared.types.Value.TheVariants.{Null, Int}
@@ -20,7 +20,7 @@ use Rattle.rows_cell.specs.Rows.{StoredNodes}
 use Rattle.rows_cell.specs.declared.tables.Rows.{Rows}
 use Rattle.rows_cell.specs.declared.tables.Edit.{Edit}
 use Rattle.rows_cell.specs.declared.tables.Edit.TheVariants.{PutNode}
-use Rattle.rows_sql.specs.OurSchema.{meta, nodes, sessions, key_index, first_schema, unindexed_schema, the_schema}
+use Rattle.rows_sql.specs.OurSchema.{meta, nodes, sessions, key_index, first_schema, the_schema}
 use Rattle.rows_sql.specs.Commands.{over}
 use Rattle.rows_sql.specs.Held.{Says}
 use Rattle.rows_sql.specs.Ready.{tables_of}
@@ -39,17 +39,11 @@ make_sessions_text = codes "CREATE TABLE sessions (client INTEGER NOT NULL PRIMA
 abbrev pub make_locks_text : List ℕ
 make_locks_text = codes "CREATE TABLE locks (instance INTEGER NOT NULL REFERENCES nodes (instance) ON DELETE CASCADE, client INTEGER NOT NULL, handle INTEGER NOT NULL, mode INTEGER NOT NULL, delay INTEGER NOT NULL, PRIMARY KEY (instance, client, handle)) STRICT"
 
-abbrev pub make_children_text : List ℕ
-make_children_text = codes "CREATE TABLE children (parent TEXT NOT NULL, child TEXT NOT NULL REFERENCES nodes (name) ON DELETE CASCADE, PRIMARY KEY (parent, child)) STRICT"
-
-abbrev pub make_index_text : List ℕ
-make_index_text = codes "CREATE INDEX children_by_child ON children (child)"
-
 abbrev pub put_cell_text : List ℕ
-put_cell_text = codes "INSERT INTO meta (id, version, cell, secret, epoch, next_instance) VALUES (1, 2, ?1, ?2, 0, 4) ON CONFLICT (id) DO UPDATE SET version = excluded.version, cell = excluded.cell, secret = excluded.secret, epoch = excluded.epoch, next_instance = excluded.next_instance"
+put_cell_text = codes "INSERT INTO meta (id, version, cell, secret, epoch, next_instance) VALUES (1, 3, ?1, ?2, 0, 4) ON CONFLICT (id) DO UPDATE SET version = excluded.version, cell = excluded.cell, secret = excluded.secret, epoch = excluded.epoch, next_instance = excluded.next_instance"
 
 abbrev pub put_cell_command : Command
-put_cell_command = InsertOr 0 Abort (Values (lit (Int (pos 1)) ∷ lit Null ∷ lit (Int (pos 2)) ∷ col 0 0 ∷ col 0 1 ∷ lit (Int (pos 0)) ∷ lit (Int (pos 4)) ∷ []) 7) (record {
+put_cell_command = InsertOr 0 Abort (Values (lit (Int (pos 1)) ∷ lit Null ∷ lit (Int (pos 3)) ∷ col 0 0 ∷ col 0 1 ∷ lit (Int (pos 0)) ∷ lit (Int (pos 4)) ∷ []) 7) (record {
   target = Some (0 ∷ []);
   update = Some (record { lets = []; body = over 0 (is (col 1 0) (col 0 2) ∷ []) (col 1 0 ∷ col 1 0 ∷ lit Null ∷ col 0 5 ∷ col 0 6 ∷ col 0 7 ∷ col 0 8 ∷ col 0 9 ∷ []) });
 } ∷ [])
@@ -80,24 +74,14 @@ pub record IsEmptyAs (schema : Schema) (db : Database) : Type 0 where
 abbrev pub Makes : Schema → Schema → State → State → Type 0
 Makes before after old new = IsEmptyAs before old.now → IsEmptyAs after new.now × IsDatabase new.now
 
--- the four tables of the first version get a fifth without rows, and theirs stay
-pub record HasMore (old new : Database) : Type 0 where
-  pub schema : new.schema ≡ unindexed_schema
-  pub sound : IsDatabase new
-  pub kept : KeepsRows first_schema.tables old.trees new.trees
-  pub empty : new.trees 7 ≡ []
-
-abbrev pub AddsChildren : State → State → Type 0
-AddsChildren old new = old.now.schema ≡ first_schema → HasMore old.now new.now
-
--- the five tables get their last index, and their rows stay
-pub record HasIndex (old new : Database) : Type 0 where
+-- the four tables get their view, and their rows stay
+pub record HasView (old new : Database) : Type 0 where
   pub schema : new.schema ≡ the_schema
   pub sound : IsDatabase new
-  pub kept : KeepsRows unindexed_schema.tables old.trees new.trees
+  pub kept : KeepsRows first_schema.tables old.trees new.trees
 
-abbrev pub AddsIndex : State → State → Type 0
-AddsIndex old new = old.now.schema ≡ unindexed_schema → HasIndex old.now new.now
+abbrev pub AddsView : State → State → Type 0
+AddsView old new = old.now.schema ≡ first_schema → HasView old.now new.now
 
 -- ---- the rows
 

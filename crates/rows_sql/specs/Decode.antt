@@ -16,7 +16,7 @@ use Rattle.rows_cell.specs.declared.tables.LockState.{LockState}
 use Rattle.rows_cell.specs.declared.tables.LockState.TheVariants.{Lapsed, Exclusive, Shared}
 use Rattle.rows_cell.specs.declared.keys.LockKey.{LockKey}
 use Rattle.rows_sql.specs.declared.schema.ours.Version.{Version}
-use Rattle.rows_sql.specs.declared.schema.ours.Version.TheVariants.{Second}
+use Rattle.rows_sql.specs.declared.schema.ours.Version.TheVariants.{Third}
 use Rattle.rows_sql.specs.Versions.{number_of}
 use Rattle.rows_sql.specs.declared.reading.stored.Numbers.{Numbers}
 use Rattle.rows_sql.specs.declared.reading.stored.Acls.{Acls}
@@ -117,13 +117,17 @@ abbrev pub meta_from : Bool → Option ℕ → Option ℕ → Option (List ℕ) 
 meta_from true (Some epoch) (Some next_instance) (Some secret) (Some cell) = Some (record { cell = cell; secret = secret; epoch = epoch; next_instance = next_instance })
 meta_from _ _ _ _ _ = None
 
+-- it is the row of a cell, with the number of this version
+abbrev pub is_row_of : Version → Row → Bool
+is_row_of version r = int_eq (id_in (column r 0)) (pos 1) && int_eq (id_in (column r 1)) (number_of version)
+
 -- id, version, cell, secret, epoch, next_instance
 abbrev pub meta_as : Version → Row → Option Meta
-meta_as version r = meta_from (int_eq (id_in (column r 0)) (pos 1) && int_eq (id_in (column r 1)) (number_of version)) (count_in (column r 4)) (count_in (column r 5)) (secret_in (column r 3)) (component_in (column r 2))
+meta_as version r = meta_from (is_row_of version r) (count_in (column r 4)) (count_in (column r 5)) (secret_in (column r 3)) (component_in (column r 2))
 
 -- in a store of now
 abbrev pub meta_in : Row → Option Meta
-meta_in r = meta_as Second r
+meta_in r = meta_as Third r
 
 -- ---- a child
 

@@ -14,7 +14,9 @@ use Rattle.sqlite_schema.specs.declared.schema.Column.{Column}
 use Rattle.sqlite_schema.specs.declared.schema.Reference.{Reference}
 use Rattle.sqlite_schema.specs.declared.schema.Index.{Index}
 use Rattle.sqlite_schema.specs.declared.schema.Table.{Table}
+use Rattle.sqlite_schema.specs.declared.schema.View.{View}
 use Rattle.sqlite_schema.specs.declared.schema.Schema.{Schema}
+use Rattle.rows_sql.specs.OurSchema.{children_text}
 
 abbrev pub same_kind : Kind → Kind → Bool
 same_kind kind.Integer kind.Integer = true
@@ -168,8 +170,20 @@ has_four ts = table_at is_meta ts 0 && (table_at is_nodes ts 1 && (table_at is_s
 abbrev pub has_fifth : List Table → Bool
 has_fifth ts = table_at is_children ts 4
 
+-- that of the children
+abbrev pub is_the_children : View → Bool
+is_the_children v =
+    bytes_eq v.name (codes "children") && (v.tree == 7 && (bytes_eq v.sql children_text && (not (is_some v.foreign) && (not v.binds && (not v.is_bound)))))
+
+abbrev pub has_the_children : List View → Bool
+has_the_children vs = (length vs == 1) && option_map_or is_the_children (slice_get vs 0) false
+
 abbrev pub is_ours : Schema → Bool
 is_ours s =
+    has_the_children s.views && (length s.indexes == 3 && (has_key_indexes s.indexes && (length s.tables == 4 && (has_four s.tables))))
+
+abbrev pub is_second : Schema → Bool
+is_second s =
     length s.views == 0 && (has_indexes s.indexes && (length s.tables == 5 && (has_four s.tables && (has_fifth s.tables))))
 
 abbrev pub is_unindexed : Schema → Bool

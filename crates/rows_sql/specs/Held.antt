@@ -14,7 +14,7 @@ use Rattle.rows_cell.specs.declared.tables.Rows.{Rows}
 use Rattle.rows_cell.specs.declared.keys.LockKey.{LockKey}
 use Rattle.rows_sql.specs.declared.reading.stored.Meta.{Meta}
 use Rattle.rows_sql.specs.declared.schema.ours.Version.{Version}
-use Rattle.rows_sql.specs.declared.schema.ours.Version.TheVariants.{Second}
+use Rattle.rows_sql.specs.declared.schema.ours.Version.TheVariants.{Third}
 use Rattle.rows_sql.specs.Children.{Parents, children_for}
 use Rattle.rows_sql.specs.Decode.{node_in, session_in, lock_in, child_in, meta_as}
 
@@ -42,7 +42,7 @@ meta_of rows = record { cell = rows.cell; secret = rows.secret; epoch = rows.epo
 abbrev pub HoldsChildren : List Row → Parents → Type 0
 HoldsChildren = Holds (slice_cmp nat_cmp) child_in
 
--- what the five tables show
+-- what the tables show, of the second version five
 pub record Tables : Type 0 where
   pub metas : List Row
   pub nodes : List Row
@@ -50,7 +50,7 @@ pub record Tables : Type 0 where
   pub locks : List Row
   pub children : List Row
 
--- four tables say the rows of a cell, by the rules of this version, and the fifth says these children
+-- four tables say the rows of a cell, by the rules of this version, and a fifth says these children
 pub record SaysWith (version : Version) (tables : Tables) (rows : Rows) (pairs : Parents) : Type 0 where
   pub meta : map (meta_as version) tables.metas ≡ Some (meta_of rows) ∷ []
   pub nodes : HoldsNodes tables.nodes rows.nodes
@@ -64,7 +64,7 @@ SaysAs version tables rows = SaysWith version tables rows (children_for version 
 
 -- in a store of now
 abbrev pub Says : Tables → Rows → Type 0
-Says tables rows = SaysAs Second tables rows
+Says tables rows = SaysAs Third tables rows
 
 -- those rows; or the tables say none
 abbrev pub IsWhole : Version → Tables → Option Rows → Type 0

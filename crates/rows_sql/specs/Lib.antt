@@ -20,7 +20,6 @@ pub mod Ongoing
 pub mod Overtaken
 pub mod Creation
 pub mod Carrying
-pub mod Indexing
 pub mod Found
 pub mod Verdicts
 pub mod Keeping

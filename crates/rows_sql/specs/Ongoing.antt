@@ -1,9 +1,5 @@
 -- A transaction that does edits.
-use Rattle.std.specs.Prelude.{◌≡◌, ℕ, Bool, true, List, None, IsTrue, Ok, IfSome, MatchBool}
-use Rattle.std.specs.Map.{lookup}
-use Rattle.std.specs.BTreeMap.{is_at, insert_entry}
-use Rattle.std.specs.Cmp.Lexicographic.{slice_cmp}
-use Rattle.std.specs.Ordering.{nat_cmp}
+use Rattle.std.specs.Prelude.{◌≡◌, ℕ, Bool, true, List, None, IsTrue, Ok, MatchBool}
 use Rattle.sqlite.specs.Tree.{Trees}
 use Rattle.sqlite.specs.Order.{Row}
 use Rattle.sqlite.specs.Schema.{Schema}
@@ -16,14 +12,11 @@ use Rattle.rows_cell.specs.declared.tables.Edit.{Edit}
 use Rattle.rows_cell.specs.declared.tables.Edit.TheVariants.{PutNode}
 use Rattle.rows_cell.specs.Rows.{changed_rows, edited, stored_node}
 use Rattle.node_core.specs.declared.nodes.Node.{Node}
-use Rattle.rows_sql.specs.declared.schema.ours.Version.{Version}
-use Rattle.rows_sql.specs.declared.schema.ours.Version.TheVariants.{Second}
 use Rattle.rows_sql.specs.OurSchema.{the_schema}
-use Rattle.rows_sql.specs.Children.{Parents, children_of}
-use Rattle.rows_sql.specs.Held.{Says, SaysWith}
+use Rattle.rows_sql.specs.Held.{Says}
 use Rattle.rows_sql.specs.Ready.{tables_of}
 
--- it has this schema, of five tables, and obeys it, and the rowids of each table rise
+-- it has this schema, and obeys it, and the rowids of the four tables rise
 pub record IsStoreBy (which : Schema) (db : Database) : Type 0 where
   pub schema : db.schema ≡ which
   pub sound : IsDatabase db
@@ -31,7 +24,6 @@ pub record IsStoreBy (which : Schema) (db : Database) : Type 0 where
   pub nodes : IsShaped Table (db.trees 1)
   pub sessions : IsShaped Table (db.trees 4)
   pub locks : IsShaped Table (db.trees 5)
-  pub children : IsShaped Table (db.trees 7)
 
 -- it is a cell's store of now
 abbrev pub IsStore : Database → Type 0
@@ -77,18 +69,3 @@ pub record Renews (name : List ℕ) (node : Node) (is_there : Bool) (old new : S
   pub store : IsStore old.now → IsStore new.now
   pub says : IsStore old.now → (rows : Rows) → Says (tables_of old.now.trees) rows
       → MatchBool is_there (Says (tables_of new.now.trees) (edited rows (PutNode name node))) ((stored_node rows.nodes name ≡ None) × Says (tables_of new.now.trees) rows)
-
--- the node was put, and its name not yet under its parent
-pub record PutsEntry (name : List ℕ) (node : Node) (old new : State) : Type 0 where
-  pub store : IsStore old.now → IsStore new.now
-  pub says : IsStore old.now → (rows : Rows) → Says (tables_of old.now.trees) rows → SaysWith Second (tables_of new.now.trees) (edited rows (PutNode name node)) (children_of rows.nodes)
-
--- it has no other parent there
-abbrev pub HasNoOther : Parents → List ℕ → List ℕ → Type 0
-HasNoOther children child parent = IfSome (lookup (is_at (slice_cmp nat_cmp child)) children) (λ other. other ≡ parent)
-
--- a name was put under its parent: whatever the tables said, they say it too
-pub record PutsChild (child parent : List ℕ) (old new : State) : Type 0 where
-  pub store : IsStore old.now → IsStore new.now
-  pub says : IsStore old.now → (version : Version) (rows : Rows) (children : Parents) → HasNoOther children child parent → SaysWith version (tables_of old.now.trees) rows children
-      → SaysWith version (tables_of new.now.trees) rows (insert_entry (slice_cmp nat_cmp) children child parent)

@@ -10,6 +10,7 @@ use Rattle.sqlite_schema.specs.declared.schema.Column.{Column}
 use Rattle.sqlite_schema.specs.declared.schema.Index.{Index}
 use Rattle.sqlite_schema.specs.declared.schema.Reference.{Reference}
 use Rattle.sqlite_schema.specs.declared.schema.Stamps.{Stamps}
+use Rattle.sqlite_schema.specs.declared.schema.View.{View}
 use Rattle.sqlite_schema.specs.declared.schema.Action.TheVariants.{Cascade, NoAction}
 use Rattle.sqlite_value.specs.Keys.{plain}
 
@@ -91,6 +92,8 @@ locks = record {
   is_counted = false;
 }
 
+-- ---- what earlier versions have beside them: a table of the children of directories
+
 -- a child goes with its node
 abbrev pub of_name : Reference
 of_name = record { columns = 2 ∷ []; parent = codes "nodes"; parent_columns = codes "name" ∷ []; on_delete = Cascade; on_update = NoAction; is_deferred = false }
@@ -140,9 +143,9 @@ unindexed_schema = record {
   views = [];
 }
 
--- the version of now: the same tables, and an index of the children by their own names
-abbrev pub the_schema : Schema
-the_schema = record {
+-- the second version: the same tables, and an index of the children by their own names
+abbrev pub second_schema : Schema
+second_schema = record {
   tables = meta ∷ nodes ∷ sessions ∷ locks ∷ children ∷ [];
   indexes = key_index (codes "sqlite_autoindex_nodes_1") 2 1 (1 ∷ [])
       ∷ key_index (codes "sqlite_autoindex_nodes_2") 3 1 (2 ∷ [])
@@ -151,3 +154,14 @@ the_schema = record {
       ∷ by_child ∷ [];
   views = [];
 }
+
+-- the children of directories, as the nodes make them: a view, which has no rows of its own
+abbrev pub children_text : List ℕ
+children_text = codes "CREATE VIEW children (parent, child) AS SELECT p.name, c.name FROM nodes AS p, nodes AS c WHERE c.name > p.name || '/' AND c.name < p.name || '0' AND length(c.name) - length(replace(c.name, '/', '')) = length(p.name) - length(replace(p.name, '/', '')) + 1"
+
+abbrev pub the_children : View
+the_children = record { name = codes "children"; tree = 7; sql = children_text; foreign = None; binds = false; is_bound = false }
+
+-- the version of now: the four tables of the first version, the indexes of their keys, and the view
+abbrev pub the_schema : Schema
+the_schema = record first_schema { views = the_children ∷ [] }

@@ -7,7 +7,7 @@ use Rattle.sqlite.specs.Order.{Row, column}
 use Rattle.sqlite.specs.Tree.{Trees}
 use Rattle.sqlite.specs.State.{State, HasCleanDisk}
 use Rattle.rows_sql.specs.declared.schema.ours.Version.{Version}
-use Rattle.rows_sql.specs.declared.schema.ours.Version.TheVariants.{First, Unindexed, Second}
+use Rattle.rows_sql.specs.declared.schema.ours.Version.TheVariants.{First, Unindexed, Second, Third}
 use Rattle.rows_sql.specs.Versions.{schema_of}
 use Rattle.rows_sql.specs.Held.{Tables}
 
@@ -26,11 +26,12 @@ lock_shown r = column r 1 ∷ column r 2 ∷ column r 3 ∷ column r 4 ∷ colum
 abbrev pub child_shown : Row → Row
 child_shown r = column r 1 ∷ column r 2 ∷ []
 
--- a store of the first version has no fifth table
+-- a store of the first version has no fifth table, nor one of now
 abbrev pub children_shown : Version → Trees → List Row
 children_shown First db = []
 children_shown Unindexed db = map child_shown (db 7)
 children_shown Second db = map child_shown (db 7)
+children_shown Third db = []
 
 abbrev pub tables_as : Version → Trees → Tables
 tables_as version db =
@@ -38,7 +39,7 @@ tables_as version db =
 
 -- in a store of now
 abbrev pub tables_of : Trees → Tables
-tables_of db = tables_as Second db
+tables_of db = tables_as Third db
 
 -- all that was done is committed
 abbrev pub IsSettled : State → Type 0
@@ -50,7 +51,7 @@ pub record IsReadyAs (version : Version) (s : State) : Type 0 where
   pub settled : IsSettled s
 
 abbrev pub IsReady : State → Type 0
-IsReady s = IsReadyAs Second s
+IsReady s = IsReadyAs Third s
 
 -- the database is as before, where the store is still open
 abbrev pub Rests : State → State → Type 0
@@ -64,7 +65,7 @@ pub record QuietAs (version : Version) {S : Type 0} (g : Ghosts S) (old new : He
   pub crash : HasCleanDisk (state g new) → IsReadyAs version (state g old) → (db : Trees) → (state g new).may_leave db → (state g old).may_leave db
 
 abbrev pub Quiet : {S : Type 0} → Ghosts S → Held S → Held S → Type 0
-Quiet g old new = QuietAs Second g old new
+Quiet g old new = QuietAs Third g old new
 
 -- the rows of each table, in some order
 pub record AreOf (tables read : Tables) : Type 0 where
@@ -81,4 +82,4 @@ pub record IsStillAs (version : Version) (old new : State) : Type 0 where
   pub is_open : IsTrue new.is_open
 
 abbrev pub IsStill : State → State → Type 0
-IsStill old new = IsStillAs Second old new
+IsStill old new = IsStillAs Third old new

@@ -29,9 +29,6 @@ renew_node_command = Update 1 (record { lets = []; body = over 1 (is (col 1 1) (
 abbrev pub add_node_command : Command
 add_node_command = Insert 1 (Values (lit Null ∷ col 0 0 ∷ col 0 1 ∷ col 0 2 ∷ col 0 3 ∷ col 0 4 ∷ col 0 5 ∷ lit (Int (pos 0)) ∷ col 0 6 ∷ col 0 7 ∷ col 0 8 ∷ col 0 9 ∷ []) 12)
 
-abbrev pub put_child_command : Command
-put_child_command = Insert 4 (Values (lit Null ∷ col 0 0 ∷ col 0 1 ∷ []) 3)
-
 abbrev pub set_lock_generation_command : Command
 set_lock_generation_command = Update 1 (record { lets = []; body = over 1 (is (col 1 1) (col 0 0) ∷ []) (col 1 0 ∷ col 1 0 ∷ col 1 1 ∷ col 1 2 ∷ col 1 3 ∷ col 1 4 ∷ col 1 5 ∷ col 1 6 ∷ col 0 1 ∷ col 1 8 ∷ col 1 9 ∷ col 1 10 ∷ col 1 11 ∷ []) })
 

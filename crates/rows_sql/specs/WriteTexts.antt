@@ -13,9 +13,6 @@ renew_node_text = codes "UPDATE nodes SET instance = ?2, kind = ?3, life = ?4, c
 abbrev pub add_node_text : List ℕ
 add_node_text = codes "INSERT INTO nodes (name, instance, kind, life, content_gen, acl_gen, lock_gen, acl_read, acl_write, acl_change, content) VALUES (?1, ?2, ?3, ?4, ?5, ?6, 0, ?7, ?8, ?9, ?10)"
 
-abbrev pub put_child_text : List ℕ
-put_child_text = codes "INSERT INTO children (parent, child) VALUES (?1, ?2)"
-
 abbrev pub set_lock_generation_text : List ℕ
 set_lock_generation_text = codes "UPDATE nodes SET lock_gen = ?2 WHERE name = ?1"
 

@@ -12,8 +12,7 @@ ghost use Rattle.rows_sql.specs.Held.{Says};
 ghost use Rattle.rows_sql.specs.Ready.{tables_of};
 ghost use Rattle.rows_sql.specs.Adopting.{IsAnew, IsForeign, IsAtItsEnd, IsTaken, IsLeftAlone, IsReopened};
 
-use crate::carrying::take_first;
-use crate::indexing::take_unindexed;
+use crate::carrying::{take_first, take_second};
 use crate::orders::OrderedStore;
 use crate::reading::load_said;
 use crate::schema::{Version, version_of};
@@ -161,9 +160,9 @@ fn take_store<S: Alter>(
     load_said(alloc, conn)
 }
 
-/// Takes the rows of a database over: those of a store as they are, which gets its last index where it lacks it; one of
-/// the first version is carried over; and where there is no table, a new store is made.
-#[tactic(auto, using(crate::proofs::Adoptions::foreign_none, crate::proofs::Adoptions::foreign_store, crate::proofs::Adoptions::foreign_unindexed, crate::proofs::Adoptions::foreign_first))]
+/// Takes the rows of a database over: those of a store of now as they are; one of an earlier version is carried over; and
+/// if there is no table, a new store is made.
+#[tactic(auto, using(crate::proofs::Adoptions::foreign_none, crate::proofs::Adoptions::foreign_store, crate::proofs::Adoptions::foreign_second, crate::proofs::Adoptions::foreign_unindexed, crate::proofs::Adoptions::foreign_first))]
 pub(crate) fn take_over<S: Alter>(
     alloc: Global,
     conn: &mut Connection<S>,
@@ -177,8 +176,9 @@ pub(crate) fn take_over<S: Alter>(
 {
     let version = version_of(alloc, conn.schema())?;
     match version {
-        Some(Version::Second) => take_store(alloc, conn, settings),
-        Some(Version::Unindexed) => take_unindexed(alloc, conn, settings),
+        Some(Version::Third) => take_store(alloc, conn, settings),
+        Some(Version::Second) => take_second(alloc, conn, settings, Version::Second),
+        Some(Version::Unindexed) => take_second(alloc, conn, settings, Version::Unindexed),
         Some(Version::First) => take_first(alloc, conn, settings),
         None => take_none(alloc, conn, settings),
     }

@@ -1,4 +1,4 @@
-//! Taking a store of the first version over.
+//! Taking a store of an earlier version over.
 ghost use Rattle.std.specs.Prelude.{◌≡◌, ◌<◌, true, false, Err, IfOk, IfErr, OnOk};
 ghost use Rattle.node_core.specs.Limits.{number_limit};
 ghost use Rattle.sqlite.specs.State.{HasCleanDisk};
@@ -6,13 +6,14 @@ ghost use Rattle.sqlite.specs.Held.{state};
 ghost use Rattle.rows_cell.specs.Sound.{sound};
 ghost use Rattle.rows_cell.specs.declared.tables.Rows.{Rows as Held};
 ghost use Rattle.rows_sql.specs.OurSchema.{first_schema};
+ghost use Rattle.rows_sql.specs.Versions.{schema_of, HasFifth};
 ghost use Rattle.rows_sql.specs.declared.schema.ours.Version.TheVariants.{First};
 ghost use Rattle.rows_sql.specs.Held.{SaysAs};
 ghost use Rattle.rows_sql.specs.Ready.{IsReadyAs, IsStillAs, QuietAs, tables_as};
-ghost use Rattle.rows_sql.specs.Adopting.{IsAnew, IsAtItsEnd, IsTaken, IsLeftAlone, carried};
+ghost use Rattle.rows_sql.specs.Adopting.{IsAnew, IsAtItsEnd, IsTaken, IsLeftAlone};
 ghost use Rattle.rows_sql.specs.Carryings.{Becomes, Remains};
 
-use crate::reading::{children_of, load_as};
+use crate::reading::load_as;
 use crate::schema::Version;
 use crate::writing::carry_over;
 use node_core::NUMBER_LIMIT;
@@ -62,18 +63,21 @@ fn load_first<S: Alter>(
     Ok(rows)
 }
 
-// Carries a store over that says these rows.
-fn carry<S: Alter>(alloc: Global, conn: &mut Connection<S>, rows: Rows) -> Result<Rows, StoreFault>
-    requires idle { conn.old.in_transaction ≡ false }
-    requires below { rows.epoch < number_limit }
-    ensures ok { IfOk result (λ next. (next ≡ carried rows) × Becomes S.Store rows conn.old conn.new) }
-    ensures err { IfErr result (λ e. Remains S.Store rows conn.old conn.new) }
+// Carries a store over that says these rows, with this epoch.
+fn carry<S: Alter>(
+    conn: &mut Connection<S>,
+    version: Version,
+    rows: Rows,
+    epoch: u64,
+) -> Result<Rows, StoreFault>
+    requires { conn.old.in_transaction ≡ false }
+    ensures ok { IfOk result (λ next. (next ≡ record rows { epoch = epoch }) × Becomes S.Store version rows epoch conn.old conn.new) }
+    ensures err { IfErr result (λ e. Remains S.Store version rows epoch conn.old conn.new) }
     ensures why { (result ≡ Err StoreFault.Damaged → ⊥) × (result ≡ Err StoreFault.Exhausted → ⊥) }
 {
-    let children = children_of(alloc, &rows.nodes)?;
     let mut rows = rows;
-    rows.epoch += 1;
-    match carry_over(conn, &children, rows.epoch) {
+    rows.epoch = epoch;
+    match carry_over(conn, version, epoch) {
         Ok(()) => Ok(rows),
         Err(_) => Err(StoreFault::Refused),
     }
@@ -94,5 +98,27 @@ pub(crate) fn take_first<S: Alter>(
     ensures full { HasCleanDisk (state S.Store conn.new) → result ≡ Err StoreFault.Exhausted → IsAtItsEnd settings.now.cell (state S.Store conn.old).now }
 {
     let rows = load_first(alloc, conn, settings)?;
-    carry(alloc, conn, rows)
+    let epoch = rows.epoch + 1;
+    carry(conn, Version::First, rows, epoch)
+}
+
+/// Carries a store of the second version over, with its last index or without it: its rows are tested by the rules of that
+/// version, and then one transaction makes it a store of now. They stay as they are.
+pub(crate) fn take_second<S: Alter>(
+    alloc: Global,
+    conn: &mut Connection<S>,
+    settings: &Settings,
+    version: Version,
+) -> Result<Rows, StoreFault>
+    requires anew { IsAnew (state S.Store conn.old) }
+    requires second { HasFifth version }
+    requires ours { (state S.Store conn.old).now.schema ≡ schema_of version }
+    ensures ok { IfOk result (λ rows. IsTaken S.Store settings.now conn.old conn.new rows) }
+    ensures err { IfErr result (λ e. IsLeftAlone S.Store settings.now conn.old conn.new) }
+    ensures why { HasCleanDisk (state S.Store conn.new) → result ≡ Err StoreFault.Damaged → (rows : Held) → SaysAs version (tables_as version (state S.Store conn.old).now.trees) rows → sound settings.now.cell rows ≡ false }
+    ensures counted { result ≡ Err StoreFault.Exhausted → ⊥ }
+{
+    let rows = load_sound_as(alloc, conn, settings, version)?;
+    let epoch = rows.epoch;
+    carry(conn, version, rows, epoch)
 }

@@ -7,7 +7,6 @@ mod carrying;
 mod closing;
 mod files;
 mod history;
-mod indexing;
 mod laws;
 mod orders;
 mod reading;

@@ -31,7 +31,7 @@ pub enum StoreHistory {
     Tried,
 }
 
-/// The rows of a cell in the five tables of a database, over any store of the kit's `sqlite`: a file that sqlite3 reads,
+/// The rows of a cell in the four tables of a database, over any store of the kit's `sqlite`: a file that sqlite3 reads,
 /// or memory. Each change is one transaction.
 pub struct SqlRecords<S: Alter> {
     alloc: Global,
@@ -172,15 +172,13 @@ impl<S: Alter> Records for SqlRecords<S> {
 
 impl<S: OrderedStore + Drop> SqlRecords<S> {
     /// Takes a database over. What isn't committed there is undone. The rows of a store are taken as they are, whether a
-    /// cell may have them or not; where there is no table, the five tables are made and the opening rows put, in one
-    /// transaction. A store that lacks its last index gets it, where a cell of this name may have its rows: they stay. A
-    /// store of the first version is carried over, where a cell of this name may have its rows: one transaction makes it a
-    /// store of now, of the next epoch, with one statement for each node.
+    /// cell may have them or not; if there is no table, the four tables and their view are made and the opening rows put, in
+    /// one transaction. A store of an earlier version is carried over, if a cell of this name may have its rows: one
+    /// transaction makes it a store of now with these rows, of the first version with the next epoch.
     ///
-    /// Refused as `Damaged` where other tables are there, or where the tables say no rows, in the first version and without
-    /// the index none that a cell of this name may have; as `Exhausted` where the epoch of a store of the first version
-    /// can't go on; as `Refused` where the database can't be read or written. The store then comes back, over which a
-    /// connection can be opened.
+    /// Refused as `Damaged` if other tables are there, or if the tables say no rows, in an earlier version none that a cell
+    /// of this name may have; as `Exhausted` if the epoch of a store of the first version can't go on; as `Refused` if the
+    /// database can't be read or written. The store then comes back, over which a connection can be opened.
     pub fn adopt(
         alloc: Global,
         conn: Connection<S>,

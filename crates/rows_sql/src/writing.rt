@@ -4,10 +4,8 @@ mod carrying;
 mod changes;
 mod creation;
 mod edits;
-mod indexing;
 mod values;
 
 pub use carrying::carry_over;
 pub use changes::commit_all;
 pub use creation::make_store;
-pub(crate) use indexing::add_index;

@@ -37,7 +37,7 @@ fn put_under(children: &mut Table<Name, Name>, name: &Name) -> Result<(), AllocE
     Ok(())
 }
 
-/// What the fifth table of a store of this version has to say: none in the first, which has no such table.
+/// What the fifth table of a store of this version has to say: none in the first and in one of now, which have no such table.
 pub(crate) fn children_for(
     alloc: Global,
     version: Version,
@@ -47,6 +47,7 @@ pub(crate) fn children_for(
 {
     match version {
         Version::First => Ok(Table::new(alloc)),
+        Version::Third => Ok(Table::new(alloc)),
         Version::Unindexed | Version::Second => children_of(alloc, nodes),
     }
 }

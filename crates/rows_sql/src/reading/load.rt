@@ -23,7 +23,7 @@ pub fn load_said<S: Alter>(alloc: Global, conn: &mut Connection<S>) -> Result<Ro
     ensures ready { HasCleanDisk (state S.Store conn.new) → IsReady (state S.Store conn.old) → result ≢ Err StoreFault.Refused → IsStill (state S.Store conn.old) (state S.Store conn.new) }
     ensures counted { result ≡ Err StoreFault.Exhausted → ⊥ }
 {
-    load_as(alloc, conn, Version::Second)
+    load_as(alloc, conn, Version::Third)
 }
 
 /// The rows that the tables of a store of this version say, whether a cell may have them or not.

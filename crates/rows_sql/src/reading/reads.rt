@@ -13,7 +13,7 @@ use crate::schema::Version;
 use sqlite::{Alter, Connection, Error, Row};
 use std::alloc::Global;
 
-/// The rows of the tables, as they were read; of children none in a store of the first version.
+/// The rows of the tables, as they were read; of children only in a store of the second version.
 #[derive(Drop)]
 pub(crate) struct Raw {
     pub metas: Vec<Row>,
@@ -96,6 +96,7 @@ fn read_children<S: Alter>(
 {
     match version {
         Version::First => Ok(Vec::new(alloc)),
+        Version::Third => Ok(Vec::new(alloc)),
         Version::Unindexed | Version::Second => read_all(
             conn,
             "SELECT parent, child FROM children ORDER BY parent, child",

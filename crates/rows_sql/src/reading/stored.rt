@@ -2,7 +2,7 @@
 ghost use Rattle.std.specs.Prelude.{◌≡◌, ◌==◌, IfOk};
 ghost use Rattle.sqlite_value.specs.Order.{column, bytes};
 ghost use Rattle.sqlite.specs.Edit.{id_in};
-ghost use Rattle.rows_sql.specs.Decode.{count_of, count_in, node_with, name_in, component_in, secret_in, kind_of, life_of, live_of, lock_state_of, numbers_in, acls_in, node_in, session_in, lock_in, child_in, meta_as};
+ghost use Rattle.rows_sql.specs.Decode.{count_of, count_in, node_with, name_in, component_in, secret_in, kind_of, life_of, live_of, lock_state_of, numbers_in, acls_in, node_in, session_in, lock_in, child_in, is_row_of, meta_as};
 
 use crate::schema::Version;
 use collections::{Bytes, Secret};
@@ -299,6 +299,13 @@ pub(crate) fn child_of(alloc: Global, row: &Row) -> Result<Option<(Name, Name)>,
     Ok(Some((child, parent)))
 }
 
+// Whether it is the row of a cell, with the number of this version.
+fn is_row_of(version: Version, row: &Row) -> bool
+    ensures { result ≡ is_row_of version row.now }
+{
+    number_at(row, 0) == 1 && number_at(row, 1) == version.number()
+}
+
 /// What the row of the cell says, in a store of this version.
 pub(crate) fn meta_of(
     alloc: Global,
@@ -307,7 +314,7 @@ pub(crate) fn meta_of(
 ) -> Result<Option<Meta>, AllocError>
     ensures { IfOk result (λ meta. meta ≡ meta_as version row.now) }
 {
-    if !(number_at(row, 0) == 1 && number_at(row, 1) == version.number()) {
+    if !is_row_of(version, row) {
         return Ok(None);
     }
     let Some(epoch) = count_at(row, 4) else {

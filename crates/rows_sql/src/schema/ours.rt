@@ -1,7 +1,7 @@
 //! Whether a schema is that of a store, field by field.
 ghost use Rattle.std.specs.Prelude.{◌≡◌, ◌↔◌, IsTrue, IfOk};
-ghost use Rattle.rows_sql.specs.OurSchema.{the_schema, unindexed_schema, first_schema};
-ghost use Rattle.rows_sql.specs.Fields.{is_meta, is_nodes, is_sessions, is_locks, is_children, is_bound, has_key_indexes, has_four_indexes, has_indexes, has_four, has_fifth, is_first, is_unindexed, is_ours};
+ghost use Rattle.rows_sql.specs.OurSchema.{the_schema, second_schema, unindexed_schema, first_schema};
+ghost use Rattle.rows_sql.specs.Fields.{is_meta, is_nodes, is_sessions, is_locks, is_children, is_bound, has_key_indexes, has_four_indexes, has_indexes, has_four, has_fifth, is_the_children, has_the_children, is_first, is_unindexed, is_second, is_ours};
 ghost use Rattle.rows_sql.specs.Versions.{number_of, IsVersionOf};
 
 use crate::schema::columns::{
@@ -11,16 +11,17 @@ use crate::schema::keys::{
     has_by_child, has_key, has_orders, index_at, is_bare, is_key_of, is_to_node,
 };
 use sqlite_items::Items;
-use sqlite_schema::schema::{Index, Schema, Table};
+use sqlite_schema::schema::{Index, Schema, Table, View};
 use std::alloc::{AllocError, Global};
 
-/// The version of a store's schema. A store of the first has no table of children; one of the second that an earlier
-/// program made lacks the index of these by their own names.
+/// The version of a store's schema. A store of the first has four tables; one of the second a fifth, of the children, which
+/// may lack the index of these by their own names; one of now has the four, and a view of the children.
 #[derive(Clone, Copy, Debug, PartialEq, Eq)]
 pub enum Version {
     First,
     Unindexed,
     Second,
+    Third,
 }
 
 impl Version {
@@ -32,6 +33,7 @@ impl Version {
             Version::First => 1,
             Version::Unindexed => 2,
             Version::Second => 2,
+            Version::Third => 3,
         }
     }
 }
@@ -285,8 +287,62 @@ fn has_fifth(alloc: Global, tables: &Items<Table>) -> Result<bool, AllocError>
     }
 }
 
-fn has_all(alloc: Global, schema: &Schema) -> Result<bool, AllocError>
+fn is_the_children(view: &View) -> bool
+    ensures { result ≡ is_the_children view.now }
+{
+    if view.name.as_slice() != b"children".as_slice() {
+        return false;
+    }
+    if view.tree != 7 {
+        return false;
+    }
+    if view.sql.as_slice()
+        != b"CREATE VIEW children (parent, child) AS SELECT p.name, c.name FROM nodes AS p, nodes AS c WHERE c.name > p.name || '/' AND c.name < p.name || '0' AND length(c.name) - length(replace(c.name, '/', '')) = length(p.name) - length(replace(p.name, '/', '')) + 1".as_slice()
+    {
+        return false;
+    }
+    if view.foreign.is_some() {
+        return false;
+    }
+    if view.binds {
+        return false;
+    }
+    !view.is_bound
+}
+
+// Whether there is just the view of the children.
+fn has_the_children(views: &Items<View>) -> bool
+    ensures { result ≡ has_the_children views.now }
+{
+    if views.len() != 1 {
+        return false;
+    }
+    match views.get(0) {
+        Some(view) => is_the_children(view),
+        None => false,
+    }
+}
+
+fn has_ours(alloc: Global, schema: &Schema) -> Result<bool, AllocError>
     ensures { IfOk result (λ ours. ours ≡ is_ours schema.now) }
+{
+    if !has_the_children(&schema.views) {
+        return Ok(false);
+    }
+    if schema.indexes.len() != 3 {
+        return Ok(false);
+    }
+    if !has_key_indexes(&schema.indexes) {
+        return Ok(false);
+    }
+    if schema.tables.len() != 4 {
+        return Ok(false);
+    }
+    has_four(alloc, &schema.tables)
+}
+
+fn has_all(alloc: Global, schema: &Schema) -> Result<bool, AllocError>
+    ensures { IfOk result (λ second. second ≡ is_second schema.now) }
 {
     if schema.views.len() != 0 {
         return Ok(false);
@@ -342,24 +398,30 @@ fn has_first(alloc: Global, schema: &Schema) -> Result<bool, AllocError>
     has_four(alloc, &schema.tables)
 }
 
-/// Whether a schema is that of a cell's store: the five tables with just these columns, keys and references, their
-/// indexes, and nothing beside them. It is refused for want of memory alone, since the checks of a table are lent as a
-/// copy.
+/// Whether a schema is that of a cell's store: the four tables with just these columns, keys and references, their
+/// indexes, the view of the children, and nothing beside them. It is refused for want of memory alone, since the checks of a
+/// table are lent as a copy.
 pub fn is_ours(alloc: Global, schema: &Schema) -> Result<bool, AllocError>
     ensures { IfOk result (λ ours. IsTrue ours ↔ (schema.now ≡ the_schema)) }
+{
+    has_ours(alloc, schema)
+}
+
+// Whether a schema is that of a store of the second version: five tables and their indexes. Refused as `is_ours` is.
+fn is_second(alloc: Global, schema: &Schema) -> Result<bool, AllocError>
+    ensures { IfOk result (λ second. IsTrue second ↔ (schema.now ≡ second_schema)) }
 {
     has_all(alloc, schema)
 }
 
-// Whether a schema is that of a store that lacks the last index alone. Refused as `is_ours` is.
+// Whether a schema is that of a store of the second version that lacks the last index alone. Refused as `is_ours` is.
 fn is_unindexed(alloc: Global, schema: &Schema) -> Result<bool, AllocError>
     ensures { IfOk result (λ unindexed. IsTrue unindexed ↔ (schema.now ≡ unindexed_schema)) }
 {
     has_all_but_one(alloc, schema)
 }
 
-/// Whether a schema is that of a store of the first version: the same without the table of children. Refused as
-/// `is_ours` is.
+/// Whether a schema is that of a store of the first version: the four tables alone. Refused as `is_ours` is.
 pub fn is_first(alloc: Global, schema: &Schema) -> Result<bool, AllocError>
     ensures { IfOk result (λ first. IsTrue first ↔ (schema.now ≡ first_schema)) }
 {
@@ -371,6 +433,9 @@ pub fn version_of(alloc: Global, schema: &Schema) -> Result<Option<Version>, All
     ensures { IfOk result (λ version. IsVersionOf schema.now version) }
 {
     if is_ours(alloc, schema)? {
+        return Ok(Some(Version::Third));
+    }
+    if is_second(alloc, schema)? {
         return Ok(Some(Version::Second));
     }
     if is_unindexed(alloc, schema)? {

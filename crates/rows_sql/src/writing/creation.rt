@@ -2,9 +2,8 @@
 ghost use Rattle.std.specs.Prelude.{◌≡◌, [], false, OnOk, OnErr};
 ghost use Rattle.sqlite.specs.State.{HasCleanDisk, KeepsCommit, Survives};
 ghost use Rattle.sqlite.specs.Held.{state};
-ghost use Rattle.rows_sql.specs.OurSchema.{first_schema, unindexed_schema, the_schema};
-ghost use Rattle.rows_sql.specs.Carrying.{AddsAll};
-ghost use Rattle.rows_sql.specs.Creation.{no_schema, with_meta, with_nodes, with_sessions, Makes, AddsChildren, AddsIndex, PutsCell, MakesBare, Opens, IsMade, MayOpen, StaysInside, opening_edits};
+ghost use Rattle.rows_sql.specs.OurSchema.{first_schema, the_schema};
+ghost use Rattle.rows_sql.specs.Creation.{no_schema, with_meta, with_nodes, with_sessions, Makes, AddsView, PutsCell, MakesBare, Opens, IsMade, MayOpen, StaysInside, opening_edits};
 
 use crate::writing::changes::edit_all;
 use crate::writing::edits::run;
@@ -60,42 +59,18 @@ fn make_locks<S: Alter>(tx: &mut Transaction<'_, S>) -> Result<(), Error>
     )
 }
 
-fn make_children<S: Alter>(tx: &mut Transaction<'_, S>) -> Result<(), Error>
-    ensures same { tx.new.conn.ghost_name ≡ tx.old.conn.ghost_name }
-    ensures ok { HasCleanDisk (state S.Store tx.new.conn.now) → OnOk result (Makes first_schema unindexed_schema (state S.Store tx.old.conn.now) (state S.Store tx.new.conn.now)) }
-    ensures adds { HasCleanDisk (state S.Store tx.new.conn.now) → OnOk result (AddsChildren (state S.Store tx.old.conn.now) (state S.Store tx.new.conn.now)) }
-    ensures stays { StaysInside (state S.Store tx.old.conn.now) (state S.Store tx.new.conn.now) }
-{
-    run(
-        tx,
-        "CREATE TABLE children (parent TEXT NOT NULL, child TEXT NOT NULL REFERENCES nodes (name) ON DELETE CASCADE, PRIMARY KEY (parent, child)) STRICT",
-        &[],
-    )
-}
-
-/// Makes the last index, where the five tables are there.
-pub(crate) fn make_index<S: Alter>(tx: &mut Transaction<'_, S>) -> Result<(), Error>
-    ensures same { tx.new.conn.ghost_name ≡ tx.old.conn.ghost_name }
-    ensures ok { HasCleanDisk (state S.Store tx.new.conn.now) → OnOk result (Makes unindexed_schema the_schema (state S.Store tx.old.conn.now) (state S.Store tx.new.conn.now)) }
-    ensures adds { HasCleanDisk (state S.Store tx.new.conn.now) → OnOk result (AddsIndex (state S.Store tx.old.conn.now) (state S.Store tx.new.conn.now)) }
-    ensures stays { StaysInside (state S.Store tx.old.conn.now) (state S.Store tx.new.conn.now) }
-{
-    run(
-        tx,
-        "CREATE INDEX children_by_child ON children (child)",
-        &[],
-    )
-}
-
-/// Makes the fifth table with its index, where the four are there.
-pub(crate) fn make_fifth<S: Alter>(tx: &mut Transaction<'_, S>) -> Result<(), Error>
+/// Makes the view of the children, if the four tables are there.
+pub(crate) fn make_view<S: Alter>(tx: &mut Transaction<'_, S>) -> Result<(), Error>
     ensures same { tx.new.conn.ghost_name ≡ tx.old.conn.ghost_name }
     ensures ok { HasCleanDisk (state S.Store tx.new.conn.now) → OnOk result (Makes first_schema the_schema (state S.Store tx.old.conn.now) (state S.Store tx.new.conn.now)) }
-    ensures adds { HasCleanDisk (state S.Store tx.new.conn.now) → OnOk result (AddsAll [] (state S.Store tx.old.conn.now) (state S.Store tx.new.conn.now)) }
+    ensures adds { HasCleanDisk (state S.Store tx.new.conn.now) → OnOk result (AddsView (state S.Store tx.old.conn.now) (state S.Store tx.new.conn.now)) }
     ensures stays { StaysInside (state S.Store tx.old.conn.now) (state S.Store tx.new.conn.now) }
 {
-    make_children(tx)?;
-    make_index(tx)
+    run(
+        tx,
+        "CREATE VIEW children (parent, child) AS SELECT p.name, c.name FROM nodes AS p, nodes AS c WHERE c.name > p.name || '/' AND c.name < p.name || '0' AND length(c.name) - length(replace(c.name, '/', '')) = length(p.name) - length(replace(p.name, '/', '')) + 1",
+        &[],
+    )
 }
 
 fn make_meta_and_nodes<S: Alter>(tx: &mut Transaction<'_, S>) -> Result<(), Error>
@@ -131,7 +106,7 @@ fn make_tables<S: Alter>(tx: &mut Transaction<'_, S>) -> Result<(), Error>
     ensures stays { StaysInside (state S.Store tx.old.conn.now) (state S.Store tx.new.conn.now) }
 {
     make_four(tx)?;
-    make_fifth(tx)
+    make_view(tx)
 }
 
 // Puts the row of the cell.
@@ -144,7 +119,7 @@ fn put_cell<S: Alter>(tx: &mut Transaction<'_, S>, settings: &Settings) -> Resul
     let secret = settings.secret().as_bytes();
     run(
         tx,
-        "INSERT INTO meta (id, version, cell, secret, epoch, next_instance) VALUES (1, 2, ?1, ?2, 0, 4) ON CONFLICT (id) DO UPDATE SET version = excluded.version, cell = excluded.cell, secret = excluded.secret, epoch = excluded.epoch, next_instance = excluded.next_instance",
+        "INSERT INTO meta (id, version, cell, secret, epoch, next_instance) VALUES (1, 3, ?1, ?2, 0, 4) ON CONFLICT (id) DO UPDATE SET version = excluded.version, cell = excluded.cell, secret = excluded.secret, epoch = excluded.epoch, next_instance = excluded.next_instance",
         &[ValueRef::Text(cell), ValueRef::Blob(secret)],
     )
 }
@@ -174,8 +149,8 @@ fn fill<S: Alter>(
     edit_all(tx, nodes)
 }
 
-/// Makes the five tables and puts the rows of a new store, in one transaction, where the database has no table yet. `nodes`
-/// puts the nodes of a new store.
+/// Makes the four tables and their view, and puts the rows of a new store, in one transaction, if the database has no table
+/// yet. `nodes` puts the nodes of a new store.
 pub fn make_store<S: Alter>(
     conn: &mut Connection<S>,
     settings: &Settings,

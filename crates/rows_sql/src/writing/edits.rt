@@ -1,10 +1,10 @@
-//! The eight edits, in a transaction: each is one statement, but a put of a node that isn't there, which is three.
+//! The eight edits, in a transaction: each is one statement, but a put of a node that isn't there, which is two.
 ghost use Rattle.std.specs.Prelude.{◌≡◌, ◌∷◌, [], OnOk, IfOk};
 ghost use Rattle.sqlite.specs.Values.{bound};
 ghost use Rattle.sqlite.specs.State.{HasCleanDisk, KeepsCommit, Survives};
 ghost use Rattle.sqlite.specs.Held.{state};
 ghost use Rattle.rows_cell.specs.declared.tables.Edit.TheVariants.{Epoch, NextInstance, PutNode, LockGeneration, RemoveNode, PutSession, PutLock, RemoveLock};
-ghost use Rattle.rows_sql.specs.Ongoing.{RanInside, RanCounted, Changed, Renews, PutsEntry, PutsChild};
+ghost use Rattle.rows_sql.specs.Ongoing.{RanInside, RanCounted, Changed, Renews};
 
 use crate::writing::values::{kind_as, life_as, live_as, mode_as, number};
 use names_cell::Name;
@@ -71,7 +71,7 @@ pub(crate) fn set_next_instance<S: Alter>(
     )
 }
 
-/// Puts a node: one that is there keeps the generation of its lock, and another gets its name under its parent.
+/// Puts a node: one that is there keeps the generation of its lock.
 pub(crate) fn put_node<S: Alter>(
     tx: &mut Transaction<'_, S>,
     name: &Name,
@@ -86,42 +86,6 @@ pub(crate) fn put_node<S: Alter>(
         return Ok(());
     }
     add_node(tx, name, node)
-}
-
-// Puts a node that isn't there, and its name under its parent.
-fn add_node<S: Alter>(tx: &mut Transaction<'_, S>, name: &Name, node: &Node) -> Result<(), Error>
-    ensures same { tx.new.conn.ghost_name ≡ tx.old.conn.ghost_name }
-    ensures ok { HasCleanDisk (state S.Store tx.new.conn.now) → OnOk result (Changed (PutNode name.now node.now ∷ []) (state S.Store tx.old.conn.now) (state S.Store tx.new.conn.now)) }
-    ensures kept { HasCleanDisk (state S.Store tx.new.conn.now) → KeepsCommit (state S.Store tx.old.conn.now) (state S.Store tx.new.conn.now) }
-    ensures survives { Survives (state S.Store tx.old.conn.now) (state S.Store tx.new.conn.now) (λ _. ⊥) }
-{
-    let parent = name.parent()?;
-    add_entry(tx, name, node)?;
-    match parent {
-        Some(parent) => put_child(tx, &parent, name),
-        None => Ok(()),
-    }
-}
-
-/// Puts a name under its parent. It is refused where it is there.
-pub(crate) fn put_child<S: Alter>(
-    tx: &mut Transaction<'_, S>,
-    parent: &Name,
-    child: &Name,
-) -> Result<(), Error>
-    ensures same { tx.new.conn.ghost_name ≡ tx.old.conn.ghost_name }
-    ensures ok { HasCleanDisk (state S.Store tx.new.conn.now) → OnOk result (PutsChild child.now parent.now (state S.Store tx.old.conn.now) (state S.Store tx.new.conn.now)) }
-    ensures kept { HasCleanDisk (state S.Store tx.new.conn.now) → KeepsCommit (state S.Store tx.old.conn.now) (state S.Store tx.new.conn.now) }
-    ensures survives { Survives (state S.Store tx.old.conn.now) (state S.Store tx.new.conn.now) (λ _. ⊥) }
-{
-    run(
-        tx,
-        "INSERT INTO children (parent, child) VALUES (?1, ?2)",
-        &[
-            ValueRef::Text(parent.as_str().as_bytes()),
-            ValueRef::Text(child.as_str().as_bytes()),
-        ],
-    )
 }
 
 // Puts the row of a node that is there, and answers whether it is.
@@ -157,10 +121,10 @@ fn renew_entry<S: Alter>(
     Ok(count != 0)
 }
 
-// Puts the row of a node that isn't there.
-fn add_entry<S: Alter>(tx: &mut Transaction<'_, S>, name: &Name, node: &Node) -> Result<(), Error>
+// Puts a node that isn't there.
+fn add_node<S: Alter>(tx: &mut Transaction<'_, S>, name: &Name, node: &Node) -> Result<(), Error>
     ensures same { tx.new.conn.ghost_name ≡ tx.old.conn.ghost_name }
-    ensures ok { HasCleanDisk (state S.Store tx.new.conn.now) → OnOk result (PutsEntry name.now node.now (state S.Store tx.old.conn.now) (state S.Store tx.new.conn.now)) }
+    ensures ok { HasCleanDisk (state S.Store tx.new.conn.now) → OnOk result (Changed (PutNode name.now node.now ∷ []) (state S.Store tx.old.conn.now) (state S.Store tx.new.conn.now)) }
     ensures kept { HasCleanDisk (state S.Store tx.new.conn.now) → KeepsCommit (state S.Store tx.old.conn.now) (state S.Store tx.new.conn.now) }
     ensures survives { Survives (state S.Store tx.old.conn.now) (state S.Store tx.new.conn.now) (λ _. ⊥) }
 {
@@ -204,7 +168,7 @@ pub(crate) fn set_lock_generation<S: Alter>(
     )
 }
 
-/// Removes a node, its name from under its parent, and its locks: the references of the schema take these with it.
+/// Removes a node, and its locks: the reference of the schema takes these with it.
 pub(crate) fn remove_node<S: Alter>(tx: &mut Transaction<'_, S>, name: &Name) -> Result<(), Error>
     ensures same { tx.new.conn.ghost_name ≡ tx.old.conn.ghost_name }
     ensures ok { HasCleanDisk (state S.Store tx.new.conn.now) → OnOk result (Changed (RemoveNode name.now ∷ []) (state S.Store tx.old.conn.now) (state S.Store tx.new.conn.now)) }

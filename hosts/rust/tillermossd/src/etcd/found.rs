@@ -26,9 +26,8 @@ const TABLES: &str = "
     CREATE TABLE nodes (name, instance, kind, life, content_gen, acl_gen, lock_gen, acl_read, acl_write, acl_change, content);
     CREATE TABLE sessions (client, principal, live);
     CREATE TABLE locks (instance, client, handle, mode, delay);
-    CREATE TABLE children (parent, child);
     CREATE TABLE meta (id, version, cell, secret, epoch, next_instance);
-    INSERT INTO meta VALUES (1, 2, '', '', 0, 0);";
+    INSERT INTO meta VALUES (1, 3, '', '', 0, 0);";
 
 /// What was found.
 #[derive(Debug, Default, PartialEq, Eq)]
@@ -225,7 +224,7 @@ impl Found {
 
     /// Puts them into the tables of a store, in the place of what stands there.
     pub fn fill(&self, connection: &Connection) -> Result<()> {
-        connection.execute_batch("DELETE FROM locks; DELETE FROM children; DELETE FROM sessions; DELETE FROM nodes;")?;
+        connection.execute_batch("DELETE FROM locks; DELETE FROM sessions; DELETE FROM nodes;")?;
         if let Some((meta, _)) = &self.meta {
             let secret = hex::decode(&meta.secret)?;
             let set = "UPDATE meta SET cell = ?, secret = ?, epoch = ?, next_instance = ? WHERE id = 1";
@@ -235,8 +234,6 @@ impl Found {
             "INSERT INTO nodes (name, instance, kind, life, content_gen, acl_gen, lock_gen, acl_read, acl_write, acl_change, content)
              VALUES (?, ?, ?, ?, ?, ?, ?, ?, ?, ?, ?)",
         )?;
-        let mut child = connection.prepare("INSERT INTO children (parent, child) VALUES (?, ?)")?;
-        // (a parent stands before its children)
         for (name, node) in &self.nodes {
             let (kind, life) = (place(&KINDS, &node.kind)?, place(&LIVES, &node.life)?);
             let generation = self.generations.get(name).copied().unwrap_or(0);
@@ -254,11 +251,6 @@ impl Found {
                 node.change,
                 content
             ])?;
-        }
-        for name in self.nodes.keys() {
-            if let Some((parent, _)) = name.rsplit_once('/').filter(|(parent, _)| *parent != "/ls") {
-                child.execute(params![parent, name])?;
-            }
         }
         for (client, session) in &self.sessions {
             connection.execute(
@@ -411,9 +403,6 @@ pub mod tests {
     fn tables_have_the_same_rows() {
         let wanted = found();
         assert_eq!(Found::of_tables(&wanted.tables().unwrap()).unwrap(), wanted);
-        let children = "SELECT parent || ' ' || child FROM children";
-        let told: String = wanted.tables().unwrap().query_row(children, [], |row| row.get(0)).unwrap();
-        assert_eq!(told, "/ls/c /ls/c/f");
     }
 
     #[test]

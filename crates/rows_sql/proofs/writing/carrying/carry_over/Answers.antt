@@ -11,15 +11,15 @@ use Rattle.rows_sql.proofs.writing.carrying.carry_over.Goals as goal
 pub returns-clause-ok : goal.returns-clause-ok
 returns-clause-ok g c =
     let old = c.args.conn.now in
-    let children = c.args.children.now in
+    let version = c.args.version in
     let epoch = c.args.epoch in
     let mid = state g.S.Store c.carry.new.tx.conn.now in
     let end = c.commit.new.self.0 in
     let same : end ≡ c.conn-2-1.given.0 = search rules in
     let begun = c.transaction-tx.ensures.begun in
-    subst (λ h. HasCleanDisk (state g.S.Store h) → OnOk c.commit.result (IsCarried children epoch (state g.S.Store old) (state g.S.Store h))) same (λ clean.
-    let did : Carries children epoch (state g.S.Store (record old { in_transaction = true })) mid = rw begun at (c.in_ok-carry.ensures.ok (omega (arith, clean, c.commit.ensures.survives.clean))) in
-    ok_then c.commit.result (λ ended. carried_all g.S.Store old children epoch mid (state g.S.Store end) did ended.1) (c.commit.ensures.ok clean))
+    subst (λ h. HasCleanDisk (state g.S.Store h) → OnOk c.commit.result (IsCarried version epoch (state g.S.Store old) (state g.S.Store h))) same (λ clean.
+    let did : Carries version epoch (state g.S.Store (record old { in_transaction = true })) mid = rw begun at (c.in_ok-carry.ensures.ok (omega (arith, clean, c.commit.ensures.survives.clean))) in
+    ok_then c.commit.result (λ ended. carried_all g.S.Store old version epoch mid (state g.S.Store end) did ended.1) (c.commit.ensures.ok clean))
 
 pub returns-clause-err : goal.returns-clause-err
 returns-clause-err g c =
@@ -35,15 +35,15 @@ returns-clause-err g c =
 pub returns-clause-survives : goal.returns-clause-survives
 returns-clause-survives g c =
     let old = c.args.conn.now in
-    let children = c.args.children.now in
+    let version = c.args.version in
     let epoch = c.args.epoch in
     let mid = state g.S.Store c.carry.new.tx.conn.now in
     let end = c.commit.new.self.0 in
     let same : end ≡ c.conn-2-1.given.0 = search rules in
     let begun = c.transaction-tx.ensures.begun in
     let before : Survives (state g.S.Store (record old { in_transaction = true })) mid (λ _. ⊥) = rw begun at c.carry.ensures.stays.survives in
-    subst (λ h. Survives (state g.S.Store old) (state g.S.Store h) (MayCarry children epoch (state g.S.Store old))) same
-    (survives_carried g.S.Store old children epoch mid (state g.S.Store end) before (λ clean. rw begun at (c.in_ok-carry.ensures.ok clean)) c.commit.ensures.survives)
+    subst (λ h. Survives (state g.S.Store old) (state g.S.Store h) (MayCarry version epoch (state g.S.Store old))) same
+    (survives_carried g.S.Store old version epoch mid (state g.S.Store end) before (λ clean. rw begun at (c.in_ok-carry.ensures.ok clean)) c.commit.ensures.survives)
 
 pub returns-in_err-carry-clause-err : goal.returns-in_err-carry-clause-err
 returns-in_err-carry-clause-err g c =
@@ -60,12 +60,12 @@ returns-in_err-carry-clause-err g c =
 pub returns-in_err-carry-clause-survives : goal.returns-in_err-carry-clause-survives
 returns-in_err-carry-clause-survives g c =
     let old = c.args.conn.now in
-    let children = c.args.children.now in
+    let version = c.args.version in
     let epoch = c.args.epoch in
     let mid = state g.S.Store c.carry.new.tx.conn.now in
     let end = c.drop-tx.new.self.0 in
     let same : end ≡ c.conn-1.given.0 = search rules in
     let begun = c.transaction-tx.ensures.begun in
     let before : Survives (state g.S.Store (record old { in_transaction = true })) mid (λ _. ⊥) = rw begun at c.carry.ensures.stays.survives in
-    subst (λ h. Survives (state g.S.Store old) (state g.S.Store h) (MayCarry children epoch (state g.S.Store old))) same
-    (survives_uncarried g.S.Store old children epoch mid (state g.S.Store end) before c.drop-tx.ensures.survives)
+    subst (λ h. Survives (state g.S.Store old) (state g.S.Store h) (MayCarry version epoch (state g.S.Store old))) same
+    (survives_uncarried g.S.Store old version epoch mid (state g.S.Store end) before c.drop-tx.ensures.survives)

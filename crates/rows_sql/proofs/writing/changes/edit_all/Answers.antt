@@ -16,7 +16,7 @@ loop-it-preserved g c =
     let within : i < length all = search rules in
     let is : drop i all ≡ c.it-item.result ∷ left = rw add-one (drop-cons all i c.it-item.result within ∙ ap (λ x. x ∷ drop (suc i) all) (sym c.it-item.is)) in
     let now = state g.S.Store c.edit_or_leave.new.tx.conn.now in
-    let rest : c.after_first-later.result ≡ left = c.after_first-later.ensures ∙ ap (drop 1) (c.loop-it.invariant.later ∙ is) in
+    let rest : c.after_first-later.result.now ≡ left = c.after_first-later.ensures ∙ ap (drop 1) (c.loop-it.invariant.later ∙ is) in
     record {
       same = c.in_ok-edit_or_leave.ensures.same ∙ c.loop-it.invariant.same;
       later = rest;

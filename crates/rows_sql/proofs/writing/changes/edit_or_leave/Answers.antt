@@ -1,3 +1,4 @@
+use Rattle.std.proofs.Common.{sym, ◌∙◌}
 use Rattle.sqlite.specs.Held.{state}
 use Rattle.rows_sql.proofs.WriteSteps.{survives_itself}
 use Rattle.rows_sql.proofs.Overtaking.{left_to_later, done_if_ok}
