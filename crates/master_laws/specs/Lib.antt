@@ -2,6 +2,7 @@ pub mod Steps
 pub mod Opens
 pub mod Makes
 pub mod Closed
+pub mod Leaves
 pub mod Refused
 pub mod Waits
 pub mod Settling

@@ -4,6 +4,7 @@
 
 mod free_locks;
 mod handles;
+mod leaves;
 mod limits;
 mod opens;
 mod refusals;
@@ -15,6 +16,7 @@ pub use handles::{
     close_closes, close_closes_for_good, closed_for_good_by_messages, closed_for_good_by_sweeps,
     closed_for_good_forever, closed_handle_is_refused, closed_handle_stays_closed,
 };
+pub use leaves::{leave_ends_session, leave_waits_beside};
 pub use limits::cells_stay_within;
 pub use opens::{
     given_handle_is_open, kept_numbers_are_carried, makes_only_where_permitted,
