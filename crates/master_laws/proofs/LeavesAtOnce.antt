@@ -1,5 +1,5 @@
 -- A Leave waits beside a call that waits for a lock, and at its turn its client's session ends, with all that it held or awaited.
-use Rattle.std.proofs.Common.{◌≡◌, ℕ, ◌<◌, List, [], ◌∷◌, ◌++◌, Bool, true, false, cond, Option, Some, None, Result, Ok, Err, refl, sym, ap, subst, ◌∙◌, eqb, arith}
+use Rattle.std.proofs.Common.{◌≡◌, ℕ, ◌<◌, List, [], ◌∷◌, ◌++◌, Bool, true, false, cond, Option, Some, None, Result, Ok, Err, refl, sym, ap, subst, ◌∙◌, arith}
 use Rattle.std.specs.Prelude.{◌==◌, ◌&&◌, ◌||◌, not, nat_lt, nat_le, max, fold, is_none, Contains}
 use Rattle.std.specs.Option.{option_map, option_map_or}
 use Rattle.std.specs.List.{list_all, list_any}
@@ -9,7 +9,6 @@ use Rattle.std.proofs.lemmas.List.Elements.{Contains-push, Contains-append_left}
 use Rattle.node_core.specs.Limits.{lock_delay_limit}
 use Rattle.node_core.specs.declared.refusals.Fault.{Fault}
 use Rattle.node_core.specs.declared.refusals.Fault.TheVariants as faults
-use Rattle.rows_cell.specs.declared.tables.Rows.{Rows}
 use Rattle.rows_cell.specs.Sound.{is_number}
 use Rattle.tags_cell.specs.Messages.{is_leave}
 use Rattle.tags_cell.specs.Numbers.{is_client_number}
@@ -47,17 +46,17 @@ use Rattle.master_state.specs.State.{MasterState}
 use Rattle.master_state.specs.Updates.{with_kept_put}
 use Rattle.master_state.specs.declared.updates.KeptPut.{KeptPut}
 use Rattle.cell_core.specs.Cases.{IsHeard, IsBeside}
-use Rattle.cell_core.specs.Step.{is_older, leaves_beside, live_step, kept_step, ended_step, call_step, take_at, take_step, is_past_end, waits, with_call}
+use Rattle.cell_core.specs.Step.{is_older, leaves_beside, kept_step, ended_step, call_step, take_at, take_step, is_past_end, waits, with_call}
 use Rattle.over_core.specs.declared.plans.Plan.{Plan}
 use Rattle.over_core.specs.declared.swept.Swept.{Swept}
-use Rattle.over_core.specs.Kept.{IsKept, claim_fits, waiter_fits}
-use Rattle.over_core.specs.Plans.{tellings_of, first_action, no_plan, parting_plan, plan_leave, plan_live, plan_work, plan_task, plan_of, leaving}
-use Rattle.over_core.specs.Sweep.{sweep_step, swept}
+use Rattle.over_core.specs.Kept.{claim_fits, waiter_fits}
+use Rattle.over_core.specs.Plans.{tellings_of, first_action, no_plan, parting_plan, plan_live, plan_work, plan_task, plan_of, leaving}
+use Rattle.over_core.specs.Sweep.{swept}
 use Rattle.over_core.proofs.SessionReads.{lives_in, reads_step}
 use Rattle.over_core.proofs.SweepCases.{does_first}
 use Rattle.over_core.proofs.ToldSessions.{reads_told}
 use Rattle.master_laws.specs.Steps.{IsBeingApplied}
-use Rattle.master_laws.specs.Leaves.{LeaveWaitsBeside, HasLeft, LeaveEndsSession}
+use Rattle.master_laws.specs.Leaves.{LeaveWaitsBeside, LeaveEndsSession}
 use Rattle.master_laws.proofs.Applications.{done_as}
 use Rattle.master_laws.proofs.Settled.{Stands, stands_behind}
 
@@ -202,7 +201,7 @@ leave_ends_session cell rows s new now number told asked sequencer k h turn =
     let over : is_live new asked.client ≡ false = ap (λ (p : MasterState × Swept). is_live p.0 asked.client) is ∙ over_then there number asked sequencer turn found.0 in
     let before : Stands (max s.clock now) now s = record { cell = cell; rows = rows; kept = k; moment = refl } in
     let after = stands_behind (max s.clock now) now s new told before h in
-    let free = λ (instance : ℕ).
+    let free : (instance : ℕ) → concerns asked.client (lock_at new.locks instance) ≡ false = λ instance.
     let lock = after.kept.locks.each instance in
     none_of (any_holds (is_of_client asked.client) (lock_at new.locks instance)) (any_waits (is_of_client asked.client) (lock_at new.locks instance))
     (none_holds new.sessions asked.client over (lock_at new.locks instance).holders lock.holders) (none_waits new.sessions asked.client over (lock_at new.locks instance).waiters lock.waiters) in
