@@ -104,7 +104,9 @@ taken_so s now request p h =
     ]) h
 
 pub leave_waits_beside : LeaveWaitsBeside
-leave_waits_beside s new now message taken h heard beside = taken_so s now (requests.Call message) (new, taken) h ∙ waits_beside (noted s now) message heard beside
+leave_waits_beside s new now message taken h heard beside =
+    let is = taken_so s now (requests.Call message) (new, taken) h ∙ waits_beside (noted s now) message heard beside in
+    (ap (λ (p : MasterState × Taken). p.0) is, ap (λ (p : MasterState × Taken). p.1) is)
 
 -- ---- it ends the session
 

@@ -23,7 +23,7 @@ use Rattle.master_laws.specs.Steps.{IsBeingApplied}
 abbrev pub LeaveWaitsBeside : Type 0
 LeaveWaitsBeside =
     (s new : MasterState) (now : ℕ) (message : CallMessage) (taken : Taken) → take_step s now (requests.Call message) ≡ Ok (new, taken) → IsHeard (noted s now) (requests.Call message) message → IsBeside (noted s now) message
-    → (new, taken) ≡ (with_call (noted s now) message None, nothing)
+    → (new ≡ with_call (noted s now) message None) × (taken ≡ nothing)
 
 -- a client's session is over, and it neither holds a lock nor waits for one
 pub record HasLeft (s : MasterState) (client : ℕ) : Type 0 where
