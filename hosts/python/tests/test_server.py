@@ -160,6 +160,22 @@ class Leaving(WithServer):
         with self.assertRaises(ConnectionError):
             first.open("/ls/c/kept")
 
+    def test_a_close_gives_up_what_another_thread_waits_for(self):
+        first, second, third = self.client(), self.client("bob"), self.client()
+        held, wanted = first.open("/ls/c/awaited", "rw", make=b""), second.open("/ls/c/awaited", "rw")
+        first.acquire(held)
+        refused = []
+        waiter = threading.Thread(target=lambda: refused.append(self.refusal(second.acquire, wanted)))
+        waiter.start()
+        time.sleep(0.2)
+        self.assertTrue(waiter.is_alive())
+        second.close()
+        waiter.join(5)
+        self.assertEqual(refused, ["NoSession"])
+        # (the lock isn't kept for it)
+        first.release(held)
+        third.acquire(third.open("/ls/c/awaited", "rw"), wait=False)
+
 
 class Forks(WithServer):
     def said_by_a_child(self, deed) -> str:
