@@ -121,8 +121,10 @@ class Run:
             self.is_up = False
 
     def is_sent(self, client, call):
-        """The client can't answer a call by itself."""
-        holds("a client has one call under way", client not in self.outstanding, " ".join(call.words))
+        """The client can't answer a call by itself. A leave takes the place of another call, which then has no answer."""
+        before = self.outstanding.get(client)
+        is_free = before is None or call.words[0] == "leave" != before.words[0]
+        holds("a client has one call under way", is_free, " ".join(call.words))
         call.number = self.sent[client] = self.sent.get(client, 0) + 1
         self.outstanding[client] = call
         if call.words[0] in ("set", "delete", "acl") or len(call.words) > 3 and call.words[3] in ("may", "must"):

@@ -55,6 +55,14 @@ impl Session for Cell {
         Ok(())
     }
 
+    fn delete(&mut self, name: &str) -> Measured<()> {
+        Ok(self.client.delete(self.handle(name)?)?)
+    }
+
+    fn list(&mut self, name: &str) -> Measured<usize> {
+        Ok(self.client.list(self.handle(name)?)?.len())
+    }
+
     // (a read after a write is answered by the master, and grants the right to keep it)
     fn follow(&mut self, name: &str) -> Measured<()> {
         self.read(name)

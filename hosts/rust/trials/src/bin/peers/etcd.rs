@@ -253,6 +253,23 @@ impl Session for Etcd {
         if bytes_of(bytes_of(&answer, 2)?, 5)? != CONTENT { Err("another content is there".into()) } else { Ok(()) }
     }
 
+    fn delete(&mut self, name: &str) -> Measured<()> {
+        let answer = self.ask("etcdserverpb.KV/DeleteRange", &Fields::default().bytes(1, name))?;
+        if number_of(&answer, 2)? != 1 { Err("there was no such key".into()) } else { Ok(()) }
+    }
+
+    // The keys with the name and a slash in front, without their values. (0 comes after the slash.)
+    fn list(&mut self, name: &str) -> Measured<usize> {
+        let asked = Fields::default().bytes(1, format!("{name}/")).bytes(2, format!("{name}0")).number(8, 1);
+        let answer = self.ask("etcdserverpb.KV/Range", &asked)?;
+        let mut at = 0;
+        let found = std::iter::from_fn(|| next(&answer, &mut at)).filter_map(|(field, value)| match value {
+            Value::Bytes(pair) if field == 2 => Some(bytes_of(pair, 1).map(|key| String::from_utf8_lossy(key).into_owned())),
+            _ => None,
+        });
+        Ok(found.collect::<Measured<Vec<_>>>()?.len())
+    }
+
     // (the watch goes on; the first message says that it begins)
     fn follow(&mut self, name: &str) -> Measured<()> {
         if self.watch.is_none() {

@@ -20,9 +20,13 @@ const CONTENT: [u8; 64] = [b'a'; 64];
 const FILES: u32 = 2000;
 const READERS: u32 = 8;
 
-/// How many threads fill a service, and so many names stand in one directory.
+/// How many threads fill a service, so many names stand in one directory, and so many directories of a filled service are listed.
 const FILLERS: u32 = 32;
 const CHILDREN: u32 = 1000;
+const DIRECTORIES: u32 = 100;
+
+/// How many files each client deletes.
+const DELETED: u32 = 500;
 
 /// A service as one client with a session sees it. A name is one component or two, as `f` and `d/f`.
 trait Session: Send {
@@ -34,12 +38,16 @@ trait Session: Send {
     fn make_all(&mut self, names: &[String]) -> Measured<()> {
         names.iter().try_for_each(|name| self.make(name))
     }
-    /// Gets what `set` and `read` of the name need, if anything.
+    /// Gets what the calls below need of the name, if anything.
     fn open(&mut self, name: &str) -> Measured<()>;
     /// Writes the content of a file that is open.
     fn set(&mut self, name: &str) -> Measured<()>;
     /// Reads a file that is open; the server answers.
     fn read(&mut self, name: &str) -> Measured<()>;
+    /// Deletes a file that is open.
+    fn delete(&mut self, name: &str) -> Measured<()>;
+    /// How many names stand in an open directory, which this session hasn't listed before: the server answers.
+    fn list(&mut self, name: &str) -> Measured<usize>;
     /// Reads a file that is open, so that `wait_told` is over when the client knows that it is no longer so.
     fn follow(&mut self, name: &str) -> Measured<()>;
     /// Waits until the client knows that what it followed was written.
@@ -78,7 +86,7 @@ fn main() -> Measured<()> {
     let words: Vec<_> = std::env::args().skip(1).collect();
     let [service, address, measure, count, seconds] = &words[..] else {
         return Err(
-            "usage: peers cell|etcd|zookeeper ADDRESS sets|transactions|reads|told|locks|cached|fill|ready|first COUNT SECONDS".into()
+            "usage: peers cell|etcd|zookeeper ADDRESS sets|transactions|creates|deletes|lists|reads|told|locks|cached|fill|ready|first COUNT SECONDS".into()
         );
     };
     let service = match service.as_str() {
@@ -91,6 +99,9 @@ fn main() -> Measured<()> {
     let figure = match measure.as_str() {
         "sets" => sets(service, count, lasting)?,
         "transactions" => transactions(address, count, lasting)?,
+        "creates" => creates(service, count, lasting)?,
+        "deletes" => deletes(service, count)?,
+        "lists" => lists(service, count, lasting)?,
         "reads" => reads(service, count)?,
         "told" => told(service, count, lasting)?,
         "locks" => locks(service, count, lasting)?,
@@ -149,6 +160,58 @@ fn transactions(address: &str, clients: u32, lasting: Duration) -> Measured<f64>
     let clients_there = (0..clients).map(|_| etcd::Etcd::connect(address)).collect::<Measured<Vec<_>>>()?;
     let run = std::process::id();
     all_at_once(clients_there, lasting, |etcd, number| etcd.transact(&format!("transaction{run}-{number}")))
+}
+
+// Files that are made a second, by so many clients in one directory.
+fn creates(service: Service<'_>, clients: u32, lasting: Duration) -> Measured<f64> {
+    let directory = format!("create{}", std::process::id());
+    let mut sessions = service.sessions(clients)?;
+    sessions[0].make_directory(&directory)?;
+    let counting = sessions.into_iter().map(|session| (session, 0)).collect();
+    all_at_once(counting, lasting, |(session, made): &mut (Box<dyn Session>, u32), number| {
+        *made += 1;
+        session.make(&format!("{directory}/{number}-{made}"))
+    })
+}
+
+// Files of one directory that are deleted a second, by so many clients.
+fn deletes(service: Service<'_>, clients: u32) -> Measured<f64> {
+    let directory = format!("delete{}", std::process::id());
+    let mut sessions = service.sessions(clients)?;
+    sessions[0].make_directory(&directory)?;
+    let names = |number: u32| (0..DELETED).map(|at| format!("{directory}/{number}-{at}")).collect::<Vec<_>>();
+    let each = (0..clients).map(names).zip(sessions).collect();
+    let ready = each_by_itself(each, |(names, session): &mut (Vec<String>, Box<dyn Session>)| {
+        session.make_all(names)?;
+        names.iter().try_for_each(|name| session.open(name))
+    })?;
+    let begun = Instant::now();
+    let deleted = each_by_itself(ready, |(names, session)| names.iter().try_for_each(|name| session.delete(name)));
+    let spent = begun.elapsed().as_secs_f64();
+    deleted.map(|_| f64::from(clients * DELETED) / spent)
+}
+
+// Lists a second of directories that `fill` made, by so many clients, each of which lists each once: then others take their place.
+fn lists(service: Service<'_>, clients: u32, lasting: Duration) -> Measured<f64> {
+    let names: Vec<_> = (0..DIRECTORIES).map(|number| format!("fill{number}")).collect();
+    let (begun, mut spent, mut rounds) = (Instant::now(), 0.0, 0);
+    while begun.elapsed() < lasting || rounds == 0 {
+        let sessions = service.sessions(clients)?;
+        let ready = each_by_itself(sessions, |session| names.iter().try_for_each(|name| session.open(name)))?;
+        let listing = Instant::now();
+        let listed = each_by_itself(ready, |session| names.iter().try_for_each(|name| list_whole(session.as_mut(), name)));
+        spent += listing.elapsed().as_secs_f64();
+        rounds += 1;
+        listed?;
+    }
+    Ok(f64::from(rounds * clients * DIRECTORIES) / spent)
+}
+
+fn list_whole(session: &mut dyn Session, name: &str) -> Measured<()> {
+    match session.list(name)? {
+        count if count == CHILDREN as usize => Ok(()),
+        count => Err(format!("{name} has {count} names").into()),
+    }
 }
 
 // Reads a second at the server, by so many clients beside so many sessions, which are kept and do nothing else.

@@ -172,6 +172,14 @@ impl Session for ZooKeeper {
         self.get(name, false)
     }
 
+    fn delete(&mut self, name: &str) -> Measured<()> {
+        self.done(DELETE, Fields::default().text(&path(name)).word(-1)).map(|_| ())
+    }
+
+    fn list(&mut self, name: &str) -> Measured<usize> {
+        Ok(texts(&self.done(CHILDREN, Fields::default().text(&path(name)).flag(false))?)?.len())
+    }
+
     fn follow(&mut self, name: &str) -> Measured<()> {
         self.get(name, true)
     }
