@@ -159,20 +159,21 @@ module _ (client : ℕ) (mode : LockMode) where
   count_leaves (e ∷ es) owner hold sorted found =
       let left : Holders = filter (λ (entry : Owner × Hold). not (is_owner owner entry.0)) es in
       let whole = count_cons holds_so e es in
-      (elim (is_at (owner_order owner) e.0) as (λ b. is_at (owner_order owner) e.0 ≡ b → is_owner owner e.0 ≡ b → cond b (Some e.1) (lookup (is_at (owner_order owner)) es) ≡ Some hold → count_by holds_so (cond (not b) (e ∷ left) left) + one_where (holds_so (owner, hold)) ≡ count_by holds_so (e ∷ es)) [
-        | true ↦ (λ at own k.
-            let same : owner ≡ e.0 = exact_owner owner e.0 (eq_at (owner_order owner e.0) at) in
+      let found_by : cond (is_owner owner e.0) (Some e.1) (lookup (is_at (owner_order owner)) es) ≡ Some hold = sym (ap (λ b. cond b (Some e.1) (lookup (is_at (owner_order owner)) es)) (own_key owner e.0)) ∙ found in
+      (elim (is_owner owner e.0) as (λ b. is_owner owner e.0 ≡ b → cond b (Some e.1) (lookup (is_at (owner_order owner)) es) ≡ Some hold → count_by holds_so (cond (not b) (e ∷ left) left) + one_where (holds_so (owner, hold)) ≡ count_by holds_so (e ∷ es)) [
+        | true ↦ (λ own k.
+            let same : owner ≡ e.0 = exact_owner owner e.0 (eq_at (owner_order owner e.0) (own_key owner e.0 ∙ own)) in
             let kept : e.1 ≡ hold = cc in
             let P : Owner → Type 0 = λ o. AllByRecursion (λ x. owner_order o x ≡ Less) (keys_of es) in
             let none = none_leaves owner es (all_behind owner es (subst P (sym same) sorted.0)) in
             let own_one : one_where (holds_so (owner, hold)) ≡ one_where (holds_so e) = ap (λ (o : Owner). one_where (holds_so (o, hold))) same ∙ ap (λ (h : Hold). one_where (holds_so (e.0, h))) (sym kept) in
             let rest : count_by holds_so left ≡ count_by holds_so es = ap (count_by holds_so) none in
             omega (arith, whole, own_one, rest))
-        | false ↦ (λ at own k.
+        | false ↦ (λ own k.
             let rest = count_leaves es owner hold sorted.1 k in
             let kept = count_cons holds_so e left in
             omega (arith, whole, rest, kept))
-      ]) refl (sym (own_key owner e.0)) found
+      ]) refl found_by
 
   -- all who hold a legal lock hold it in one mode
   shared_by : (test : Owner → Bool) (holders : Holders) (hold : Hold) → list_all (λ entry. is_shared entry.1.mode) holders ≡ true → lookup test holders ≡ Some hold → is_shared hold.mode ≡ true
