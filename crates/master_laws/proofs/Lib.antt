@@ -47,3 +47,4 @@ mod Tended
 mod TendedSteps
 mod FreeLocks
 mod Limited
+mod ShownRows

@@ -7,3 +7,4 @@ pub mod Waits
 pub mod Settling
 pub mod FreeLocks
 pub mod Limits
+pub mod Sequencers
