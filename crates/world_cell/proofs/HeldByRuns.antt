@@ -25,7 +25,7 @@ use Rattle.world_steps.specs.declared.steps.Step.TheVariants as steps
 use Rattle.world_steps.specs.Made.{Does}
 use Rattle.world_steps.specs.World.{WorldState, WorldView, Agrees}
 use Rattle.world_cell.specs.Consistent.{IsConsistent}
-use Rattle.world_cell.specs.Held.{LockSeen, seen_in, seen_by, TellsOfLocks}
+use Rattle.world_cell.specs.HeldLocks.{LockSeen, seen_in, seen_by, TellsOfLocks}
 use Rattle.world_cell.specs.Runs.{Run}
 use Rattle.world_cell.proofs.ConsistentSteps.{agrees_at}
 use Rattle.world_cell.proofs.CutLines.{cut_lines}

@@ -1,6 +1,6 @@
 -- What a sweep prints of locks is what it makes of them.
 use Rattle.std.proofs.Common.{◌≡◌, ℕ, ◌+◌, ◌-◌, ◌<◌, ◌≤◌, max, List, [], ◌∷◌, ◌++◌, Bool, true, false, cond, Less, Equal, Greater, Option, Some, None, refl, sym, ap, subst, ◌∙◌, inl, inr, arith, map}
-use Rattle.std.specs.Prelude.{◌⊎◌, ◌&&◌, ◌||◌, ◌==◌, not, filter, find, fold, is_none, is_some, unwrap_or}
+use Rattle.std.specs.Prelude.{◌⊎◌, ◌&&◌, ◌||◌, ◌==◌, not, nat_le, filter, find, fold, is_none, is_some, unwrap_or}
 use Rattle.std.specs.Option.{option_map, option_map_or}
 use Rattle.std.specs.List.{AllByRecursion, list_all, list_any, count_by}
 use Rattle.std.specs.List.Sorted.{IsStrictlySortedBy}
@@ -40,7 +40,7 @@ use Rattle.lock_core.specs.declared.partings.Parting.{Parting}
 use Rattle.lock_core.specs.declared.partings.Parting.TheVariants as partings
 use Rattle.lock_core.specs.declared.turns.Lapse.{Lapse}
 use Rattle.lock_core.specs.declared.turns.Turn.{Turn}
-use Rattle.lock_core.specs.State.{LockState, Holders, owner_order, nobody_holds, stand_together, hold_of}
+use Rattle.lock_core.specs.State.{LockState, Holders, owner_order, mode_of, nobody_holds, stand_together, hold_of}
 use Rattle.lock_core.specs.Turns.{is_nobody, time_left, held_by, settled, without, is_owner, is_of_client, claims_of, closed_for, delay_of, is_abandoned, lapsed, concerns, reopened}
 use Rattle.lock_core.specs.Locks.{LockTable, lock_at, with_lock, due, is_due}
 use Rattle.master_state.specs.declared.updates.LockPut.{LockPut}
@@ -72,9 +72,8 @@ use Rattle.over_core.specs.SweepCase.{SweepCase, IsNextApplied, swept_by, swept_
 use Rattle.over_core.specs.SweepCase.SweepCase.{Quiet, Recovers, Expires, Tidies, Spared, Tidied, AnswersBeat, TurnedAway, StartedAgain, Started, Reopens, OfEnded, Ended, Applied, Deleted, Locked, Awaited, Left, Departed}
 use Rattle.over_core.proofs.KeptByApplications.{application_own}
 use Rattle.over_core.proofs.LockPuts.{at_number, lock_at_put}
-use Rattle.over_core.proofs.LocksLapsed.{concerned_busy}
 use Rattle.over_core.proofs.NamedLocks.{IsNamed, named_put, puts_are, not_idle, own_locks}
-use Rattle.world_cell.specs.Held.{LockSeen, is_mode, is_hold_of, seen_in, with_put, with_gone, with_change, seen_by}
+use Rattle.world_cell.specs.HeldLocks.{LockSeen, is_mode, is_hold_of, seen_in, with_put, with_gone, with_change, seen_by}
 use Rattle.world_cell.specs.Locks.{instance_in}
 use Rattle.world_cell.specs.Runs.{live_at}
 use Rattle.world_cell.proofs.EffectHolds.{IsTaken, IsAwaited, IsGivenBack, IsCounted, TellsBy, effect_tells}
@@ -139,17 +138,16 @@ leaving_tells client mode at whose lock owner held turn own is_turn is_held stan
 
 -- ---- rows beside a master
 
+no_lapsed : (mode : LockMode) → is_state Lapsed (stored_mode mode) ≡ false
+no_lapsed modes.Exclusive = refl
+no_lapsed modes.Shared = refl
+
+and_none : (a b : Bool) → b ≡ false → (a && b) ≡ false
+and_none true b h = h
+and_none false b h = refl
+
 none_lapsed : (client : ℕ) (mode : LockMode) → ((0 == client) && is_state Lapsed (stored_mode mode)) ≡ false
-none_lapsed client modes.Exclusive = and_none (0 == client)
-  where
-    and_none : (a : Bool) → (a && false) ≡ false
-    and_none true = refl
-    and_none false = refl
-none_lapsed client modes.Shared = and_none (0 == client)
-  where
-    and_none : (a : Bool) → (a && false) ≡ false
-    and_none true = refl
-    and_none false = refl
+none_lapsed client mode = and_none (0 == client) (is_state Lapsed (stored_mode mode)) (no_lapsed mode)
 
 count_rows : (client : ℕ) (mode : LockMode) (at : ℕ) (holders : Holders) → count_by (is_hold_of client mode) (holder_rows at holders) ≡ count_by (holds_so client mode) holders
 count_rows client mode at [] = refl
@@ -160,17 +158,16 @@ count_rows client mode at (e ∷ es) =
 count_lock : (client : ℕ) (mode : LockMode) (at : ℕ) (closed : Option Closing) (holders : Holders) → count_by (is_hold_of client mode) (closing_rows at closed ++ holder_rows at holders) ≡ count_by (holds_so client mode) holders
 count_lock client mode at None holders = count_rows client mode at holders
 count_lock client mode at (Some closing) holders =
-    count_cons (is_hold_of client mode) (lapsed_key at, record { state = Lapsed; delay = closing.delay }) (holder_rows at holders)
-    ∙ ap (λ b. one_where b + count_by (is_hold_of client mode) (holder_rows at holders)) (none_lapsed client mode)
-    ∙ count_rows client mode at holders
+    let row : LockKey × LockRow = (lapsed_key at, record { state = Lapsed; delay = closing.delay }) in
+    let whole = count_cons (is_hold_of client mode) row (holder_rows at holders) in
+    let none : one_where (is_hold_of client mode row) ≡ 0 = ap one_where (none_lapsed client mode) in
+    let rest = count_rows client mode at holders in
+    omega (arith, whole, none, rest)
 
 equal_seen : (a b : LockSeen) → a.nodes ≡ b.nodes → a.next_instance ≡ b.next_instance → a.generation ≡ b.generation → a.holds ≡ b.holds → a ≡ b
-equal_seen a b nodes next generation holds = λ j. record { nodes = nodes j; next_instance = next j; generation = generation j; holds = holds j }
+equal_seen a b n x g h = λ j. record { nodes = n j; next_instance = x j; generation = g j; holds = h j }
 
 module _ (instance client : ℕ) (mode : LockMode) where
-  abbrev by : LockSeen → Line → LockSeen
-  by = seen_by instance client mode
-
   abbrev told : LockSeen → List Line → LockSeen
   told seen printed = fold (seen_by instance client mode) seen printed
 
@@ -243,6 +240,14 @@ module _ (instance client : ℕ) (mode : LockMode) where
     is : name_of s.nodes at ≡ Some name
     there : is_there s.nodes at ≡ true
 
+  busy_by : (a : Bool) (holders : Holders) (waiters : List Claim) (whose : ℕ) → (list_any (λ entry. is_of_client whose entry.0) holders || list_any (λ claim. is_of_client whose claim.owner) waiters) ≡ true → (a && is_none (mode_of holders) && is_nobody waiters) ≡ false
+  busy_by a [] [] whose h = absurd cc
+  busy_by a [] (w ∷ ws) whose h = and_none (a && true) false refl
+  busy_by a (e ∷ es) ws whose h = ap (λ b. b && is_nobody ws) (and_none a false refl)
+
+  concerned_busy : (whose : ℕ) (lock : LockState) → concerns whose lock ≡ true → is_idle lock ≡ false
+  concerned_busy whose lock h = busy_by (lock.generation == 0 && is_none lock.closed) lock.holders lock.waiters whose h
+
   there_of : (idle there : Bool) → (idle || there) ≡ true → idle ≡ false → there ≡ true
   there_of true there h k = absurd cc
   there_of false there h k = h
@@ -297,7 +302,7 @@ module _ (instance client : ℕ) (mode : LockMode) where
         ]) refl
 
   -- the lines of rights, those of locks, and that of the session
-  parting_fold : (parting : Parting) (seen : LockSeen) (numbers : List ℕ) (others : List Line) (whose : ℕ) → told seen (map (right_line parting) numbers ++ others ++ lines.Ended whose ∷ []) ≡ by (told seen others) (lines.Ended whose)
+  parting_fold : (parting : Parting) (seen : LockSeen) (numbers : List ℕ) (others : List Line) (whose : ℕ) → told seen (map (right_line parting) numbers ++ others ++ lines.Ended whose ∷ []) ≡ seen_by instance client mode (told seen others) (lines.Ended whose)
   parting_fold parting seen [] others whose = seen_more client mode instance seen others (lines.Ended whose ∷ [])
   parting_fold partings.Expiry seen (number ∷ numbers) others whose = parting_fold partings.Expiry seen numbers others whose
   parting_fold partings.Leave seen (number ∷ numbers) others whose = parting_fold partings.Leave seen numbers others whose
@@ -305,7 +310,7 @@ module _ (instance client : ℕ) (mode : LockMode) where
   -- ---- a client whose session has ended holds nothing
 
   dead_state : (rows : Rows) (key : LockKey) (state : stored.LockState) → client_fits rows key state ≡ true → is_live_in rows key.client ≡ false → is_state state (stored_mode mode) ≡ false
-  dead_state rows key Lapsed fit dead = elim mode as (λ m. is_state Lapsed (stored_mode m) ≡ false) [ modes.Exclusive ↦ refl | modes.Shared ↦ refl ]
+  dead_state rows key Lapsed fit dead = no_lapsed mode
   dead_state rows key Exclusive fit dead = absurd cc
   dead_state rows key Shared fit dead = absurd cc
 
@@ -320,7 +325,7 @@ module _ (instance client : ℕ) (mode : LockMode) where
   none_of_dead rows [] fit dead = refl
   none_of_dead rows (row ∷ rest) fit dead =
       let t = and_parts (row_fits rows instance row) (list_all (row_fits rows instance) rest) fit in
-      let parts = five_parts (row.0.instance == instance) (is_number row.0.client) (is_number row.0.handle) _ (client_fits rows row.0 row.1.state) t.0 in
+      let parts = five_parts (row.0.instance == instance) (is_number row.0.client) (is_number row.0.handle) (nat_le row.1.delay lock_delay_limit) (client_fits rows row.0 row.1.state) t.0 in
       let whole = count_cons (is_hold_of client mode) row rest in
       let none : one_where (is_hold_of client mode row) ≡ 0 = ap one_where (dead_row rows row parts.4 dead) in
       let others = none_of_dead rows rest t.1 dead in
@@ -430,7 +435,7 @@ put_generation false false generation h = refl
 -- a lock without a node was never held
 idle_generation : (cell : List ℕ) (rows : Rows) (s : MasterState) (at : ℕ) → IsKept cell rows s → is_there s.nodes at ≡ false → (lock_at s.locks at).generation ≡ 0
 idle_generation cell rows s at k gone =
-    zero_of (lock_at s.locks at).generation (first_of ((lock_at s.locks at).generation == 0) (is_none (lock_at s.locks at).closed) _ _ (idle_of (is_idle (lock_at s.locks at)) (is_there s.nodes at) (k.locks.each at).there gone))
+    zero_of (lock_at s.locks at).generation (first_of ((lock_at s.locks at).generation == 0) (is_none (lock_at s.locks at).closed) (nobody_holds (lock_at s.locks at)) (is_nobody (lock_at s.locks at).waiters) (idle_of (is_idle (lock_at s.locks at)) (is_there s.nodes at) (k.locks.each at).there gone))
   where
     idle_of : (idle there : Bool) → (idle || there) ≡ true → there ≡ false → idle ≡ true
     idle_of true there h l = refl
@@ -441,7 +446,7 @@ idle_generation cell rows s at k gone =
     first_of false b c d h = absurd cc
 
     zero_of : (n : ℕ) → (n == 0) ≡ true → n ≡ 0
-    zero_of n h = grind (arith, nat_tests)
+    zero_of n h = eqb-true n 0 h
 
 next_kept : (next new at : ℕ) → at < next → new ≡ next → new ≡ max next (at + 1)
 next_kept next new at less same = omega (arith, less, same)

@@ -25,7 +25,7 @@ use Rattle.lock_core.specs.Turns.{is_nobody, held_by, served_from, served, turne
 use Rattle.lock_core.proofs.Generations.{rise_of, settled_rises}
 use Rattle.over_core.proofs.LockPuts.{at_number}
 use Rattle.master_state.specs.Replies.{locked_line, line_if}
-use Rattle.world_cell.specs.Held.{LockSeen, is_mode, with_hold, seen_by}
+use Rattle.world_cell.specs.HeldLocks.{LockSeen, is_mode, with_hold, seen_by}
 
 abbrev pub one_where : Bool → ℕ
 one_where b = cond b 1 0

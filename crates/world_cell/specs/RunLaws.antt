@@ -10,7 +10,7 @@ use Rattle.world_steps.specs.World.{WorldView, IsUndoubted}
 use Rattle.world_cell.specs.Runs.{AnyRun, map_at, after_lines, epoch_at, live_at, LeasesKeepSessions, AreJoint, KeepsClocksFair, AreRecordedOnce, applied, Rises, IsOfCall, IsOfIdle}
 use Rattle.world_cell.specs.Served.{ServesPresentByThen}
 use Rattle.world_cell.specs.Locks.{HasLegalLocks, NoGenerationTwice, HoldsRise}
-use Rattle.world_cell.specs.Held.{TellsOfLocks}
+use Rattle.world_cell.specs.HeldLocks.{TellsOfLocks}
 use Rattle.world_cell.specs.Told.{ShowsNoOlder}
 use Rattle.world_cell.specs.Limits.{StaysWithinLimits}
 use Rattle.world_cell.specs.Turns.{HaveOneTurn}

@@ -10,7 +10,7 @@ ghost use Rattle.world_cell.specs.Runs.{AnyRun, map_at, after_lines, epoch_at, l
 ghost use Rattle.world_steps.specs.Made.{WasRefused, AnyStep};
 ghost use Rattle.world_cell.specs.Served.{ServesPresentByThen};
 ghost use Rattle.world_cell.specs.Locks.{HasLegalLocks, NoGenerationTwice, HoldsRise};
-ghost use Rattle.world_cell.specs.Held.{TellsOfLocks};
+ghost use Rattle.world_cell.specs.HeldLocks.{TellsOfLocks};
 ghost use Rattle.world_cell.specs.Told.{ShowsNoOlder};
 ghost use Rattle.world_cell.specs.Limits.{StaysWithinLimits};
 ghost use Rattle.world_cell.specs.Turns.{HaveOneTurn};
