@@ -40,7 +40,6 @@ use Rattle.master_state.specs.NameSpace.{name_space}
 use Rattle.master_state.specs.State.{MasterState}
 use Rattle.master_state.specs.Lookups.{noted, own_handle, shown_handle, is_usable, handle_state_of, node_of_handle, sequencer_fault, sequencer_result, answer_under}
 use Rattle.master_parts.specs.Keys.{key_of}
-use Rattle.cell_core.specs.declared.admissions.Admission.{Admission}
 use Rattle.cell_core.specs.Step.{admission_for, admission_of, handle_admission}
 use Rattle.over_core.specs.Kept.{IsKept}
 use Rattle.master_laws.specs.Sequencers.{ShowsRows, SequencersShowTheRows}
@@ -68,8 +67,8 @@ some_holder (e ∷ es) owner hold h = refl
 -- a lock that is held isn't closed
 row_found : (instance : ℕ) (owner : Owner) (hold : Hold) (closed : Option Closing) (holders : Holders) → (is_none closed || is_none (mode_of holders)) ≡ true → lookup (is_at (owner_order owner)) holders ≡ Some hold
     → lookup (is_at (lock_order (holder_key instance owner))) (closing_rows instance closed ++ holder_rows instance holders) ≡ Some (holder_row hold)
-row_found instance owner hold None holders open found = holder_found instance owner holders ∙ ap (option_map holder_row) found
-row_found instance owner hold (Some closing) holders open found = let some = some_holder holders owner hold found in absurd cc
+row_found instance owner hold None holders unclosed found = holder_found instance owner holders ∙ ap (option_map holder_row) found
+row_found instance owner hold (Some closing) holders unclosed found = let some = some_holder holders owner hold found in absurd cc
 
 -- ---- the generation of a node that is there
 
