@@ -500,15 +500,15 @@ gone_generation test (e ∷ es) n distinct =
     let t = and_parts (not (list_any (λ m. m == e.1.node.instance) (instances es))) (are_distinct (instances es)) distinct in
     elim (test e.0) as (λ b. lock_generation_in (cond b es (e ∷ remove_entry test es)) n ≡ cond {A = Option ℕ} (option_map_or (λ (node : StoredNode). node.node.instance == n) (cond b (Some e.1) (lookup test es)) false) None (cond own (Some e.1.lock_generation) (lock_generation_in es n))) [
       | true ↦ (elim own as (λ b. own ≡ b → lock_generation_in es n ≡ cond {A = Option ℕ} b None (cond b (Some e.1.lock_generation) (lock_generation_in es n))) [
-          | true ↦ (λ is. none_then es n (alone e es n distinct is))
-          | false ↦ (λ is. refl)
-        ]) refl
+        | true ↦ (λ is. none_then es n (alone e es n distinct is))
+        | false ↦ (λ is. refl)
+      ]) refl
       | false ↦ (elim own as (λ b. own ≡ b → cond b (Some e.1.lock_generation) (lock_generation_in (remove_entry test es) n) ≡ cond {A = Option ℕ} behind None (cond b (Some e.1.lock_generation) (lock_generation_in es n))) [
-          | true ↦ (λ is.
-              let none : behind ≡ false = is_false behind (λ found. let twice = found_has test es n found in let alone_there = alone e es n distinct is in absurd cc) in
-              sym (ap (λ b. cond {A = Option ℕ} b None (Some e.1.lock_generation)) none))
-          | false ↦ (λ is. gone_generation test es n t.1)
-        ]) refl
+        | true ↦ (λ is.
+            let none : behind ≡ false = is_false behind (λ found. let twice = found_has test es n found in let alone_there = alone e es n distinct is in absurd cc) in
+            sym (ap (λ b. cond {A = Option ℕ} b None (Some e.1.lock_generation)) none))
+        | false ↦ (λ is. gone_generation test es n t.1)
+      ]) refl
     ]
 
 gone_holds : (client : ℕ) (mode : LockMode) (o : Option StoredNode) (locks : StoredLocks) (n : ℕ)
