@@ -48,3 +48,4 @@ mod TendedSteps
 mod FreeLocks
 mod Limited
 mod LeavesAtOnce
+mod ShownRows

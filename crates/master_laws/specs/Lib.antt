@@ -8,3 +8,4 @@ pub mod Waits
 pub mod Settling
 pub mod FreeLocks
 pub mod Limits
+pub mod Sequencers

@@ -1,5 +1,6 @@
 //! What a master does for its clients, as laws of its tables: who is given a handle, what a closed handle is still good
-//! for, what a refused call changes, whom a write waits for, and what the limits of a cell leave of it.
+//! for, what a refused call changes, what a sequencer shows, whom a write waits for, and what the limits of a cell leave
+//! of it.
 #![tactic(auto)]
 
 mod free_locks;
@@ -8,6 +9,7 @@ mod leaves;
 mod limits;
 mod opens;
 mod refusals;
+mod sequencers;
 mod settling;
 mod waits;
 
@@ -26,6 +28,7 @@ pub use refusals::{
     refusal_grants_absence_alone, refused_application_changes_nothing,
     refused_call_changes_nothing, turned_away_changes_nothing,
 };
+pub use sequencers::sequencers_show_the_rows;
 pub use settling::{settling_ends, sweeps_are_counted, sweeps_leave_less};
 pub use waits::{
     a_change_waits, changes_go_on, each_is_held_up, recoveries_end, recovery_is_held_up,

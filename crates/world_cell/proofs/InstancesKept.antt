@@ -35,7 +35,7 @@ has_of (e ∷ es) n generation h =
       | false ↦ (λ k. has_of es n generation k)
     ]) h
 
-has_none : (nodes : StoredNodes) (n : ℕ) → lock_generation_in nodes n ≡ None → has_instance nodes n ≡ false
+pub has_none : (nodes : StoredNodes) (n : ℕ) → lock_generation_in nodes n ≡ None → has_instance nodes n ≡ false
 has_none [] n h = refl
 has_none (e ∷ es) n h =
     (elim (e.1.node.instance == n) as (λ b. cond b (Some e.1.lock_generation) (lock_generation_in es n) ≡ None → (b || has_instance es n) ≡ false) [
@@ -110,7 +110,7 @@ generation_left test (e ∷ es) n generation distinct h =
 
 -- ---- the rows of locks, once those of one node are gone
 
-own_gone : (locks : StoredLocks) (n : ℕ) → locks_at (filter (λ e. not (e.0.instance == n)) locks) n ≡ []
+pub own_gone : (locks : StoredLocks) (n : ℕ) → locks_at (filter (λ e. not (e.0.instance == n)) locks) n ≡ []
 own_gone [] n = refl
 own_gone (e ∷ es) n =
     let left : StoredLocks = filter (λ e. not (e.0.instance == n)) es in
@@ -119,7 +119,7 @@ own_gone (e ∷ es) n =
       | false ↦ (λ c. rw c (own_gone es n))
     ]) refl
 
-others_stay : (locks : StoredLocks) (m n : ℕ) → (m == n) ≡ false → locks_at (filter (λ e. not (e.0.instance == m)) locks) n ≡ locks_at locks n
+pub others_stay : (locks : StoredLocks) (m n : ℕ) → (m == n) ≡ false → locks_at (filter (λ e. not (e.0.instance == m)) locks) n ≡ locks_at locks n
 others_stay [] m n h = refl
 others_stay (e ∷ es) m n h =
     let left : StoredLocks = filter (λ e. not (e.0.instance == m)) es in

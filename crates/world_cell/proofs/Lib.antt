@@ -65,3 +65,7 @@ pub mod LimitsByRuns
 pub mod HoldsByName
 pub mod TurnsByRuns
 pub mod Shown
+pub mod EffectHolds
+pub mod HeldTurns
+pub mod HeldSweeps
+pub mod HeldByRuns

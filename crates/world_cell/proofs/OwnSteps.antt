@@ -52,7 +52,7 @@ use Rattle.world_steps.specs.declared.members.WorldClient.{WorldClient}
 use Rattle.world_steps.specs.Members.{stepped}
 use Rattle.world_steps.specs.Messages.{out_at}
 use Rattle.world_steps.specs.World.{WorldState, Outcome, member_of, with_client, with_refusal, asked, beaten, gave}
-use Rattle.world_cell.proofs.SilentLines.{IsSilent, IsQuiet, append_quiet, quiet_silent}
+use Rattle.world_cell.proofs.SilentLines.{IsSilent, IsCalm, append_calm, calm_quiet, quiet_silent}
 use Rattle.world_cell.proofs.WorldCases.{IsAsk, IsBeat, IsGive}
 
 -- a Start or a Beat
@@ -92,7 +92,7 @@ pub record IsOwn (old new : WorldState) (printed : List Line) : Type 0 where
   pub sent : Option Request
   pub is : new ≡ record old { clients = stepped old.clients number member client; messages = new.messages }
   pub grown : new.messages ≡ old.messages ++ sending sent
-  pub quiet : IsQuiet printed
+  pub quiet : IsCalm printed
   pub own : client.number ≡ member.client.number
   pub notes : client.clock ≡ max member.client.clock member.clock
   pub sends : Sends member.client client sent
@@ -102,7 +102,7 @@ pub record IsOwn (old new : WorldState) (printed : List Line) : Type 0 where
   pub epoch : OfEpoch old.messages member.client client
 
 pub own_silent : (old new : WorldState) (printed : List Line) → IsOwn old new printed → IsSilent printed
-own_silent old new printed o = quiet_silent printed o.quiet
+own_silent old new printed o = quiet_silent printed (calm_quiet printed o.quiet)
 
 -- ---- what an outcome comes to, where it is no refusal of the step
 
@@ -115,7 +115,7 @@ it_comes P outcome new printed is h = let k : Comes P (Ok (new, printed)) = subs
 
 -- ---- the noting of the time
 
-application_quiet : (number : ℕ) (before after : SessionTrust) → IsQuiet (option_to_list (turn_line number before after))
+application_quiet : (number : ℕ) (before after : SessionTrust) → IsCalm (option_to_list (turn_line number before after))
 application_quiet number standings.Safe standings.Safe = tt
 application_quiet number standings.Safe (standings.Jeopardy since) = (tt, tt, tt)
 application_quiet number standings.Safe standings.Lost = (tt, tt, tt)
@@ -124,21 +124,21 @@ application_quiet number (standings.Jeopardy since) (standings.Jeopardy later) =
 application_quiet number (standings.Jeopardy since) standings.Lost = (tt, tt, tt)
 application_quiet number standings.Lost after = tt
 
-noted_in_quiet : (s : ClientState) (session : ClientStanding) (moment : ℕ) → IsQuiet (note_lines_in session s moment)
+noted_in_quiet : (s : ClientState) (session : ClientStanding) (moment : ℕ) → IsCalm (note_lines_in session s moment)
 noted_in_quiet s sessions.Unstarted moment = tt
 noted_in_quiet s sessions.Live moment = application_quiet s.number s.standing (standing_then s moment)
 noted_in_quiet s sessions.Lost moment = tt
 noted_in_quiet s sessions.TurnedAway moment = tt
 
 -- it tells of nothing but how the client stands
-pub noted_quiet : (s : ClientState) (moment : ℕ) → IsQuiet (note_lines s moment)
+pub noted_quiet : (s : ClientState) (moment : ℕ) → IsCalm (note_lines s moment)
 noted_quiet s moment = noted_in_quiet s s.session moment
 
-told_quiet : (s : ClientState) (moment : ℕ) (more : List Line) → IsQuiet more → IsQuiet (note_lines s moment ++ more)
-told_quiet s moment more quiet = append_quiet (note_lines s moment) more (noted_quiet s moment) quiet
+told_quiet : (s : ClientState) (moment : ℕ) (more : List Line) → IsCalm more → IsCalm (note_lines s moment ++ more)
+told_quiet s moment more quiet = append_calm (note_lines s moment) more (noted_quiet s moment) quiet
 
-refusal_quiet : (told : List Line) (fault : Fault) → IsQuiet told → IsQuiet (with_refusal told fault)
-refusal_quiet told fault quiet = append_quiet told (lines.Refused fault ∷ []) quiet (tt, tt, tt)
+refusal_quiet : (told : List Line) (fault : Fault) → IsCalm told → IsCalm (with_refusal told fault)
+refusal_quiet told fault quiet = append_calm told (lines.Refused fault ∷ []) quiet (tt, tt, tt)
 
 pub note_calls : (s : ClientState) (session : ClientStanding) (moment : ℕ) → (note_in session s moment).calls ≡ s.calls
 note_calls s sessions.Unstarted moment = refl
@@ -146,28 +146,28 @@ note_calls s sessions.Live moment = refl
 note_calls s sessions.Lost moment = refl
 note_calls s sessions.TurnedAway moment = refl
 
-safe_by : (b : Bool) (number : ℕ) → IsQuiet (cond b (lines.Safe number ∷ []) [])
+safe_by : (b : Bool) (number : ℕ) → IsCalm (cond b (lines.Safe number ∷ []) [])
 safe_by true number = (tt, tt, tt)
 safe_by false number = tt
 
-safe_quiet : (s : ClientState) (moment : ℕ) (message : AliveMessage) → IsQuiet (safe_lines s moment message)
+safe_quiet : (s : ClientState) (moment : ℕ) (message : AliveMessage) → IsCalm (safe_lines s moment message)
 safe_quiet s moment message = safe_by (takes_offer s message && (is_unexpired s.sent message.span moment && is_jeopardy s.standing)) s.number
 
 -- a client prints a line for each event that is new to it
-told_if : (b : Bool) (client : ℕ) (event : Event) (more : List Line) → IsQuiet more → IsQuiet (cond b (lines.Told client event ∷ more) more)
+told_if : (b : Bool) (client : ℕ) (event : Event) (more : List Line) → IsCalm more → IsCalm (cond b (lines.Told client event ∷ more) more)
 told_if true client event more quiet = (tt, tt, quiet)
 told_if false client event more quiet = quiet
 
-events_quiet : (client processed : ℕ) (events : List NumberedEvent) → IsQuiet (event_lines client processed events)
+events_quiet : (client processed : ℕ) (events : List NumberedEvent) → IsCalm (event_lines client processed events)
 events_quiet client processed [] = tt
 events_quiet client processed (next ∷ others) =
     told_if (nat_lt processed next.number) client next.event (event_lines client processed others) (events_quiet client processed others)
 
-target_quiet : (client : ℕ) (call : Outstanding) (target : Target) → IsQuiet (unknown_line client call target)
+target_quiet : (client : ℕ) (call : Outstanding) (target : Target) → IsCalm (unknown_line client call target)
 target_quiet client call targets.Dropped = tt
 target_quiet client call _ = (tt, tt, tt)
 
-unknown_quiet : (client : ℕ) (o : Option Outstanding) → IsQuiet (unknown_lines client o)
+unknown_quiet : (client : ℕ) (o : Option Outstanding) → IsCalm (unknown_lines client o)
 unknown_quiet client None = tt
 unknown_quiet client (Some call) = target_quiet client call call.target
 
@@ -209,7 +209,7 @@ module _ (w : WorldState) (number : ℕ) (member : WorldClient) (found : member_
   then = noted_moment member.client member.clock
 
   -- nothing is sent, and the epoch stays
-  stays : (client : ClientState) (printed : List Line) → IsQuiet printed → client.number ≡ member.client.number → client.clock ≡ then → client.calls ≡ member.client.calls → client.leaving ≡ member.client.leaving → OfEpoch w.messages member.client client → IsOwn w (with_client w number member client) printed
+  stays : (client : ClientState) (printed : List Line) → IsCalm printed → client.number ≡ member.client.number → client.clock ≡ then → client.calls ≡ member.client.calls → client.leaving ≡ member.client.leaving → OfEpoch w.messages member.client client → IsOwn w (with_client w number member client) printed
   stays client printed quiet own notes calls leaving epoch = record {
     number = number;
     member = member;
@@ -228,7 +228,7 @@ module _ (w : WorldState) (number : ℕ) (member : WorldClient) (found : member_
   }
 
   -- only the moment is noted
-  notes_only : (printed : List Line) → IsQuiet printed → IsOwn w (with_client w number member (note member.client then)) printed
+  notes_only : (printed : List Line) → IsCalm printed → IsOwn w (with_client w number member (note member.client then)) printed
   notes_only printed quiet =
       stays (note member.client then) printed quiet (note_number member.client member.client.session then) (note_clock member.client member.client.session then) (note_calls member.client member.client.session then) (note_leaving member.client member.client.session then)
       (SameEpoch (note_epoch member.client member.client.session then) (λ e. unstarted_before member.client member.client.session then (sym (note_session member.client then) ∙ e))
@@ -238,10 +238,10 @@ module _ (w : WorldState) (number : ℕ) (member : WorldClient) (found : member_
   in_session : IsLive member.client member.clock → (session_behind (standing_then member.client then) ≡ sessions.Unstarted → member.client.session ≡ sessions.Unstarted)
   in_session live e = sym (behind_live member.client member.clock live) ∙ e
 
-  refused_quiet : (o : Option Outstanding) (handle : ℕ) → IsQuiet (refused_lines member.client handle o)
+  refused_quiet : (o : Option Outstanding) (handle : ℕ) → IsCalm (refused_lines member.client handle o)
   refused_quiet None handle = tt
   refused_quiet (Some call) handle =
-      elim (is_on handle call.target) as (λ b. IsQuiet (cond b (lines.Done member.client.number (request_number call.request) (answers.Refused faults.Poisoned) ∷ []) [])) [ true ↦ (tt, tt, tt) | false ↦ tt ]
+      elim (is_on handle call.target) as (λ b. IsCalm (cond b (lines.Done member.client.number (request_number call.request) (answers.Refused faults.Poisoned) ∷ []) [])) [ true ↦ (tt, tt, tt) | false ↦ tt ]
 
   ask_comes : (ask : Ask) (c : AskCase member.client member.clock ask) → Comes (IsOwn w) (asked w number member (asked_in member.client member.clock ask c))
   ask_comes ask (AskedTooLate late) = tt
@@ -280,11 +280,11 @@ module _ (w : WorldState) (number : ℕ) (member : WorldClient) (found : member_
       }
   ask_comes ask (Poisoned handle mine safe is usable) =
       stays (with_poisoned member.client then handle mine) (poison_lines member.client handle)
-      (append_quiet (refused_lines member.client handle member.client.outstanding) (lines.Done member.client.number 0 answers.Poisoned ∷ []) (refused_quiet member.client.outstanding handle) (tt, tt, tt))
+      (append_calm (refused_lines member.client handle member.client.outstanding) (lines.Done member.client.number 0 answers.Poisoned ∷ []) (refused_quiet member.client.outstanding handle) (tt, tt, tt))
       refl refl refl refl (SameEpoch refl (λ e. e) (λ e. e))
 
   -- a Start or a Beat is sent
-  sends_beat : (client : ClientState) (printed : List Line) (request : Request) → IsNoCall request → IsQuiet printed → client.number ≡ member.client.number → client.clock ≡ then → client.calls ≡ member.client.calls → client.leaving ≡ member.client.leaving → OfEpoch w.messages member.client client → IsOwn w (record w { clients = stepped w.clients number member client; messages = w.messages ++ ToMaster request ∷ [] }) printed
+  sends_beat : (client : ClientState) (printed : List Line) (request : Request) → IsNoCall request → IsCalm printed → client.number ≡ member.client.number → client.clock ≡ then → client.calls ≡ member.client.calls → client.leaving ≡ member.client.leaving → OfEpoch w.messages member.client client → IsOwn w (record w { clients = stepped w.clients number member client; messages = w.messages ++ ToMaster request ∷ [] }) printed
   sends_beat client printed request none quiet own notes calls leaving epoch = record {
     number = number;
     member = member;
@@ -319,7 +319,7 @@ module _ (w : WorldState) (number : ℕ) (member : WorldClient) (found : member_
   rejected_comes fault = notes_only (with_refusal (note_lines member.client then ++ []) fault) (refusal_quiet (note_lines member.client then ++ []) fault (told_quiet member.client then [] tt))
 
   -- a call ends
-  ended_comes : IsLive member.client member.clock → (client : ClientState) → EndsSo (note_live member.client then) client → (printed : List Line) → IsQuiet printed → IsOwn w (with_client w number member client) printed
+  ended_comes : IsLive member.client member.clock → (client : ClientState) → EndsSo (note_live member.client then) client → (printed : List Line) → IsCalm printed → IsOwn w (with_client w number member client) printed
   ended_comes live client so printed quiet =
       stays client printed quiet so.number so.clock so.calls so.leaving (SameEpoch so.epoch (λ e. in_session live (sym so.session ∙ e)) (λ e. live.live))
 
@@ -335,7 +335,7 @@ module _ (w : WorldState) (number : ℕ) (member : WorldClient) (found : member_
       let behind = with_processed (note_live member.client then) message in
       let events = event_lines member.client.number member.client.heard message.events in
       stays (bettered behind then (offered member.client message.span)) (note_lines member.client then ++ (events ++ safe_lines behind then message))
-      (told_quiet member.client then (events ++ safe_lines behind then message) (append_quiet events (safe_lines behind then message) (events_quiet member.client.number member.client.heard message.events) (safe_quiet behind then message))) refl refl refl refl (SameEpoch refl (in_session fit.alive.live) (λ e. fit.alive.live.live))
+      (told_quiet member.client then (events ++ safe_lines behind then message) (append_calm events (safe_lines behind then message) (events_quiet member.client.number member.client.heard message.events) (safe_quiet behind then message))) refl refl refl refl (SameEpoch refl (in_session fit.alive.live) (λ e. fit.alive.live.live))
   give_comes at out sent (LeaseStays message heard is fit worse) =
       let events = event_lines member.client.number member.client.heard message.events in
       stays (with_processed (note_live member.client then) message) (note_lines member.client then ++ events) (told_quiet member.client then events (events_quiet member.client.number member.client.heard message.events)) refl refl refl refl (SameEpoch refl (in_session fit.alive.live) (λ e. fit.alive.live.live))

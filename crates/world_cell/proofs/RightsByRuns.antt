@@ -16,7 +16,7 @@ use Rattle.world_cell.proofs.StepsHold.{does_holds}
 use Rattle.world_cell.specs.Consistent.{IsConsistent}
 use Rattle.world_cell.specs.Runs.{Run, rights_in, AreRecordedOnce}
 use Rattle.world_steps.specs.Made.{Does}
-use Rattle.world_cell.proofs.SilentLines.{quiet_rightless}
+use Rattle.world_cell.proofs.SilentLines.{calm_quiet, quiet_rightless}
 use Rattle.world_cell.proofs.WorldCases.{swept_master, WorldCase, world_case}
 use Rattle.world_cell.proofs.WorldCases.WorldCase.{ComesUp, Joins, Asks, Beats, Gives, Ticks, Takes, Sweeps, GoesDown, CutsSweep, CutsUp, LosesUp}
 use Rattle.world_cell.proofs.CutLines.{kept_rights}
@@ -33,7 +33,7 @@ same_told : (old new : Option MasterState) (printed : List Line) → AreOfNoRigh
 same_told old new printed none same = same_rights (rights_in old) printed none ∙ ap (λ m. Some (rights_in m)) (sym same)
 
 own_told : (old new : WorldState) (printed : List Line) → IsOwn old new printed → Tells old.master printed new.master
-own_told old new printed o = same_told old.master new.master printed (quiet_rightless printed o.quiet) (ap (λ (w : WorldState). w.master) o.is)
+own_told old new printed o = same_told old.master new.master printed (quiet_rightless printed (calm_quiet printed o.quiet)) (ap (λ (w : WorldState). w.master) o.is)
 
 -- s: the master before; t: the one after
 master_told : (old new : Option MasterState) (printed : List Line) (s t : MasterState) (told : List Line) → old ≡ Some s → new ≡ Some t → printed ≡ told → rights_at (map told_of s.rights) told ≡ Some (map told_of t.rights) → Tells old printed new

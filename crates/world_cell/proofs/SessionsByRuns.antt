@@ -68,7 +68,7 @@ silent_lives client live [] h = refl
 silent_lives client live (line ∷ rest) h = ap (λ b. live_at client b rest) (line_lives client live line h.0) ∙ silent_lives client live rest h.1
 
 -- the end of a session tells of just that
-parting_lives : (parting : Parting) (client : ℕ) (live : Bool) (numbers : List ℕ) (others : List Line) (whose : ℕ) → IsSilent others → live_at client live (map (right_line parting) numbers ++ others ++ lines.Ended whose ∷ []) ≡ cond (whose == client) false live
+pub parting_lives : (parting : Parting) (client : ℕ) (live : Bool) (numbers : List ℕ) (others : List Line) (whose : ℕ) → IsSilent others → live_at client live (map (right_line parting) numbers ++ others ++ lines.Ended whose ∷ []) ≡ cond (whose == client) false live
 parting_lives parting client live [] others whose silent =
     lives_more client live others (lines.Ended whose ∷ []) ∙ ap (λ b. live_at client b (lines.Ended whose ∷ [])) (silent_lives client live others silent)
 parting_lives partings.Expiry client live (number ∷ numbers) others whose silent = parting_lives partings.Expiry client live numbers others whose silent
@@ -119,7 +119,7 @@ ended_tells : (parting : Parting) (client : ℕ) (rows : Rows) (s : MasterState)
 ended_tells parting client rows s whose principal =
     parting_tells parting client rows (lock_changes s (lapses_puts s (lapses_of parting s whose))) whose principal (numbers_ending whose (ending_by parting) s.rights) (lapses_lines parting whose (lapses_of parting s whose)) (lapses_of_locks parting whose (lapses_of parting s whose))
 
-swept_tells : (client : ℕ) (rows : Rows) (s : MasterState) (c : SweepCase s) → Tells client rows (changed_rows rows (swept_edits s c)) (swept_by s c).1.lines
+pub swept_tells : (client : ℕ) (rows : Rows) (s : MasterState) (c : SweepCase s) → Tells client rows (changed_rows rows (swept_edits s c)) (swept_by s c).1.lines
 swept_tells client rows s (Expires whose session due) = ended_tells partings.Expiry client rows s whose session.principal
 swept_tells client rows s (Departed front back asked call sequencer session turn work leave found live) = ended_tells partings.Leave client rows s asked.client session.principal
 swept_tells client rows s (Reopens instance due) =

@@ -32,6 +32,36 @@ pub append_quiet : (xs ys : List Line) → IsQuiet xs → IsQuiet ys → IsQuiet
 append_quiet [] ys h k = k
 append_quiet (x ∷ xs) ys h k = (h.0, h.1, append_quiet xs ys h.2 k)
 
+-- lines that tell of no lock either
+abbrev pub IsCalmLine : Line → Type 0
+IsCalmLine (lines.Up epoch) = ⊥
+IsCalmLine (lines.Applied client number change names) = ⊥
+IsCalmLine (lines.Started client) = ⊥
+IsCalmLine (lines.Ended client) = ⊥
+IsCalmLine (lines.Locked client instance mode generation) = ⊥
+IsCalmLine (lines.Freed client instance) = ⊥
+IsCalmLine _ = Unit {0}
+
+-- nor of a right
+abbrev pub IsCalm : List Line → Type 0
+IsCalm [] = Unit {0}
+IsCalm (line ∷ rest) = IsCalmLine line × IsOfNoRight line × IsCalm rest
+
+calm_line : (line : Line) → IsCalmLine line → IsSilentLine line
+calm_line (lines.Up epoch) h = h
+calm_line (lines.Applied client number change names) h = h
+calm_line (lines.Started client) h = h
+calm_line (lines.Ended client) h = h
+calm_line _ h = tt
+
+pub calm_quiet : (printed : List Line) → IsCalm printed → IsQuiet printed
+calm_quiet [] h = tt
+calm_quiet (line ∷ rest) h = (calm_line line h.0, h.1, calm_quiet rest h.2)
+
+pub append_calm : (xs ys : List Line) → IsCalm xs → IsCalm ys → IsCalm (xs ++ ys)
+append_calm [] ys h k = k
+append_calm (x ∷ xs) ys h k = (h.0, h.1, append_calm xs ys h.2 k)
+
 -- a line for each of some numbers
 pub silent_numbers : (line : ℕ → Line) → ((number : ℕ) → IsSilentLine (line number)) → (numbers : List ℕ) → IsSilent (map line numbers)
 silent_numbers line silent [] = tt

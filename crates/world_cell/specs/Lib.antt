@@ -36,6 +36,7 @@ pub mod Consistent
 pub mod Runs
 pub mod Served
 pub mod Locks
+pub mod HeldLocks
 pub mod Told
 pub mod Limits
 pub mod Turns

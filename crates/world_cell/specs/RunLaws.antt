@@ -10,6 +10,7 @@ use Rattle.world_steps.specs.World.{WorldView, IsUndoubted}
 use Rattle.world_cell.specs.Runs.{AnyRun, map_at, after_lines, epoch_at, live_at, LeasesKeepSessions, AreJoint, KeepsClocksFair, AreRecordedOnce, applied, Rises, IsOfCall, IsOfIdle}
 use Rattle.world_cell.specs.Served.{ServesPresentByThen}
 use Rattle.world_cell.specs.Locks.{HasLegalLocks, NoGenerationTwice, HoldsRise}
+use Rattle.world_cell.specs.HeldLocks.{TellsOfLocks}
 use Rattle.world_cell.specs.Told.{ShowsNoOlder}
 use Rattle.world_cell.specs.Limits.{StaysWithinLimits}
 use Rattle.world_cell.specs.Turns.{HaveOneTurn}
@@ -33,6 +34,7 @@ pub record HoldsOfRun (old : WorldView) (steps : List Step) (printed : List Line
   pub locks : HasLegalLocks old.world new.world
   pub generations : NoGenerationTwice old steps new
   pub fencing : HoldsRise old steps new
+  pub held : TellsOfLocks old.world.rows new.world.rows printed
   pub told : ShowsNoOlder old steps new
   pub limits : StaysWithinLimits old.world new.world
 

@@ -10,6 +10,7 @@ ghost use Rattle.world_cell.specs.Runs.{AnyRun, map_at, after_lines, epoch_at, l
 ghost use Rattle.world_steps.specs.Made.{WasRefused, AnyStep};
 ghost use Rattle.world_cell.specs.Served.{ServesPresentByThen};
 ghost use Rattle.world_cell.specs.Locks.{HasLegalLocks, NoGenerationTwice, HoldsRise};
+ghost use Rattle.world_cell.specs.HeldLocks.{TellsOfLocks};
 ghost use Rattle.world_cell.specs.Told.{ShowsNoOlder};
 ghost use Rattle.world_cell.specs.Limits.{StaysWithinLimits};
 ghost use Rattle.world_cell.specs.Turns.{HaveOneTurn};
@@ -71,6 +72,10 @@ impl<R: Records + Drop> World<R> {
         // Of two holds from free of the lock at one name the later one has the greater pair of instance and generation, also
         // if the node was deleted and made again: who asks for this pair tells a holder of before from the present one.
         ensures fencing { IsUndoubted self.new → HoldsRise self.old steps.now self.new }
+        // By how many handles a client holds a lock, and in which mode, the lock's generation, and the next instance are those
+        // that the lines make: a handle got it (`locked`, with the generation), or let it go (`freed`); the client's session
+        // ended; the node was made, or went.
+        ensures held { IfOk result (λ lines. IsUndoubted self.new → TellsOfLocks self.old.world.rows self.new.world.rows lines) }
         // From any point on: where anybody was told of a content before, no call that is asked later on shows an older one,
         // by whichever handle, and nobody serves one from a cache.
         ensures told { IsUndoubted self.new → ShowsNoOlder self.old steps.now self.new }
