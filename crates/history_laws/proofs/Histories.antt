@@ -35,8 +35,8 @@ use Rattle.world_cell.proofs.ClocksByRuns.{run_consistent}
 use Rattle.world_cell.proofs.ServedLines.{step_serves}
 use Rattle.history_laws.specs.Parts.{Parts, nothing_yet, Deed, ComesUp, FallsComingUp, Takes, Sweeps, FallsSweeping, AnswersBeat, Goes, Begins, Asks, Beats, Hears, BeginsBy}
 use Rattle.history_laws.specs.Histories.{Clocks, Entry, Does, History, KeepFair, GoOn, AreMoments, AreFair, begins_life}
-use Rattle.history_laws.specs.Laws.{new_view, HoldsParts, IsRunOf, HistoriesAreRuns, HistoriesHold, CachesShowTheRows, CachesAnswerTheRows}
-use Rattle.history_laws.proofs.Ticking.{IsTimely, IsTimelyWorld, Ticks, ticks_by, alone_on, beside_on}
+use Rattle.history_laws.specs.Laws.{new_view, HoldsParts, ShowsClocks, GoesAlong, IsRunOf, HistoriesAreRuns, HistoriesHold, CachesShowTheRows, CachesAnswerTheRows}
+use Rattle.history_laws.proofs.Ticking.{IsTimely, IsTimelyWorld, IsMastersClock, Ticks, ticks_by, alone_on, beside_on}
 use Rattle.history_laws.proofs.Entries.{each_found_in}
 use Rattle.history_laws.proofs.Mirrored.{Mirrors, view, makes, ticked_mirrors, found_client}
 use Rattle.history_laws.proofs.Deeds.{Follows, takes, sweeps, falls_sweeping, answers_beat, goes, asks, beats, hears, comes_up, falls_coming_up, joined, joins_step, joins_mirrors, joins_ticks}
@@ -178,20 +178,36 @@ run_append old mid new (step ∷ first) second printed told one two =
 
 -- ---- a history
 
-pub record Mirrored (w : WorldState) (leave : List Rows) (printed : List Line) (end : Parts) : Type 0 where
+-- what the world holds, and its clocks
+holds_so : (p : Parts) (w : WorldState) (leave : List Rows) → Mirrors p w → HoldsParts (view w leave) p
+holds_so p w leave same = record { rows = same.rows; master = same.master; clients = same.clients; messages = same.messages; undoubted = refl }
+
+masters_clock : (m : Option MasterState) (now : Clocks) (clock : ℕ) → IsMastersClock m now clock → (s : MasterState) → m ≡ Some s → clock ≡ now.master
+masters_clock None now clock h s up = cc
+masters_clock (Some other) now clock h s up = h
+
+shows_clocks : (w : WorldState) (entries : List Entry) (now : Clocks) → IsTimelyWorld w entries now → ShowsClocks w now
+shows_clocks w entries now timely = record {
+  master = λ s up. masters_clock w.master now w.clock timely.master s up;
+  client = λ number member found. (each_found_in (IsTimely w.master entries now) w.clients number member timely.each found).clock;
+}
+
+pub record Mirrored (w : WorldState) (leave : List Rows) (p : Parts) (entries : List Entry) (printed : List Line) (end : Parts) (h : History p entries printed end) : Type 0 where
   pub made : List Step
   pub behind : WorldState
   pub left : List Rows
   pub run : AnyRun (view w leave) made printed (view behind left)
   pub mirrors : Mirrors end behind
+  pub along : GoesAlong (view w leave) made (view behind left) p entries printed end h
 
-history_on : (p : Parts) (w : WorldState) (leave : List Rows) (here : Clocks) (entries : List Entry) (printed : List Line) (end : Parts) → Mirrors p w → IsTimelyWorld w entries here → GoOn here entries → AreFair entries → History p entries printed end → Mirrored w leave printed end
+history_on : (p : Parts) (w : WorldState) (leave : List Rows) (here : Clocks) (entries : List Entry) (printed : List Line) (end : Parts) → Mirrors p w → IsTimelyWorld w entries here → GoOn here entries → AreFair entries → (h : History p entries printed end) → Mirrored w leave p entries printed end h
 history_on p w leave here [] printed end same timely on fair h = record {
   made = [];
   behind = w;
   left = leave;
   run = (h.0, refl);
   mirrors = rw h.1 same;
+  along = (holds_so p w leave same, refl, refl);
 }
 history_on p w leave here (entry ∷ entries) printed end same timely on fair h =
     let first = enters_by p w leave here entry entries same timely on fair entry.deed refl h.0 h.1 h.3 in
@@ -202,6 +218,16 @@ history_on p w leave here (entry ∷ entries) printed end same timely on fair h 
       left = rest.left;
       run = rw h.5 (run_append (view w leave) (view first.behind first.left) (view rest.behind rest.left) first.made rest.made h.1 h.2 first.run rest.run);
       mirrors = rest.mirrors;
+      along = (
+        holds_so p w leave same,
+        first.made,
+        rest.made,
+        view first.behind first.left,
+        refl,
+        run_sure (view w leave) first.made h.1 (view first.behind first.left) first.run refl,
+        shows_clocks first.behind entries entry.clocks first.timely,
+        rest.along,
+      );
     }
 
 -- from nothing on: clocks that show no moment yet
@@ -218,20 +244,14 @@ began cell rows terms entries = record { early = omega arith; master = tt; each 
 began_mirrors : (cell : List ℕ) (rows : Rows) (terms : MasterTerms) → Mirrors (nothing_yet cell rows terms) (new_world cell rows terms)
 began_mirrors cell rows terms = record { cell = refl; rows = refl; master = refl; clients = λ n. refl; messages = refl; terms = refl }
 
-whole : (cell : List ℕ) (rows : Rows) (terms : MasterTerms) (entries : List Entry) (printed : List Line) (end : Parts) → History (nothing_yet cell rows terms) entries printed end → AreFair entries → Mirrored (new_world cell rows terms) [] printed end
+whole : (cell : List ℕ) (rows : Rows) (terms : MasterTerms) (entries : List Entry) (printed : List Line) (end : Parts) → (h : History (nothing_yet cell rows terms) entries printed end) → AreFair entries → Mirrored (new_world cell rows terms) [] (nothing_yet cell rows terms) entries printed end h
 whole cell rows terms entries printed end h fair =
     history_on (nothing_yet cell rows terms) (new_world cell rows terms) [] no_clocks entries printed end (began_mirrors cell rows terms) (began cell rows terms entries) (goes_on_from entries) fair h
 
 pub are_runs : HistoriesAreRuns
 are_runs cell rows terms entries printed end h fair =
     let all = whole cell rows terms entries printed end h fair in
-    let same = all.mirrors in
-    record {
-      steps = all.made;
-      new = view all.behind all.left;
-      run = all.run;
-      holds = record { rows = same.rows; master = same.master; clients = same.clients; messages = same.messages; undoubted = refl };
-    }
+    record { steps = all.made; new = view all.behind all.left; run = all.run; holds = holds_so end all.behind all.left all.mirrors; along = all.along }
 
 pub hold : HistoriesHold
 hold cell rows terms entries printed end range h fair =

@@ -45,7 +45,8 @@ use Rattle.watch_cell.specs.Views.{WatchedState}
 use Rattle.watch_cell.specs.Trail.{step_of, after_take, after_sweep}
 use Rattle.history_laws.specs.Parts.{Parts, Deed, ComesUp, Takes, Sweeps, AnswersBeat, Goes}
 use Rattle.history_laws.specs.Histories.{Clocks, Entry, Does, History}
-use Rattle.history_laws.specs.Hosted.{swept_lines, swept_outs, settled_lines, settled_outs, reply_lines, reply_outs, IsHostedIn, IsPossibleFrame, IsAtMoment, at_moment, behind_frame, FramesAreDeeds, BytesCarryMessages, TrailsAreDeeds}
+use Rattle.history_laws.specs.Hosted.{swept_lines, swept_outs, settled_lines, settled_outs, reply_lines, reply_outs, IsHostedIn, IsPossibleFrame, IsAtMoment, at_moment, behind_frame, FramesAreDeeds, BytesCarryMessages, ShowsMoment, TrailsAreDeeds}
+use Rattle.history_laws.proofs.Moments.{takes_then, sweeps_then, edits_then}
 
 -- ---- the parts after some steps
 
@@ -425,7 +426,7 @@ module _ (p : Parts) (clocks : Clocks) (old new : WatchedState) (reply : Swept) 
       let is : ◌≡◌ {A = WatchedState × Swept} a (new, reply) = cc in
       subst (λ (x : WatchedState × Swept). IsDeed x.0 x.1) is own
 
-  taken_so : (now at : ℕ) (message : Request) (r : Result (MasterState × Taken) Fault) → clocks.master ≡ now → request_at p.told at ≡ Some message → is_client_number (request_client message) ≡ true → take_step old.master now message ≡ r → after_take old r ≡ Ok (new, reply) → IsDeed new reply
+  taken_so : (now at : ℕ) (message : Request) (r : Result (MasterState × Taken) Fault) → ShowsMoment clocks.master old.master now → request_at p.told at ≡ Some message → is_client_number (request_client message) ≡ true → take_step old.master now message ≡ r → after_take old r ≡ Ok (new, reply) → IsDeed new reply
   taken_so now at message (Err fault) when told numbered step h = cc
   taken_so now at message (Ok done) when told numbered step h =
       it_comes (record old { master = done.0 }, swept_as done.1 false) h (
@@ -438,13 +439,13 @@ module _ (p : Parts) (clocks : Clocks) (old new : WatchedState) (reply : Swept) 
           up = up;
           was_told = told;
           numbered = numbered;
-          step = rw when step;
+          step = takes_then old.master clocks.master now message when ∙ step;
           left = ap (λ r. record p { rows = r; master = Some done.0; told = p.told ++ map ToClient done.1.outs }) (sym rows);
           prints = refl;
         },
       )
 
-  swept_so : (now : ℕ) (r : Result (MasterState × Swept) Fault) → clocks.master ≡ now → sweep_step old.master now ≡ r → after_sweep old (sweep_edits old.master now) r ≡ Ok (new, reply) → IsDeed new reply
+  swept_so : (now : ℕ) (r : Result (MasterState × Swept) Fault) → ShowsMoment clocks.master old.master now → sweep_step old.master now ≡ r → after_sweep old (sweep_edits old.master now) r ≡ Ok (new, reply) → IsDeed new reply
   swept_so now (Err fault) when step h = cc
   swept_so now (Ok done) when step h =
       it_comes (record { master = done.0; rows = changed_rows old.rows (sweep_edits old.master now) }, done.1) h (
@@ -454,8 +455,8 @@ module _ (p : Parts) (clocks : Clocks) (old new : WatchedState) (reply : Swept) 
           next = done.0;
           swept = done.1;
           up = up;
-          step = rw when step;
-          left = ap (λ r. record p { rows = r; master = Some done.0; told = p.told ++ map ToClient done.1.outs }) (ap (λ r. changed_rows r (sweep_edits old.master now)) (sym rows) ∙ ap (λ t. changed_rows p.rows (sweep_edits old.master t)) (sym when));
+          step = sweeps_then old.master clocks.master now when ∙ step;
+          left = ap (λ r. record p { rows = r; master = Some done.0; told = p.told ++ map ToClient done.1.outs }) (ap (λ r. changed_rows r (sweep_edits old.master now)) (sym rows) ∙ ap (λ edits. changed_rows p.rows edits) (sym (edits_then old.master clocks.master now when)));
           prints = refl;
         },
       )

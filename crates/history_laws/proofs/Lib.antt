@@ -3,6 +3,8 @@ mod Ticking
 mod Mirrored
 mod Deeds
 mod Histories
+mod Points
+mod Moments
 mod Tried
 mod Example
 mod Hosted
@@ -10,3 +12,6 @@ mod Grouped
 mod Lost
 mod Unheard
 mod Kept
+mod ComeUp
+mod WorldsUp
+mod HostsUp

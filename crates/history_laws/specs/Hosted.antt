@@ -1,11 +1,13 @@
 -- A master that a program hosts behind a stream of frames is such a part: what it does by a frame is deeds of the master, at the frame's moment.
-use Rattle.std.specs.Prelude.{◌≡◌, ℕ, true, List, [], ◌∷◌, ◌++◌, map, Option, Some, None, Result, Ok, Err}
+use Rattle.std.specs.Prelude.{◌≡◌, ◌⊎◌, ◌≤◌, ℕ, true, List, [], ◌∷◌, ◌++◌, map, Option, Some, None, Result, Ok, Err}
+use Rattle.lease_core.specs.Lease.{IsMoment}
 use Rattle.node_core.specs.declared.lines.Line.{Line}
 use Rattle.node_core.specs.declared.lines.Line.TheVariants as lines
 use Rattle.rows_cell.specs.declared.settings.MasterTerms.{MasterTerms}
 use Rattle.tags_cell.specs.Numbers.{is_client_number}
 use Rattle.tags_cell.specs.Messages.{request_client}
 use Rattle.tags_cell.specs.declared.messages.outs.Out.{Out}
+use Rattle.master_state.specs.State.{MasterState}
 use Rattle.over_core.specs.declared.swept.Swept.{Swept}
 use Rattle.world_steps.specs.declared.mail.Message.TheVariants.{ToClient}
 use Rattle.world_steps.specs.declared.mail.Message.{Message}
@@ -147,14 +149,18 @@ BytesCarryMessages =
 
 -- ---- a master that threads share
 
--- a message that it is given was told before, by a client; and the moment is what the master's clock shows
-abbrev pub IsPossibleEvent : Parts → Clocks → WatchEvent → Type 0
-IsPossibleEvent p clocks (events.Take now message) = (clocks.master ≡ now) × (at : ℕ) × (request_at p.told at ≡ Some message) × (is_client_number (request_client message) ≡ true)
-IsPossibleEvent p clocks (events.Sweep now) = clocks.master ≡ now
+-- the master's clock shows the moment; or it shows what the master knew before, if another thread was first with a later moment
+abbrev pub ShowsMoment : ℕ → MasterState → ℕ → Type 0
+ShowsMoment shown s now = (shown ≡ now) ⊎ ((now ≤ s.clock) × (shown ≡ s.clock) × IsMoment s.clock)
 
--- each entry of a watch's trail is a deed of its master
+-- so it does, and a message that the master is given was told before, by a client
+abbrev pub IsPossibleEvent : Parts → Clocks → MasterState → WatchEvent → Type 0
+IsPossibleEvent p clocks s (events.Take now message) = ShowsMoment clocks.master s now × (at : ℕ) × (request_at p.told at ≡ Some message) × (is_client_number (request_client message) ≡ true)
+IsPossibleEvent p clocks s (events.Sweep now) = ShowsMoment clocks.master s now
+
+-- each entry of a watch's trail is a deed of its master, also if the moments fall
 abbrev pub TrailsAreDeeds : Type 0
 TrailsAreDeeds =
     (p : Parts) (clocks : Clocks) (old new : WatchedState) (event : WatchEvent) (reply : Swept)
-    → p.master ≡ Some old.master → p.rows ≡ old.rows → IsPossibleEvent p clocks event → step_of old event ≡ Ok (new, reply)
+    → p.master ≡ Some old.master → p.rows ≡ old.rows → IsPossibleEvent p clocks old.master event → step_of old event ≡ Ok (new, reply)
     → (deed : Deed) × Does p clocks deed (record p { rows = new.rows; master = Some new.master; told = p.told ++ map ToClient reply.outs }) reply.lines

@@ -5,3 +5,4 @@ pub mod Example
 pub mod Hosted
 pub mod Lost
 pub mod Kept
+pub mod ComeUp

@@ -1,5 +1,5 @@
 //! Parts that run apart are a world.
-ghost use Rattle.history_laws.specs.Laws.{HistoriesAreRuns, HistoriesHold, CachesShowTheRows, CachesAnswerTheRows};
+ghost use Rattle.history_laws.specs.Laws.{HistoriesAreRuns, HistoriesHold, PrefixesArePoints, CachesShowTheRows, CachesAnswerTheRows};
 ghost use Rattle.history_laws.specs.Hosted.{FramesAreDeeds, GroupsAreDeeds, BytesCarryMessages, TrailsAreDeeds};
 ghost use Rattle.history_laws.specs.Lost.{LostGroupsAreEnds, UnheardAreAsUntold};
 ghost use Rattle.history_laws.specs.Kept.{ViewsAnswerTheRows};
@@ -14,6 +14,11 @@ pub fn histories_are_runs()
 /// So all that holds of the runs of a world holds of them.
 pub fn histories_hold()
     ensures { HistoriesHold }
+{}
+
+/// Each point of a history is a point of that run, so all of this holds from there on of what the parts hold then.
+pub fn prefixes_are_points()
+    ensures { PrefixesArePoints }
 {}
 
 /// Whatever a client serves from its cache is what the master's rows hold of that name at that moment.
@@ -66,7 +71,8 @@ pub fn caches_answer_the_rows()
     ensures { CachesAnswerTheRows }
 {}
 
-/// A master that threads share is such a part: each entry of its trail is a deed.
+/// A master that threads share is such a part: each entry of its trail is a deed, also where a thread comes with an earlier moment than
+/// the one before.
 pub fn trails_are_deeds()
     ensures { TrailsAreDeeds }
 {}

@@ -3,9 +3,12 @@
 #![tactic(auto)]
 
 mod laws;
+mod masters;
 
 pub use laws::{
     bytes_carry_messages, caches_answer_the_rows, caches_show_the_rows, frames_are_deeds,
-    groups_are_deeds, histories_are_runs, histories_hold, nothing_comes_of_nobody,
-    trails_are_deeds, two_programs_are_possible, views_answer_the_rows,
+    groups_are_deeds, histories_are_runs, histories_hold, lost_groups_are_ends,
+    nothing_comes_of_nobody, prefixes_are_points, trails_are_deeds, two_programs_are_possible,
+    unheard_are_as_untold, views_answer_the_rows,
 };
+pub use masters::{hosts_have_come_up, masters_have_come_up, worlds_have_come_up};

@@ -1,28 +1,36 @@
 -- Who holds up a change, and until when.
-use Rattle.std.specs.Prelude.{◌≡◌, ◌<◌, ◌≤◌, ◌+◌, ◌==◌, ℕ, Bool, true, false, List, [], ◌∷◌, fold, All, Contains, Some, is_some, max, if◌then◌else◌}
+use Rattle.std.specs.Prelude.{◌≡◌, ◌<◌, ◌≤◌, ◌+◌, ◌==◌, ℕ, Bool, true, false, List, [], ◌∷◌, fold, All, Contains, Option, Some, None, is_some, max, codes, if◌then◌else◌}
 use Rattle.std.specs.List.{list_all, list_any}
 use Rattle.lease_core.specs.Lease.{longest_lease, recovery_timeout}
 use Rattle.rows_cell.specs.declared.settings.Limits.{Limits}
-use Rattle.rows_cell.specs.Settings.{no_limits}
+use Rattle.rows_cell.specs.Settings.{standard, terms_of}
+use Rattle.rows_cell.specs.Opening.{opening}
+use Rattle.rows_cell.specs.Rows.{changed_rows}
 use Rattle.rows_cell.specs.declared.tables.Rows.{Rows}
+use Rattle.node_core.specs.declared.kinds.Life.TheVariants as lives
+use Rattle.tags_cell.specs.Masks.{no_events}
+use Rattle.tags_cell.specs.declared.messages.calls.Call.TheVariants as calls
+use Rattle.tags_cell.specs.declared.messages.calls.Create.{Create}
+use Rattle.tags_cell.specs.declared.messages.calls.Disposition.TheVariants as dispositions
+use Rattle.tags_cell.specs.declared.messages.calls.NewNode.TheVariants as nodes
+use Rattle.tags_cell.specs.declared.messages.calls.Open.{Open}
 use Rattle.tags_cell.specs.Messages.{request_client}
 use Rattle.tags_cell.specs.Numbers.{is_client_number}
 use Rattle.tags_cell.specs.declared.messages.outs.Reply.{Reply}
 use Rattle.tags_cell.specs.declared.messages.requests.Request.{Request}
 use Rattle.tags_cell.specs.declared.messages.requests.Request.TheVariants as requests
-use Rattle.rights_core.specs.declared.cache_rights.RightStatus.TheVariants as statuses
 use Rattle.rights_core.specs.declared.endings.Ending.TheVariants as endings
 use Rattle.rights_core.specs.Rights.{holds, ended}
 use Rattle.rights_core.specs.Laws.{asked_for}
 use Rattle.gate_core.specs.declared.pending.Waiting.{Waiting}
 use Rattle.gate_core.specs.Gate.{touches}
 use Rattle.session_core.specs.declared.records.Session.{Session}
-use Rattle.session_core.specs.Session.{has_heard, patience, session_until}
+use Rattle.session_core.specs.Session.{has_heard, patience}
 use Rattle.master_parts.specs.declared.pending.Task.{Task}
-use Rattle.master_parts.specs.declared.pending.Task.TheVariants as tasks
 use Rattle.master_state.specs.State.{MasterState, master_of, next_change}
 use Rattle.master_state.specs.Lookups.{session_of, noted}
 use Rattle.over_core.specs.Kept.{IsKept}
+use Rattle.over_core.specs.Up.{up_edits}
 use Rattle.over_core.specs.declared.actions.Action.TheVariants as actions
 use Rattle.over_core.specs.Deadlines.{quiet_at}
 use Rattle.over_core.specs.Plans.{first_action}
@@ -166,38 +174,40 @@ ChangesGoOn =
     → Contains s.gate.waiting change → Contains new.gate.waiting change → quiet_at new now ≡ true → s.clock + longest_hold lease ≤ now
     → touches name change ≡ true → holds client name new.rights ≡ false
 
--- ---- an instance: a client may keep a file in its cache until 12,000, and a change of the file waits for it
+-- ---- an instance: a client keeps in its cache, until 12,000, that there is no file of a name; a change that makes one waits for it
 
-abbrev pub kept_name : List ℕ
-kept_name = 47 ∷ 120 ∷ []
+abbrev pub new_rows : Rows
+new_rows = changed_rows (opening standard) (up_edits (opening standard))
 
-abbrev pub keeping_session : Session Reply
-keeping_session = record (session_until [] true 12000) { invalidations = record { issued = 1; acknowledged = 0 } }
+abbrev pub wanted_name : List ℕ
+wanted_name = codes "/ls/c/x"
 
-abbrev pub waiting_change : Waiting Task
-waiting_change = record { number = 1; change = record { touched = kept_name ∷ []; body = tasks.Tidies (record { name = kept_name; instance = 1 }) } }
+abbrev pub opening_of : Option Create → Open
+opening_of create = record { name = wanted_name; mode = record { read = true; write = true; change = false }; create = create; delay = 0; events = no_events }
+
+abbrev pub making : Create
+making = record { disposition = dispositions.May; node = nodes.File []; life = lives.Permanent; acls = None }
+
+abbrev pub starts : ℕ → List ℕ → MasterStep
+starts client principal = Takes 0 (requests.Start (record { client = client; number = 1; principal = principal }))
+
+abbrev pub opens : ℕ → Option Create → MasterStep
+opens client create = Takes 0 (requests.Call (record { client = client; epoch = 1; number = 1; call = calls.Open (opening_of create); sequencer = None }))
+
+-- at moment 0 two clients begin; the first finds no file, and the second asks for one
+abbrev pub waiting_steps : List MasterStep
+waiting_steps = starts 1 (codes "ann") ∷ Sweeps 0 ∷ starts 2 (codes "bob") ∷ Sweeps 0 ∷ opens 1 None ∷ opens 2 (Some making) ∷ []
 
 abbrev pub waiting_master : MasterState
-waiting_master = record {
-  name = [];
-  secret = [];
-  epoch = 1;
-  next_instance = 2;
-  limits = no_limits;
-  nodes = [];
-  locks = [];
-  sessions = record { lease = 12000; sessions = (1, keeping_session) ∷ [] };
-  recovering = false;
-  handles = [];
-  rights = record { number = 1; client = 1; name = kept_name; invalidation = Some 1; status = statuses.Held } ∷ [];
-  gate = record { waiting = waiting_change ∷ []; pushed = 1 };
-  clock = 0;
-  serving_from = 0;
-}
+waiting_master = fold master_behind (master_of new_rows (terms_of standard) 0) waiting_steps
 
--- at 11,999 there is nothing to do, and the client holds the change up; at 12,000 its session is to end, and once its rights have ended the change has its turn
+-- it came up, so that the laws above hold of it. At 11,999 there is nothing to do, and the first client holds the change up; at 12,000 its session is to end, and once its rights have ended the change
+-- has its turn
 pub record AChangeWaits : Type 0 where
+  pub came : HasComeUp 12000 0 waiting_steps waiting_master
+  pub change : Waiting Task
+  pub alone : waiting_master.gate.waiting ≡ change ∷ []
   pub nothing : quiet_at waiting_master 11999 ≡ true
-  pub waits : HoldsUp waiting_master 11999 1 waiting_change
+  pub waits : HoldsUp waiting_master 11999 1 change
   pub ends : first_action (noted waiting_master 12000) ≡ actions.Expire 1
-  pub goes_on : next_change (record waiting_master { rights = ended 1 endings.Expiry waiting_master.rights }) ≡ Some 1
+  pub goes_on : next_change (record waiting_master { rights = ended 1 endings.Expiry waiting_master.rights }) ≡ Some change.number

@@ -47,7 +47,8 @@ pub fn changes_go_on()
     ensures { ChangesGoOn }
 {}
 
-/// An instance: a master in which a change waits for a client until 12,000 ms, when the client's session ends.
+/// An instance: a master that came up over a new store, in which a change waits for a client until 12,000 ms, when the client's
+/// session ends.
 pub fn a_change_waits()
     ensures { AChangeWaits }
 {}

@@ -24,7 +24,7 @@ use Rattle.world_cell.proofs.HeldByRuns.{run_held}
 use Rattle.world_cell.proofs.HoldsByName.{run_rises}
 use Rattle.world_cell.proofs.TurnsByRuns.{run_turns}
 
-run_holds : (old : WorldView) (steps : List Step) (printed : List Line) (new : WorldView) → IsConsistent old.world → Run old steps printed new → HoldsOfRun old steps printed new
+pub run_holds : (old : WorldView) (steps : List Step) (printed : List Line) (new : WorldView) → IsConsistent old.world → Run old steps printed new → HoldsOfRun old steps printed new
 run_holds old steps printed new h run =
     let tells = run_tells old steps printed new h run in
     let last = run_consistent old steps printed new h run in
