@@ -113,6 +113,9 @@ fn noted(
     past.and(note, change)
 }
 
+// Rows that were told and that nobody wants end here.
+fn drop_whole(_whole: Whole) {}
+
 // The rows of a note, if there are any.
 fn rows_in(note: KeeperHistory) -> Option<Rows>
     ensures { result ≡ told_in note }
@@ -202,6 +205,13 @@ impl<I: Read, W: Write> FrameRecords<I, W> {
         self.refuse()
     }
 
+    // The first rows are asked for no more.
+    fn forget_first(&mut self)
+        ensures { self.new ≡ record self.old { first = None } }
+    {
+        self.first = None;
+    }
+
     // Asks for a commit of these bytes.
     fn ask_commit(&mut self, change: &Items<Edit>, question: &[u8]) -> Result<(), StoreFault>
         requires ready { self.old.standing ≡ KeeperStanding.Ready }
@@ -212,7 +222,7 @@ impl<I: Read, W: Write> FrameRecords<I, W> {
         ensures commits { Commits change.now self.old.store self.new.store (told result) }
         ensures by { CommitsBy change.now self.old self.new (told result) }
     {
-        self.first = None;
+        self.forget_first();
         match ask(self.alloc, &mut self.asked, &mut self.answered, question) {
             Some(KeeperAnswer::Kept) => {
                 self.past = noted(&self.past, &KeeperHistory::Done, change);
@@ -220,7 +230,10 @@ impl<I: Read, W: Write> FrameRecords<I, W> {
                 Ok(())
             }
             Some(KeeperAnswer::Refused) => Err(self.turn_down(change, KeeperStanding::Behind)),
-            Some(KeeperAnswer::Rows(_)) => Err(self.turn_down(change, KeeperStanding::Shut)),
+            Some(KeeperAnswer::Rows(whole)) => {
+                drop_whole(whole);
+                Err(self.turn_down(change, KeeperStanding::Shut))
+            }
             None => Err(self.turn_down(change, KeeperStanding::Shut)),
         }
     }
