@@ -175,6 +175,11 @@ pub is_up_then : {Cell Master Records : Type 0} (master : Cell → Master) (up :
 is_up_then master None records held_by gone = let there : is_some records ≡ false = rw gone refl in cc
 is_up_then master (Some cell) records held_by gone = refl
 
+-- and while the records are there none is
+pub none_up_then : {Cell Master Records : Type 0} (master : Cell → Master) (up : Option Cell) (records : Option Records) (r : Records) → is_some records ≡ not (is_some up) → records ≡ Some r → option_map master up ≡ None
+none_up_then master None records r held_by there = refl
+none_up_then master (Some cell) records r held_by there = let gone : is_some records ≡ true = rw there refl in cc
+
 twice_by : (old : WorldView) (now : ℕ) (m : Option MasterState) → is_some m ≡ true → world_up old.world now m ≡ Err faults.MasterUp
 twice_by old now None up = cc
 twice_by old now (Some master) up = refl
