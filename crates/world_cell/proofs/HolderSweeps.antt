@@ -73,7 +73,7 @@ use Rattle.world_cell.proofs.EffectHolds.{IsTaken, IsAwaited, IsGivenBack, Tells
 use Rattle.world_cell.proofs.EffectLocks.{IsGone, Raises, effect_raises}
 use Rattle.world_cell.proofs.HeldSweeps.{IsPlaced, all_placed, busy_placed, still_found, kept_generation, effect_of, due_busy}
 use Rattle.world_cell.proofs.HeldTurns.{own_key}
-use Rattle.world_cell.proofs.HolderTurns.{IsAmong, among_left, among_right, among_map, same_owner, held_found, GotIt, IsTold, same_told, held_told, settled_told, more_told, left_told, lapse_told}
+use Rattle.world_cell.proofs.HolderTurns.{IsAmong, both_ways, among_left, among_right, among_map, same_owner, held_found, GotIt, IsTold, same_told, held_told, settled_told, more_told, left_told, lapse_told}
 use Rattle.world_cell.proofs.InstancesKept.{own_gone, others_stay}
 use Rattle.world_cell.proofs.LockHolders.{rows_hold}
 use Rattle.world_cell.proofs.LocksRise.{holds_in}
@@ -320,10 +320,10 @@ module _ (cell : List ℕ) (rows : Rows) (s : MasterState) (k : IsKept cell rows
           → IsAmong (lines.Applied whose number (Gone name) names) (swept_by s c).1.lines → Gets c key × Loses c key
       by_rows (inl same) now told =
           let stays : is_held (changed_rows rows (swept_edits s c)) key ≡ is_held rows key = now ∙ ap (λ (ls : StoredLocks). holds_by ls key) same in
-          (λ none some. absurd cc, λ some none. absurd cc)
+          (λ none some. absurd (both_ways (is_held rows key) none (sym stays ∙ some)), λ some none. absurd (both_ways (is_held rows key) (sym stays ∙ none) some))
       by_rows (inr went) now told =
           let none_left : is_held (changed_rows rows (swept_edits s c)) key ≡ false = now ∙ ap (λ (ls : StoredLocks). holds_by ls key) went.0 in
-          (λ none some. absurd cc, λ some none. inr (inr (record { client = whose; number = number; name = name; names = names; told = told; found = went.1 })))
+          (λ none some. absurd (both_ways (is_held (changed_rows rows (swept_edits s c)) key) none_left some), λ some none. inr (inr (record { client = whose; number = number; name = name; names = names; told = told; found = went.1 })))
 
   -- a change that leaves the locks, or by which a node goes
   changed_told : (c : SweepCase s) (change : Mod) (next whose number : ℕ) (names : List (List ℕ)) → (swept_by s c).0.locks ≡ s.locks → (swept_by s c).1.lines ≡ lines.Applied whose number change names ∷ [] → swept_edits s c ≡ edit_of change ∷ NextInstance next ∷ [] → IsToldOf c

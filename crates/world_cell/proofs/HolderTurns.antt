@@ -44,21 +44,15 @@ among_map f x [] h = absurd h
 among_map f x (y ∷ ys) (inl is) = inl (ap f is)
 among_map f x (y ∷ ys) (inr h) = inr (among_map f x ys h)
 
+among_kept : {X : Type 0} (keep : X → Bool) (x y : X) (ys : List X) → keep x ≡ true → (IsAmong x ys → IsAmong x (filter keep ys)) → (x ≡ y) ⊎ IsAmong x ys → (b : Bool) → keep y ≡ b → IsAmong x (cond b (y ∷ filter keep ys) (filter keep ys))
+among_kept keep x y ys k rest (inl same) true is = inl same
+among_kept keep x y ys k rest (inl same) false is = let other : keep x ≡ false = ap keep same ∙ is in absurd cc
+among_kept keep x y ys k rest (inr among) true is = inr (rest among)
+among_kept keep x y ys k rest (inr among) false is = rest among
+
 pub among_filter : {X : Type 0} (keep : X → Bool) (x : X) (xs : List X) → keep x ≡ true → IsAmong x xs → IsAmong x (filter keep xs)
 among_filter keep x [] k h = absurd h
-among_filter {X} keep x (y ∷ ys) k h =
-    (elim (keep y) as (λ b. keep y ≡ b → (x ≡ y) ⊎ IsAmong x ys → IsAmong x (cond b (y ∷ filter keep ys) (filter keep ys))) [
-      | true ↦ (λ is t. among_head t)
-      | false ↦ (λ is t. among_rest is t)
-    ]) refl h
-  where
-    among_head : (x ≡ y) ⊎ IsAmong x ys → IsAmong x (y ∷ filter keep ys)
-    among_head (inl same) = inl same
-    among_head (inr among) = inr (among_filter keep x ys k among)
-
-    among_rest : keep y ≡ false → (x ≡ y) ⊎ IsAmong x ys → IsAmong x (filter keep ys)
-    among_rest is (inl same) = let other : keep x ≡ false = ap keep same ∙ is in absurd cc
-    among_rest is (inr among) = among_filter keep x ys k among
+among_filter keep x (y ∷ ys) k h = among_kept keep x y ys k (among_filter keep x ys k) h (keep y) refl
 
 pub among_contains : {X : Type 0} (x : X) (xs : List X) → IsAmong x xs → Contains xs x
 among_contains x [] h = absurd h
@@ -67,10 +61,13 @@ among_contains x (y ∷ ys) (inr h) = Contains-append_right (y ∷ []) ys x (amo
 
 -- ---- a handle that holds it
 
+pub both_ways : (b : Bool) → b ≡ false → b ≡ true → ⊥
+both_ways b h k = absurd cc
+
 own_owner : (owner : Owner) → is_at (owner_order owner) owner ≡ true
 own_owner owner = rw (tied_itself nat_cmp_total owner.client, tied_itself nat_cmp_total owner.handle) refl
 
-same_owner : (owner other : Owner) → is_at (owner_order owner) other ≡ true → owner ≡ other
+pub same_owner : (owner other : Owner) → is_at (owner_order owner) other ≡ true → owner ≡ other
 same_owner owner other h = exact_owner owner other (eq_at (owner_order owner other) h)
 
 pub held_found : (holders : Holders) (owner : Owner) → holds_in holders owner ≡ true → (hold : Hold) × (lookup (is_at (owner_order owner)) holders ≡ Some hold)
@@ -121,7 +118,7 @@ abbrev pub Granted : Owner → LockState → List Claim → Type 0
 Granted owner lock granted = (hold : Hold) × (hold_of lock owner ≡ Some hold) × IsAmong (let c : Claim = record { owner = owner; hold = hold } in c) granted
 
 served_gives : (lock : LockState) (granted waiters : List Claim) (owner : Owner) → holds_in lock.holders owner ≡ false → holds_in (served_from lock granted waiters).lock.holders owner ≡ true → Granted owner (served_from lock granted waiters).lock (served_from lock granted waiters).granted
-served_gives lock granted [] owner none some = absurd cc
+served_gives lock granted [] owner none some = absurd (both_ways (holds_in lock.holders owner) none some)
 served_gives lock granted (first ∷ rest) owner none some =
     (elim (fits lock first) as (λ b. fits lock first ≡ b → holds_in (cond b (served_from (held_by lock first) (granted ++ first ∷ []) rest) (record { lock = record lock { waiters = first ∷ rest }; granted = granted; exhausted = [] })).lock.holders owner ≡ true
     → Granted owner (cond b (served_from (held_by lock first) (granted ++ first ∷ []) rest) (record { lock = record lock { waiters = first ∷ rest }; granted = granted; exhausted = [] })).lock (cond b (served_from (held_by lock first) (granted ++ first ∷ []) rest) (record { lock = record lock { waiters = first ∷ rest }; granted = granted; exhausted = [] })).granted) [
@@ -136,13 +133,13 @@ served_gives lock granted (first ∷ rest) owner none some =
                 (first.hold, stays, subst P (sym (same_owner owner first.owner own)) among))
             | false ↦ (λ apart. served_gives (held_by lock first) (granted ++ first ∷ []) rest owner (none_put (is_at (owner_order owner)) lock.holders first.owner first.hold none apart) k)
           ]) refl)
-      | false ↦ (λ is k. absurd cc)
+      | false ↦ (λ is k. absurd (both_ways (holds_in lock.holders owner) none k))
     ]) refl some
 
 pub settled_gives : (lock : LockState) (owner : Owner) → holds_in lock.holders owner ≡ false → holds_in (settled lock).lock.holders owner ≡ true → Granted owner (settled lock).lock (settled lock).granted
 settled_gives lock owner none some =
     (elim (is_exhausted lock) as (λ b. holds_in (cond b (turned_away lock) (served lock)).lock.holders owner ≡ true → Granted owner (cond b (turned_away lock) (served lock)).lock (cond b (turned_away lock) (served lock)).granted) [
-      | true ↦ (λ k. absurd cc)
+      | true ↦ (λ k. absurd (both_ways (holds_in lock.holders owner) none k))
       | false ↦ (λ k. served_gives (record lock { waiters = [] }) [] lock.waiters owner none k)
     ]) some
 
@@ -202,8 +199,8 @@ granted_told at turn owner h = (h.0, h.1, among_map (locked_line at turn.lock.ge
 
 pub same_told : (Loses : Owner → Type 0) (at : ℕ) (old new : LockState) (printed : List Line) → new.holders ≡ old.holders → IsTold Loses at old new printed
 same_told Loses at old new printed same = record {
-  gets = λ owner none some. let now : holds_in new.holders owner ≡ false = ap (λ (hs : Holders). holds_in hs owner) same ∙ none in absurd cc;
-  loses = λ owner some none. let now : holds_in new.holders owner ≡ true = ap (λ (hs : Holders). holds_in hs owner) same ∙ some in absurd cc;
+  gets = λ owner none some. absurd (both_ways (holds_in new.holders owner) (ap (λ (hs : Holders). holds_in hs owner) same ∙ none) some);
+  loses = λ owner some none. absurd (both_ways (holds_in new.holders owner) none (ap (λ (hs : Holders). holds_in hs owner) same ∙ some));
 }
 
 -- a claim gets it
@@ -214,12 +211,13 @@ held_told Loses at lock claim fit = record {
         | true ↦ (λ own.
             let found : hold_of (held_by lock claim) owner ≡ Some claim.hold = put_found lock.holders claim.owner claim.hold owner ∙ ap (λ b. cond b (Some claim.hold) (hold_of lock owner)) own in
             (claim.hold, found, inl (ap (λ (o : Owner). lines.Locked o.client at claim.hold.mode (held_by lock claim).generation) (same_owner owner claim.owner own))))
-        | false ↦ (λ apart. let still = none_put (is_at (owner_order owner)) lock.holders claim.owner claim.hold none apart in absurd cc)
+        | false ↦ (λ apart. absurd (both_ways (holds_in (held_by lock claim).holders owner) (none_put (is_at (owner_order owner)) lock.holders claim.owner claim.hold none apart) some))
       ]) refl;
   loses = λ owner some none.
       let t = held_found lock.holders owner some in
       let stays = held_stays lock claim owner t.0 fit t.1 in
       let gone = absent_of (held_by lock claim).holders owner none in
+      let never : ◌≡◌ {A = Option Hold} None (Some t.0) = sym gone ∙ stays in
       absurd cc;
 }
   where
@@ -235,7 +233,7 @@ held_told Loses at lock claim fit = record {
 pub settled_told : (Loses : Owner → Type 0) (at : ℕ) (old left : LockState) → left.holders ≡ old.holders → IsTold Loses at old (settled left).lock (map (locked_line at (settled left).lock.generation) (settled left).granted)
 settled_told Loses at old left same = record {
   gets = λ owner none some. granted_told at (settled left) owner (settled_gives left owner (ap (λ (hs : Holders). holds_in hs owner) same ∙ none) some);
-  loses = λ owner some none. let still = settled_keeps left owner (ap (λ (hs : Holders). holds_in hs owner) same ∙ some) in absurd cc;
+  loses = λ owner some none. absurd (both_ways (holds_in (settled left).lock.holders owner) none (settled_keeps left owner (ap (λ (hs : Holders). holds_in hs owner) same ∙ some)));
 }
 
 -- what is told besides
@@ -248,11 +246,11 @@ more_told Loses at old new xs ys h = record {
 -- some leave it, and those that wait get it
 pub left_told : (leaves : Owner → Bool) (at : ℕ) (lock : LockState) (turn : Turn) → (turn.lock.holders ≡ (without leaves lock).holders) ⊎ (turn ≡ settled (without leaves lock)) → IsTold (λ owner. leaves owner ≡ true) at lock turn.lock (map (locked_line at turn.lock.generation) turn.granted)
 left_told leaves at lock turn (inl same) = record {
-  gets = λ owner none some. let still : holds_in turn.lock.holders owner ≡ false = ap (λ (hs : Holders). holds_in hs owner) same ∙ without_none leaves lock owner none in absurd cc;
+  gets = λ owner none some. absurd (both_ways (holds_in turn.lock.holders owner) (ap (λ (hs : Holders). holds_in hs owner) same ∙ without_none leaves lock owner none) some);
   loses = λ owner some none.
       (elim (leaves owner) as (λ b. leaves owner ≡ b → b ≡ true) [
         | true ↦ (λ is. refl)
-        | false ↦ (λ is. let still : holds_in turn.lock.holders owner ≡ true = ap (λ (hs : Holders). holds_in hs owner) same ∙ without_some leaves lock owner is some in absurd cc)
+        | false ↦ (λ is. absurd (both_ways (holds_in turn.lock.holders owner) none (ap (λ (hs : Holders). holds_in hs owner) same ∙ without_some leaves lock owner is some)))
       ]) refl;
 }
 left_told leaves at lock turn (inr is_turn) =
@@ -263,7 +261,7 @@ left_told leaves at lock turn (inr is_turn) =
       loses = λ owner some none.
           (elim (leaves owner) as (λ b. leaves owner ≡ b → b ≡ true) [
             | true ↦ (λ is. refl)
-            | false ↦ (λ is. let still = settled_keeps left owner (without_some leaves lock owner is some) in absurd cc)
+            | false ↦ (λ is. absurd (both_ways (holds_in (settled left).lock.holders owner) none (settled_keeps left owner (without_some leaves lock owner is some))))
           ]) refl;
     })
 

@@ -29,7 +29,7 @@ use Rattle.world_cell.proofs.ClocksByRuns.{run_consistent}
 use Rattle.world_cell.proofs.ConsistentSteps.{agrees_at}
 use Rattle.world_cell.proofs.CutLines.{cut_lines}
 use Rattle.world_cell.proofs.HolderSweeps.{IsGot, IsLetGo, IsGoing, IsLost, owner_at, case_keys}
-use Rattle.world_cell.proofs.HolderTurns.{IsAmong, among_left, among_filter, among_contains}
+use Rattle.world_cell.proofs.HolderTurns.{IsAmong, both_ways, among_left, among_filter, among_contains}
 use Rattle.world_cell.proofs.LocksByCases.{noted_kept}
 use Rattle.world_cell.proofs.OwnSteps.{IsOwn, asks_own, beats_own, gives_own}
 use Rattle.world_cell.proofs.WorldCases.{WorldCase, IsSweep, world_case}
@@ -39,8 +39,8 @@ use Rattle.world_cell.proofs.WorldCases.WorldCase.{ComesUp, Joins, Asks, Beats, 
 
 same_holders : (old : WorldState) (printed : List Line) (new : WorldState) → ((key : LockKey) → is_held new.rows key ≡ is_held old.rows key) → TellsOfHolders old printed new
 same_holders old printed new same = record {
-  gets = λ key none some. let stays = same key in absurd cc;
-  loses = λ key some none. let stays = same key in absurd cc;
+  gets = λ key none some. absurd (both_ways (is_held old.rows key) none (sym (same key) ∙ some));
+  loses = λ key some none. absurd (both_ways (is_held old.rows key) (sym (same key) ∙ none) some);
 }
 
 same_rows : (old : WorldState) (printed : List Line) (new : WorldState) → new.rows ≡ old.rows → TellsOfHolders old printed new
