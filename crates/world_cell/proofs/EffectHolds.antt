@@ -253,8 +253,8 @@ module _ (s : MasterState) (legal : (instance : ℕ) → IsLegal (lock_at s.lock
   first_tells handle call o shows = found_or s legal client call (λ (answer : CallResult). answered answer) o (change_on (name_space s) s.clock handle call) (λ answer is. (tt, tt))
       (λ none. found_or s legal client call (λ view. change_at (name_space s) s.clock handle call view) (node_of_handle (name_space s) handle) (refused faults.StaleInstance)
       (λ view is.
-          let at = handle_at s.nodes handle.name handle.instance (get_node s.nodes handle.name) view refl is in
-          change_tells handle call view shows at.0 (there_by s.nodes handle.name handle.instance view at)) (λ is. (tt, tt)))
+      let at = handle_at s.nodes handle.name handle.instance (get_node s.nodes handle.name) view refl is in
+      change_tells handle call view shows at.0 (there_by s.nodes handle.name handle.instance view at)) (λ is. (tt, tt)))
 
   on_tells : (handle : Handle) (call : Call) (sequencer : Option (List ℕ)) → Shows call handle → TellsBy s client call (effect_on (name_space s) s.clock handle call sequencer)
   on_tells handle (calls.Close bytes) sequencer shows = (shut_tells (calls.Close bytes) handle (node_of_handle (name_space s) handle) shows refl refl, tt)

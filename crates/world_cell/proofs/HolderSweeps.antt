@@ -129,9 +129,9 @@ module _ (s : MasterState) (parting : Parting) (whose : ℕ) where
       let apart : (e.0 == at) ≡ false = sym (at_number at e.0) ∙ ap is_eq less.0 in
       (elim (concerns whose e.1) as (λ b. lock_at (fold with_lock_put locks (lapses_puts s (those (cond b (e ∷ of_it es) (of_it es))))) at ≡ lock_at locks at) [
         | true ↦ (elim (name_of s.nodes e.0) as (λ o. lock_at (fold with_lock_put locks (option_map_or (λ name. named_put name e.0 lock ∷ []) o [] ++ rest)) at ≡ lock_at locks at) [
-            | None ↦ rest_stays at es locks less.1
-            | Some name ↦ rest_stays at es (with_lock locks e.0 lock) less.1 ∙ lock_at_put locks e.0 lock at ∙ ap (λ b. cond b lock (lock_at locks at)) apart
-          ])
+          | None ↦ rest_stays at es locks less.1
+          | Some name ↦ rest_stays at es (with_lock locks e.0 lock) less.1 ∙ lock_at_put locks e.0 lock at ∙ ap (λ b. cond b lock (lock_at locks at)) apart
+        ])
         | false ↦ rest_stays at es locks less.1
       ])
 
@@ -362,30 +362,30 @@ module _ (cell : List ℕ) (rows : Rows) (s : MasterState) (k : IsKept cell rows
       put_told (IsLost s rows printed) s.locks leave.instance leave.turn.lock printed
       (weaker_told E (IsLost s rows printed leave.instance) leave.instance lock leave.turn.lock printed
       (λ o some is.
-          let same : owner ≡ o = same_owner owner o (own_key owner o ∙ is) in
-          let found = held_found lock.holders o some in
-          let held : leave.held ≡ true = given.held ∙ ap is_some (ap (hold_of lock) same ∙ found.1) in
-          let client : asked.client ≡ o.client = sym given.own ∙ ap (λ (x : Owner). x.client) same in
-          let freed : IsAmong (lines.Freed asked.client leave.instance) printed =
-          among_left (lines.Freed asked.client leave.instance) (line_if leave.held (lines.Freed asked.client leave.instance)) (locked_lines leave.instance leave.turn)
-          (let P : Bool → Type 0 = λ b. IsAmong (lines.Freed asked.client leave.instance) (line_if b (lines.Freed asked.client leave.instance)) in subst P (sym held) (inl refl)) in
-          let P : ℕ → Type 0 = λ i. IsAmong (lines.Freed i leave.instance) printed in
-          let w : Waiting Task = record { number = turn.number; change = record { touched = turn.touched; body = tasks.Asked asked } } in
-          let Q : List (Waiting Task) → Type 0 = λ ws. IsAmong w ws in
-          let stood : Q s.gate.waiting = subst Q (sym turn.waited) (among_right w front (w ∷ back) (inl refl)) in
-          inl (record {
-            asked = asked;
-            waited = among_map (λ (x : Waiting Task). x.change.body) w s.gate.waiting stood;
-            call = call;
-            sequencer = sequencer;
-            work = work;
-            lets = given.lets;
-            handle = given.handle;
-            reads = given.reads;
-            instance = sym given.at;
-            own = same;
-            told = subst P client freed;
-          }))
+      let same : owner ≡ o = same_owner owner o (own_key owner o ∙ is) in
+      let found = held_found lock.holders o some in
+      let held : leave.held ≡ true = given.held ∙ ap is_some (ap (hold_of lock) same ∙ found.1) in
+      let client : asked.client ≡ o.client = sym given.own ∙ ap (λ (x : Owner). x.client) same in
+      let freed : IsAmong (lines.Freed asked.client leave.instance) printed =
+      among_left (lines.Freed asked.client leave.instance) (line_if leave.held (lines.Freed asked.client leave.instance)) (locked_lines leave.instance leave.turn)
+      (let P : Bool → Type 0 = λ b. IsAmong (lines.Freed asked.client leave.instance) (line_if b (lines.Freed asked.client leave.instance)) in subst P (sym held) (inl refl)) in
+      let P : ℕ → Type 0 = λ i. IsAmong (lines.Freed i leave.instance) printed in
+      let w : Waiting Task = record { number = turn.number; change = record { touched = turn.touched; body = tasks.Asked asked } } in
+      let Q : List (Waiting Task) → Type 0 = λ ws. IsAmong w ws in
+      let stood : Q s.gate.waiting = subst Q (sym turn.waited) (among_right w front (w ∷ back) (inl refl)) in
+      inl (record {
+        asked = asked;
+        waited = among_map (λ (x : Waiting Task). x.change.body) w s.gate.waiting stood;
+        call = call;
+        sequencer = sequencer;
+        work = work;
+        lets = given.lets;
+        handle = given.handle;
+        reads = given.reads;
+        instance = sym given.at;
+        own = same;
+        told = subst P client freed;
+      }))
       one)
 
   locked_group : (put : LockPut) (claim : Claim) → IsTaken s put claim
