@@ -44,6 +44,7 @@ use Rattle.lock_core.specs.State.{LockState, Holders, owner_order, mode_of, nobo
 use Rattle.lock_core.specs.Turns.{is_nobody, time_left, held_by, settled, without, is_owner, is_of_client, claims_of, closed_for, delay_of, is_abandoned, lapsed, concerns, reopened}
 use Rattle.lock_core.specs.Locks.{LockTable, lock_at, with_lock, due, is_due}
 use Rattle.master_state.specs.declared.updates.LockPut.{LockPut}
+use Rattle.master_parts.specs.Claims.{owner_of}
 use Rattle.master_parts.specs.Locks.{stored_mode, holder_key, holder_row, holder_rows, lapsed_key, closing_rows}
 use Rattle.master_parts.specs.declared.pending.Task.TheVariants as tasks
 use Rattle.master_parts.specs.declared.pending.WaitingRequest.{WaitingRequest}
@@ -183,7 +184,7 @@ module _ (instance client : ℕ) (mode : LockMode) where
   abbrev seen_of : MasterState → LockSeen
   seen_of s = seen_with s.nodes s.next_instance s.locks
 
-  kept_generation : (cell : List ℕ) (rows : Rows) (s : MasterState) → IsKept cell rows s → lock_generation_in rows.nodes instance ≡ cond (is_there s.nodes instance) (Some (lock_at s.locks instance).generation) None
+  pub kept_generation : (cell : List ℕ) (rows : Rows) (s : MasterState) → IsKept cell rows s → lock_generation_in rows.nodes instance ≡ cond (is_there s.nodes instance) (Some (lock_at s.locks instance).generation) None
   kept_generation cell rows s k = by_found (lock_generation_in rows.nodes instance) refl
     where
       there : is_there s.nodes instance ≡ has_instance rows.nodes instance
@@ -235,10 +236,10 @@ module _ (instance client : ℕ) (mode : LockMode) where
       turned x y k = grind (arith, nat_tests)
 
   -- the node of a lock is there, under a name
-  record IsPlaced (s : MasterState) (at : ℕ) : Type 0 where
-    name : List ℕ
-    is : name_of s.nodes at ≡ Some name
-    there : is_there s.nodes at ≡ true
+  pub record IsPlaced (s : MasterState) (at : ℕ) : Type 0 where
+    pub name : List ℕ
+    pub is : name_of s.nodes at ≡ Some name
+    pub there : is_there s.nodes at ≡ true
 
   busy_by : (a : Bool) (holders : Holders) (waiters : List Claim) (whose : ℕ) → (list_any (λ entry. is_of_client whose entry.0) holders || list_any (λ claim. is_of_client whose claim.owner) waiters) ≡ true → (a && is_none (mode_of holders) && is_nobody waiters) ≡ false
   busy_by a [] [] whose h = absurd cc
@@ -252,12 +253,12 @@ module _ (instance client : ℕ) (mode : LockMode) where
   there_of true there h k = absurd cc
   there_of false there h k = h
 
-  busy_placed : (cell : List ℕ) (rows : Rows) (s : MasterState) (at : ℕ) → IsKept cell rows s → is_idle (lock_at s.locks at) ≡ false → IsPlaced s at
+  pub busy_placed : (cell : List ℕ) (rows : Rows) (s : MasterState) (at : ℕ) → IsKept cell rows s → is_idle (lock_at s.locks at) ≡ false → IsPlaced s at
   busy_placed cell rows s at k busy =
       let named = not_idle cell rows s at k busy in
       record { name = named.name; is = named.is; there = there_of (is_idle (lock_at s.locks at)) (is_there s.nodes at) (k.locks.each at).there busy }
 
-  all_placed : (cell : List ℕ) (rows : Rows) (s : MasterState) (whose : ℕ) (es : LockTable) → IsKept cell rows s → AllByRecursion (λ (e : ℕ × LockState). lock_at s.locks e.0 ≡ e.1) es → AllByRecursion (λ (e : ℕ × LockState). concerns whose e.1 ≡ true → IsPlaced s e.0) es
+  pub all_placed : (cell : List ℕ) (rows : Rows) (s : MasterState) (whose : ℕ) (es : LockTable) → IsKept cell rows s → AllByRecursion (λ (e : ℕ × LockState). lock_at s.locks e.0 ≡ e.1) es → AllByRecursion (λ (e : ℕ × LockState). concerns whose e.1 ≡ true → IsPlaced s e.0) es
   all_placed cell rows s whose [] k all = tt
   all_placed cell rows s whose (e ∷ es) k all = (
     λ h. busy_placed cell rows s e.0 k (concerned_busy whose (lock_at s.locks e.0) (ap (concerns whose) all.0 ∙ h)),
@@ -265,7 +266,7 @@ module _ (instance client : ℕ) (mode : LockMode) where
   )
 
   -- those that stand behind it stay where they are found
-  still_found : (locks : LockTable) (at : ℕ) (lock : LockState) (es : LockTable) → AllByRecursion (λ n. nat_cmp at n ≡ Less) (keys_of es) → AllByRecursion (λ (e : ℕ × LockState). lock_at locks e.0 ≡ e.1) es → AllByRecursion (λ (e : ℕ × LockState). lock_at (with_lock locks at lock) e.0 ≡ e.1) es
+  pub still_found : (locks : LockTable) (at : ℕ) (lock : LockState) (es : LockTable) → AllByRecursion (λ n. nat_cmp at n ≡ Less) (keys_of es) → AllByRecursion (λ (e : ℕ × LockState). lock_at locks e.0 ≡ e.1) es → AllByRecursion (λ (e : ℕ × LockState). lock_at (with_lock locks at lock) e.0 ≡ e.1) es
   still_found locks at lock [] less all = tt
   still_found locks at lock (e ∷ es) less all = (
     lock_at_put locks at lock e.0 ∙ ap (λ b. cond b lock (lock_at locks e.0)) (behind_apart at e.0 less.0) ∙ all.0,
@@ -559,9 +560,9 @@ module _ (instance client : ℕ) (mode : LockMode) (cell : List ℕ) (rows : Row
   same_with : (t : MasterState) → t.nodes ≡ s.nodes → t.next_instance ≡ s.next_instance → t.locks ≡ s.locks → seen_of instance client mode t ≡ seen_of instance client mode s
   same_with t nodes next locks = λ j. seen_with instance client mode (nodes j) (next j) (locks j)
 
-  effect_of : (front back : List (Waiting Task)) (asked : WaitingRequest) (call : Call) (sequencer : Option (List ℕ)) (effected : Effect) → IsNextApplied s front (tasks.Asked asked) back → asked.work ≡ works.Calls call sequencer → effect (name_space s) (caller s asked.client) s.clock asked.number call sequencer ≡ effected → TellsBy s asked.client effected
+  pub effect_of : (front back : List (Waiting Task)) (asked : WaitingRequest) (call : Call) (sequencer : Option (List ℕ)) (effected : Effect) → IsNextApplied s front (tasks.Asked asked) back → asked.work ≡ works.Calls call sequencer → effect (name_space s) (caller s asked.client) s.clock asked.number call sequencer ≡ effected → TellsBy s asked.client call effected
   effect_of front back asked call sequencer effected turn work made =
-      let P : Effect → Type 0 = TellsBy s asked.client in
+      let P : Effect → Type 0 = TellsBy s asked.client call in
       let Q : Work → Type 0 = IsOwnCall s.secret asked.client in
       subst P made (effect_tells s (λ at. (k.locks.each at).legal) asked.client asked.number call sequencer (subst Q work (application_own cell rows s k front back asked turn)))
 
@@ -596,6 +597,12 @@ due_is locks now at sorted h =
     let t = due_entry (find (λ (e : ℕ × LockState). is_due now e.1) locks) at h in
     let u = all_of_found (λ (e : ℕ × LockState). lock_at locks e.0 ≡ e.1) (λ e. is_due now e.1) locks t.0 (own_locks locks sorted) t.1 in
     ap (λ n. is_due now (lock_at locks n)) (sym t.2) ∙ ap (is_due now) u.0 ∙ u.1
+
+-- a lock that is to be open again isn't idle
+pub due_busy : (cell : List ℕ) (rows : Rows) (s : MasterState) → IsKept cell rows s → (at : ℕ) → due s.locks s.clock ≡ Some at → is_idle (lock_at s.locks at) ≡ false
+due_busy cell rows s k at lowest =
+    let lock : LockState = lock_at s.locks at in
+    busy_by_closing (lock.generation == 0) (nobody_holds lock) (is_nobody lock.waiters) lock.closed s.clock (due_is s.locks s.clock at k.locks.in_order lowest)
 
 -- ---- every arm
 
@@ -655,19 +662,18 @@ module _ (instance client : ℕ) (mode : LockMode) (cell : List ℕ) (rows : Row
       group_told instance client mode s.nodes s.next_instance s.locks put.instance put.lock [] awaited.there
       (tells_nothing client mode put.instance (lock_at s.locks put.instance) put.lock awaited.generation (ap (count_by (holds_so client mode)) awaited.holders))
 
-  left_group : (whose : ℕ) (leave : Leave) → IsGivenBack s whose leave → fold (seen_by instance client mode) (seen_of instance client mode s) (leave_lines whose leave) ≡ seen_with instance client mode s.nodes s.next_instance (with_lock s.locks leave.instance leave.turn.lock)
-  left_group whose leave given =
+  left_group : (whose : ℕ) (call : Call) (leave : Leave) → IsGivenBack s whose call leave → fold (seen_by instance client mode) (seen_of instance client mode s) (leave_lines whose leave) ≡ seen_with instance client mode s.nodes s.next_instance (with_lock s.locks leave.instance leave.turn.lock)
+  left_group whose call leave given =
       let each = k.locks.each leave.instance in
       group_told instance client mode s.nodes s.next_instance s.locks leave.instance leave.turn.lock (leave_lines whose leave) given.there
-      (leaving_tells client mode leave.instance whose (lock_at s.locks leave.instance) given.owner leave.held leave.turn given.own given.turn given.held each.legal.holders each.holders_in_order)
+      (leaving_tells client mode leave.instance whose (lock_at s.locks leave.instance) (owner_of given.handle) leave.held leave.turn given.own given.turn given.held each.legal.holders each.holders_in_order)
 
   reopened_group : (at : ℕ) → due s.locks s.clock ≡ Some at → fold (seen_by instance client mode) (seen_of instance client mode s) (lines.Reopened at ∷ locked_lines at (reopened (lock_at s.locks at))) ≡ seen_with instance client mode s.nodes s.next_instance (fold with_lock_put s.locks (puts_of s at (reopened (lock_at s.locks at)).lock))
   reopened_group at lowest =
       let lock : LockState = lock_at s.locks at in
       let left : LockState = record lock { closed = None } in
       let turn : Turn = settled left in
-      let busy : is_idle lock ≡ false = busy_by_closing (lock.generation == 0) (nobody_holds lock) (is_nobody lock.waiters) lock.closed s.clock (due_is s.locks s.clock at k.locks.in_order lowest) in
-      let placed = busy_placed instance client mode cell rows s at k busy in
+      let placed = busy_placed instance client mode cell rows s at k (due_busy cell rows s k at lowest) in
       let tells : TellsOf client mode at lock turn.lock (lines.Reopened at ∷ locked_lines at turn) =
       tells_more client mode at lock left turn.lock (lines.Reopened at ∷ []) (locked_lines at turn) (another_line client mode at lock left (lines.Reopened at) (λ i seen. refl) refl refl) (turn_tells client mode at left turn (settled_granted client mode left)) in
       group_told instance client mode s.nodes s.next_instance s.locks at turn.lock (lines.Reopened at ∷ locked_lines at turn) placed.there tells
@@ -751,7 +757,7 @@ module _ (instance client : ℕ) (mode : LockMode) (cell : List ℕ) (rows : Row
       by_masters instance client mode cell rows s k (Awaited front back asked call sequencer put turn work stays live made) (sym (awaited_group put tells.0))
   case_told (Left front back asked call sequencer None leave answer turn work stays live made) =
       let tells = effect_of instance client mode cell rows s k front back asked call sequencer _ turn work made in
-      by_masters instance client mode cell rows s k (Left front back asked call sequencer None leave answer turn work stays live made) (sym (left_group asked.client leave tells.0))
+      by_masters instance client mode cell rows s k (Left front back asked call sequencer None leave answer turn work stays live made) (sym (left_group asked.client call leave tells.0))
   case_told (Left front back asked call sequencer (Some note) leave answer turn work stays live made) =
       let tells = effect_of instance client mode cell rows s k front back asked call sequencer _ turn work made in
-      by_masters instance client mode cell rows s k (Left front back asked call sequencer (Some note) leave answer turn work stays live made) (sym (left_group asked.client leave tells.0))
+      by_masters instance client mode cell rows s k (Left front back asked call sequencer (Some note) leave answer turn work stays live made) (sym (left_group asked.client call leave tells.0))

@@ -55,7 +55,7 @@ both_equal Less b e = absurd cc
 both_equal Equal b e = (refl, e)
 both_equal Greater b e = absurd cc
 
-exact_owner : CmpEqualImpliesEq owner_order
+pub exact_owner : CmpEqualImpliesEq owner_order
 exact_owner x y h =
     let t = both_equal (nat_cmp x.client y.client) (nat_cmp x.handle y.handle) h in
     let c = exact_unsigned x.client y.client t.0 in
@@ -72,7 +72,7 @@ none_of : {X : Type 0} (o : Option X) → is_none o ≡ true → o ≡ None
 none_of None h = refl
 none_of (Some x) h = absurd cc
 
-new_owner : (lock : LockState) (claim : Claim) → fits lock claim ≡ true → hold_of lock claim.owner ≡ None
+pub new_owner : (lock : LockState) (claim : Claim) → fits lock claim ≡ true → hold_of lock claim.owner ≡ None
 new_owner lock claim fit = by_mode (mode_of lock.holders) refl fit
   where
     by_mode : (o : Option LockMode) → mode_of lock.holders ≡ o → fits_mode lock claim o ≡ true → hold_of lock claim.owner ≡ None

@@ -21,6 +21,7 @@ use Rattle.world_cell.proofs.LocksByRuns.{run_legal, run_generations}
 use Rattle.world_cell.proofs.ToldByRuns.{run_shows}
 use Rattle.world_cell.proofs.LimitsByRuns.{run_stays}
 use Rattle.world_cell.proofs.HeldByRuns.{run_held}
+use Rattle.world_cell.proofs.HoldersByRuns.{run_holders}
 use Rattle.world_cell.proofs.HoldsByName.{run_rises}
 use Rattle.world_cell.proofs.TurnsByRuns.{run_turns}
 
@@ -46,6 +47,7 @@ run_holds old steps printed new h run =
       generations = run_generations old steps new h;
       fencing = run_rises old steps new h;
       held = run_held old steps printed new h run;
+      holders = run_holders old steps new h;
       told = run_shows old steps new h;
       limits = run_stays old steps printed new h run;
     }

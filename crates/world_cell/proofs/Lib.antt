@@ -69,3 +69,6 @@ pub mod EffectHolds
 pub mod HeldTurns
 pub mod HeldSweeps
 pub mod HeldByRuns
+pub mod HolderTurns
+pub mod HolderSweeps
+pub mod HoldersByRuns

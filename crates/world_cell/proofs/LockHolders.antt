@@ -41,7 +41,7 @@ holders_hold : (instance : ℕ) (holders : Holders) (owner : Owner) → holds_by
 holders_hold instance [] owner = refl
 holders_hold instance (e ∷ es) owner = rw (holding_mode e.1.mode, same_key instance owner e.0, holders_hold instance es owner) refl
 
-rows_hold : (instance : ℕ) (closed : Option Closing) (holders : Holders) (owner : Owner) → holds_by (closing_rows instance closed ++ holder_rows instance holders) (holder_key instance owner) ≡ holds_in holders owner
+pub rows_hold : (instance : ℕ) (closed : Option Closing) (holders : Holders) (owner : Owner) → holds_by (closing_rows instance closed ++ holder_rows instance holders) (holder_key instance owner) ≡ holds_in holders owner
 rows_hold instance None holders owner = holders_hold instance holders owner
 rows_hold instance (Some closing) holders owner = holders_hold instance holders owner
 

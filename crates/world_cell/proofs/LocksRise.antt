@@ -54,7 +54,7 @@ module _ (p : Owner → Bool) where
         | Greater ↦ (elim (p e.0) as (λ b. (b || any_of es) ≡ true → (b || any_of (insert_entry owner_order es owner hold)) ≡ true) [ true ↦ (λ k. refl) | false ↦ (λ k. any_put es owner hold k) ]) h
       ])
 
-  none_put : (holders : Holders) (owner : Owner) (hold : Hold) → any_of holders ≡ false → p owner ≡ false → any_of (insert_entry owner_order holders owner hold) ≡ false
+  pub none_put : (holders : Holders) (owner : Owner) (hold : Hold) → any_of holders ≡ false → p owner ≡ false → any_of (insert_entry owner_order holders owner hold) ≡ false
   none_put [] owner hold h new = or_from (p owner) false new refl
   none_put (e ∷ es) owner hold h new =
       let t = or_parts (p e.0) (any_of es) h in
@@ -82,7 +82,7 @@ module _ (p : Owner → Bool) where
         | false ↦ h
       ])
 
-  any_settled : (lock : LockState) → any_of lock.holders ≡ true → any_of (settled lock).lock.holders ≡ true
+  pub any_settled : (lock : LockState) → any_of lock.holders ≡ true → any_of (settled lock).lock.holders ≡ true
   any_settled lock h =
       (elim (is_exhausted lock) as (λ b. any_of (cond b (record { lock = record lock { waiters = [] }; granted = []; exhausted = lock.waiters }) (served lock)).lock.holders ≡ true) [
         | true ↦ h

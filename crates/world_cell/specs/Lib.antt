@@ -37,6 +37,7 @@ pub mod Runs
 pub mod Served
 pub mod Locks
 pub mod HeldLocks
+pub mod HolderSteps
 pub mod Told
 pub mod Limits
 pub mod Turns

@@ -11,6 +11,7 @@ use Rattle.world_cell.specs.Runs.{AnyRun, map_at, after_lines, epoch_at, live_at
 use Rattle.world_cell.specs.Served.{ServesPresentByThen}
 use Rattle.world_cell.specs.Locks.{HasLegalLocks, NoGenerationTwice, HoldsRise}
 use Rattle.world_cell.specs.HeldLocks.{TellsOfLocks}
+use Rattle.world_cell.specs.HolderSteps.{StepsTellOfHolders}
 use Rattle.world_cell.specs.Told.{ShowsNoOlder}
 use Rattle.world_cell.specs.Limits.{StaysWithinLimits}
 use Rattle.world_cell.specs.Turns.{HaveOneTurn}
@@ -35,6 +36,7 @@ pub record HoldsOfRun (old : WorldView) (steps : List Step) (printed : List Line
   pub generations : NoGenerationTwice old steps new
   pub fencing : HoldsRise old steps new
   pub held : TellsOfLocks old.world.rows new.world.rows printed
+  pub holders : StepsTellOfHolders old steps new
   pub told : ShowsNoOlder old steps new
   pub limits : StaysWithinLimits old.world new.world
 

@@ -11,6 +11,7 @@ ghost use Rattle.world_steps.specs.Made.{WasRefused, AnyStep};
 ghost use Rattle.world_cell.specs.Served.{ServesPresentByThen};
 ghost use Rattle.world_cell.specs.Locks.{HasLegalLocks, NoGenerationTwice, HoldsRise};
 ghost use Rattle.world_cell.specs.HeldLocks.{TellsOfLocks};
+ghost use Rattle.world_cell.specs.HolderSteps.{StepsTellOfHolders};
 ghost use Rattle.world_cell.specs.Told.{ShowsNoOlder};
 ghost use Rattle.world_cell.specs.Limits.{StaysWithinLimits};
 ghost use Rattle.world_cell.specs.Turns.{HaveOneTurn};
@@ -72,6 +73,9 @@ impl<R: Records + Drop> World<R> {
         // Of two holds from free of the lock at one name the later one has the greater pair of instance and generation, also
         // if the node was deleted and made again: who asks for this pair tells a holder of before from the present one.
         ensures fencing { IsUndoubted self.new → HoldsRise self.old steps.now self.new }
+        // By each step a handle gets a lock only with its own `locked`, in that mode and generation; and it loses it only by its
+        // Release or Close, with `freed`, by its session's end, with `ended`, or with its node.
+        ensures holders { IsUndoubted self.new → StepsTellOfHolders self.old steps.now self.new }
         // By how many handles a client holds a lock, and in which mode, the lock's generation, and the next instance are those
         // that the lines make: a handle got it (`locked`, with the generation), or let it go (`freed`); the client's session
         // ended; the node was made, or went.

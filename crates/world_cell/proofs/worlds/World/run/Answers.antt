@@ -14,6 +14,7 @@ use Rattle.world_cell.proofs.LocksByRuns.{run_legal, run_generations}
 use Rattle.world_cell.proofs.ToldByRuns.{run_shows}
 use Rattle.world_cell.proofs.LimitsByRuns.{run_stays}
 use Rattle.world_cell.proofs.HeldByRuns.{run_held}
+use Rattle.world_cell.proofs.HoldersByRuns.{run_holders}
 use Rattle.world_cell.proofs.HoldsByName.{run_rises}
 use Rattle.world_cell.proofs.TurnsByRuns.{run_turns}
 use Rattle.world_cell.proofs.worlds.World.run.Goals as goal
@@ -207,3 +208,18 @@ pub returns-clause-held : goal.returns-clause-held
 returns-clause-held g c = λ none.
     let run = whole_sure c.args.self.now c.loop-step.self c.args.steps.now c.loop-step.step-index c.loop-step.lines (omega arith) c.consistent.ensures c.loop-step.invariant none in
     run_held c.args.self.now c.args.steps.now c.loop-step.lines c.loop-step.self run.0 run.1
+
+pub returns-clause-holders : goal.returns-clause-holders
+returns-clause-holders g c = λ none.
+    let run = whole_sure c.args.self.now c.loop-step.self c.args.steps.now c.loop-step.step-index c.loop-step.lines (omega arith) c.consistent.ensures c.loop-step.invariant none in
+    run_holders c.args.self.now c.args.steps.now c.loop-step.self run.0
+
+pub returns-in_err-here-clause-holders : goal.returns-in_err-here-clause-holders
+returns-in_err-here-clause-holders g c = λ none.
+    let run = run_more c.args.self.now c.loop-step.self c.line_step.new.self c.args.steps.now c.loop-step.step-index c.step-item.result c.loop-step.lines _ (omega arith) c.step-item.is c.loop-step.invariant (inr c.in_err-here.ensures.err.1) in
+    run_holders c.args.self.now c.args.steps.now c.line_step.new.self (began_consistent c.args.self.now c.line_step.new.self _ _ c.consistent.ensures run none)
+
+pub returns-in_err-append-clause-holders : goal.returns-in_err-append-clause-holders
+returns-in_err-append-clause-holders g c = λ none.
+    let run = run_more c.args.self.now c.loop-step.self c.line_step.new.self c.args.steps.now c.loop-step.step-index c.step-item.result c.loop-step.lines _ (omega arith) c.step-item.is c.loop-step.invariant c.in_ok-here.ensures.ok in
+    run_holders c.args.self.now c.args.steps.now c.line_step.new.self (began_consistent c.args.self.now c.line_step.new.self _ _ c.consistent.ensures run none)
