@@ -141,7 +141,7 @@ pub record IsServed (w : WorldState) : Type 0 where
 pub data Becomes (w : WorldState) : Type 0 where
   OnceServed : (Agrees w w.master → IsServed w → IsConsistent w) → Becomes w
 
-once_served : (w : WorldState) → Becomes w → Agrees w w.master → IsServed w → IsConsistent w
+pub once_served : (w : WorldState) → Becomes w → Agrees w w.master → IsServed w → IsConsistent w
 once_served w (Becomes.OnceServed consistent) = consistent
 
 module _ (old new : WorldState) (more : List Message) (h : IsConsistent old) (later : Later old new) (fresh : AreFresh old new more) where
@@ -601,7 +601,7 @@ fair_at w o s e k = rw e at k
 pub limits_at : (limits : Limits) (o : Option MasterState) (s : MasterState) → o ≡ Some s → IsLimited limits o → s.limits ≡ limits
 limits_at limits o s e k = rw e at k
 
-noted_at : (now : ℕ) (o : Option MasterState) (s : MasterState) → o ≡ Some s → IsNoted now o → s.clock ≤ now
+pub noted_at : (now : ℕ) (o : Option MasterState) (s : MasterState) → o ≡ Some s → IsNoted now o → s.clock ≤ now
 noted_at now o s e k = rw e at k
 
 pub noted_fits : (w : WorldState) → IsConsistent w → (s : MasterState) → w.master ≡ Some s → FitsMessages w.messages (noted s w.clock)
@@ -757,7 +757,7 @@ down_holds w h =
 cut_later : (w : WorldState) (rows : Rows) → w.rows.epoch ≤ rows.epoch → Later w (record (without_master w) { rows = rows })
 cut_later w rows more = same_clients w (record (without_master w) { rows = rows }) refl more refl
 
-cut_holds : (w : WorldState) → IsConsistent w → (rows : Rows) → w.rows.epoch ≤ rows.epoch → Becomes (record (without_master w) { rows = rows })
+pub cut_holds : (w : WorldState) → IsConsistent w → (rows : Rows) → w.rows.epoch ≤ rows.epoch → Becomes (record (without_master w) { rows = rows })
 cut_holds w h rows more =
     let new : WorldState = record (without_master w) { rows = rows } in
     all_consistent w new [] h (cut_later w rows more) (none_fresh w new refl) (same_members w new h refl more) tt refl tt tt tt
@@ -776,7 +776,7 @@ sweep_more old step mid told t =
 
 -- ---- a step
 
-case_holds : (old : WorldState) (step : Step) (new : WorldState) (printed : List Line) → IsConsistent old → WorldCase old step new printed → Becomes new
+pub case_holds : (old : WorldState) (step : Step) (new : WorldState) (printed : List Line) → IsConsistent old → WorldCase old step new printed → Becomes new
 case_holds old step new printed h (ComesUp u) = subst Becomes (sym u.is) (up_holds old h u.now)
 case_holds old step new printed h (Joins j) = subst Becomes (sym j.is) (join_holds old h j.number j.principal j.free)
 case_holds old step new printed h (Asks a) = own_holds old new printed h (asks_own old step new printed a)

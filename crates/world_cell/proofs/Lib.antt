@@ -46,6 +46,12 @@ pub mod SliceSteps
 pub mod Reaches
 pub mod StepsHold
 pub mod LawsOfRuns
+pub mod CrashSlices
+pub mod CrashRows
+pub mod CrashTakes
+pub mod CrashSweeps
+pub mod CrashRuns
+pub mod CrashLaws
 pub mod WereSent
 pub mod LocksRise
 pub mod EffectLocks

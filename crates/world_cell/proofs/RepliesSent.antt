@@ -146,7 +146,7 @@ mod_secret : (rows : Rows) (change : Mod) (next : ℕ) → (changed_rows rows (e
 mod_secret rows (Put name view) next = refl
 mod_secret rows (Gone name) next = refl
 
-swept_secret : (rows : Rows) (s : MasterState) (c : SweepCase s) → (changed_rows rows (swept_edits s c)).secret ≡ rows.secret
+pub swept_secret : (rows : Rows) (s : MasterState) (c : SweepCase s) → (changed_rows rows (swept_edits s c)).secret ≡ rows.secret
 swept_secret rows s (Expires client session due) =
     (let_go rows (lock_changes s (lapses_puts s (lapses_of partings.Expiry s client))) client (record { principal = session.principal; live = false })).beside.secret
 swept_secret rows s (Departed front back asked call sequencer session turn work leave found live) =

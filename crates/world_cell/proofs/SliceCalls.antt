@@ -179,11 +179,11 @@ later_any false b h = h
 -- ---- who is asked for names, one after the other
 
 -- the rights then
-abbrev asked_for_all : List (List ℕ) → List CacheRight → List CacheRight
+abbrev pub asked_for_all : List (List ℕ) → List CacheRight → List CacheRight
 asked_for_all [] rights = rights
 asked_for_all (name ∷ names) rights = asked_for_all names (asked_back name rights)
 
-asking_rights : (names : List (List ℕ)) (s : MasterState) → (asking_for s names).rights ≡ asked_for_all names s.rights
+pub asking_rights : (names : List (List ℕ)) (s : MasterState) → (asking_for s names).rights ≡ asked_for_all names s.rights
 asking_rights [] s = refl
 asking_rights (name ∷ names) s = asking_rights names (asking s name)
 
@@ -191,7 +191,7 @@ asking_recovering : (names : List (List ℕ)) (s : MasterState) → (asking_for 
 asking_recovering [] s = refl
 asking_recovering (name ∷ names) s = asking_recovering names (asking s name)
 
-asking_waiting : (names : List (List ℕ)) (s : MasterState) → (asking_for s names).gate.waiting ≡ s.gate.waiting
+pub asking_waiting : (names : List (List ℕ)) (s : MasterState) → (asking_for s names).gate.waiting ≡ s.gate.waiting
 asking_waiting [] s = refl
 asking_waiting (name ∷ names) s = asking_waiting names (asking s name)
 
@@ -199,7 +199,7 @@ asking_lease : (names : List (List ℕ)) (s : MasterState) → (asking_for s nam
 asking_lease [] s = refl
 asking_lease (name ∷ names) s = asking_lease names (asking s name) ∙ lease_stays_issued s.sessions (clients_to_ask name s.rights)
 
-asking_seen : (names : List (List ℕ)) (s : MasterState) (c : ℕ) → seen_of (session_of (asking_for s names) c) ≡ seen_of (session_of s c)
+pub asking_seen : (names : List (List ℕ)) (s : MasterState) (c : ℕ) → seen_of (session_of (asking_for s names) c) ≡ seen_of (session_of s c)
 asking_seen [] s c = refl
 asking_seen (name ∷ names) s c = asking_seen names (asking s name) c ∙ issued_seen (clients_to_ask name s.rights) s.sessions c
 

@@ -119,7 +119,7 @@ mapped_rows : (rows : Rows) (change : Mod) (next : ℕ) → IsMapped rows (chang
 mapped_rows rows (Put name view) next = record { sessions = refl; secret = refl; epoch = refl; map = nodes_put rows.nodes name view }
 mapped_rows rows (Gone name) next = record { sessions = refl; secret = refl; epoch = refl; map = nodes_gone rows.nodes name }
 
-standing_by : (c : ℕ) (rows : Rows) (sessions : List (ℕ × of_rows.SessionRow)) → rows.sessions ≡ sessions → standing_in rows c ≡ standing_of (lookup (is_at (nat_cmp c)) sessions)
+pub standing_by : (c : ℕ) (rows : Rows) (sessions : List (ℕ × of_rows.SessionRow)) → rows.sessions ≡ sessions → standing_in rows c ≡ standing_of (lookup (is_at (nat_cmp c)) sessions)
 standing_by c rows sessions is = ap (λ es. standing_of (lookup (is_at (nat_cmp c)) es)) is
 
 -- ---- who was heard from
@@ -402,18 +402,18 @@ module _ (x : List ℕ) (w : WorldState) (s : MasterState) (knows : IsKnown w s)
   -- ---- a change has its turn
 
   module _ (front back : List (Waiting Task)) (task : Task) (turn : IsNextApplied s front task back) where
-    abbrev at_application : Waiting Task
+    abbrev pub at_application : Waiting Task
     at_application = record { number = turn.number; change = record { touched = turn.touched; body = task } }
 
     -- it touches the names that it may change
-    touched_is : turn.touched ≡ names_touched s.secret task
+    pub touched_is : turn.touched ≡ names_touched s.secret task
     touched_is = all_at (λ (w : Waiting Task). w.change.touched ≡ names_touched s.secret w.change.body) front at_application back (subst (All (λ (w : Waiting Task). w.change.touched ≡ names_touched s.secret w.change.body)) turn.waited knows.touching)
 
     -- it touches all that a change touches which it names
-    untouched : (change : Mod) → turn.touched ≡ touched (map_of w.rows) change → touches x at_application ≡ false → list_any (bytes_eq x) (touched (map_of w.rows) change) ≡ false
+    pub untouched : (change : Mod) → turn.touched ≡ touched (map_of w.rows) change → touches x at_application ≡ false → list_any (bytes_eq x) (touched (map_of w.rows) change) ≡ false
     untouched change named apart = ap (list_any (bytes_eq x)) (sym named) ∙ apart
 
-    pending_by : (b : Bool) → touches x at_application ≡ b → touching x s.gate.waiting ≡ touching x (front ++ back) + cond b 1 0
+    pub pending_by : (b : Bool) → touches x at_application ≡ b → touching x s.gate.waiting ≡ touching x (front ++ back) + cond b 1 0
     pending_by b t = ap (touching x) turn.waited ∙ touching_less x front at_application back ∙ ap (λ (z : Bool). touching x (front ++ back) + cond z 1 0) t
 
     pending_stays : touches x at_application ≡ false → touching x s.gate.waiting ≡ touching x (front ++ back)
@@ -468,11 +468,11 @@ module _ (x : List ℕ) (w : WorldState) (s : MasterState) (knows : IsKnown w s)
     leaves c rows t sent r = by_test (touches x at_application) (applies c rows t sent r) (passes_by c rows t sent r)
 
     -- the rows of a turn
-    record HasRows (c : ℕ) (rows : Rows) : Type 0 where
-      present : touches x at_application ≡ false → view_at (map_of rows) x ≡ view_at (map_of w.rows) x
-      session : standing_in rows c ≡ standing_in w.rows c
-      secret : rows.secret ≡ w.rows.secret
-      epoch : rows.epoch ≡ w.rows.epoch
+    pub record HasRows (c : ℕ) (rows : Rows) : Type 0 where
+      pub present : touches x at_application ≡ false → view_at (map_of rows) x ≡ view_at (map_of w.rows) x
+      pub session : standing_in rows c ≡ standing_in w.rows c
+      pub secret : rows.secret ≡ w.rows.secret
+      pub epoch : rows.epoch ≡ w.rows.epoch
 
     -- turns that end in nothing but what is sent
 
@@ -482,7 +482,7 @@ module _ (x : List ℕ) (w : WorldState) (s : MasterState) (knows : IsKnown w s)
     plain_rows : (c : ℕ) → HasRows c w.rows
     plain_rows c = record { present = λ apart. refl; session = refl; secret = refl; epoch = refl }
 
-    mapped_rows_of : (c : ℕ) (change : Change) → (touches x at_application ≡ false → list_any (bytes_eq x) (touched (map_of w.rows) change.change) ≡ false) → HasRows c (changed_rows w.rows (edit_of change.change ∷ NextInstance change.next_instance ∷ []))
+    pub mapped_rows_of : (c : ℕ) (change : Change) → (touches x at_application ≡ false → list_any (bytes_eq x) (touched (map_of w.rows) change.change) ≡ false) → HasRows c (changed_rows w.rows (edit_of change.change ∷ NextInstance change.next_instance ∷ []))
     mapped_rows_of c change other =
         let rows = changed_rows w.rows (edit_of change.change ∷ NextInstance change.next_instance ∷ []) in
         let m = mapped_rows w.rows change.change change.next_instance in
@@ -834,7 +834,7 @@ module _ (x : List ℕ) (w : WorldState) (s : MasterState) (knows : IsKnown w s)
       })
 
     -- the rows of a call that changes the map
-    changed_rows_of : (c : ℕ) (call : Call) (sequencer : Option (List ℕ)) (change : Change) → asked.work ≡ works.Calls call sequencer → (effect (name_space s) (caller s asked.client) s.clock asked.number call sequencer).change ≡ Some change → HasRows front back (tasks.Asked asked) turn c (changed_rows w.rows (edit_of change.change ∷ NextInstance change.next_instance ∷ []))
+    pub changed_rows_of : (c : ℕ) (call : Call) (sequencer : Option (List ℕ)) (change : Change) → asked.work ≡ works.Calls call sequencer → (effect (name_space s) (caller s asked.client) s.clock asked.number call sequencer).change ≡ Some change → HasRows front back (tasks.Asked asked) turn c (changed_rows w.rows (edit_of change.change ∷ NextInstance change.next_instance ∷ []))
     changed_rows_of c call sequencer change work made =
         let named : names_of (call_touched s.secret call) ≡ touched s.nodes change.change = change_is_touched s asked.client asked.number call sequencer change made in
         let touches_it : turn.touched ≡ touched (map_of w.rows) change.change =

@@ -198,7 +198,7 @@ module _ (E F : Event → Type 0) (stays : (event : Event) → E event → F eve
   all_stay [] h = tt
   all_stay (e ∷ es) h = (stays e h.0, all_stay es h.1)
 
-  each_stays : (es : List NumberedEvent) → AllByRecursion (λ (next : NumberedEvent). E next.event) es → AllByRecursion (λ (next : NumberedEvent). F next.event) es
+  pub each_stays : (es : List NumberedEvent) → AllByRecursion (λ (next : NumberedEvent). E next.event) es → AllByRecursion (λ (next : NumberedEvent). F next.event) es
   each_stays [] h = tt
   each_stays (e ∷ es) h = (stays e.event h.0, each_stays es h.1)
 

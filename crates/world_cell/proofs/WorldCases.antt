@@ -211,7 +211,7 @@ kept_at : (w : WorldState) (m : Option MasterState) (s : MasterState) → m ≡ 
 kept_at w m s up agrees = rw up at agrees
 
 -- the sessions of a master are in the order of those of its rows
-in_order : (w : WorldState) (m : Option MasterState) (s : MasterState) → m ≡ Some s → Agrees w m → IsStrictlySortedBy nat_cmp (keys_of s.sessions.sessions)
+pub in_order : (w : WorldState) (m : Option MasterState) (s : MasterState) → m ≡ Some s → Agrees w m → IsStrictlySortedBy nat_cmp (keys_of s.sessions.sessions)
 in_order w m s up agrees =
     let kept = kept_at w m s up agrees in
     subst (λ ks. IsStrictlySortedBy nat_cmp ks) (ap keys_of (sym kept.sessions) ∙ keys_of-map_values row_of s.sessions.sessions) kept.sessions_in_order
@@ -328,7 +328,7 @@ module _ (w : WorldState) (step : Step) (new : WorldState) (printed : List Line)
 
   -- ---- the master sweeps
 
-  swept_row : (master : MasterState) (r : Result (MasterState × Swept) Fault) → Agrees w w.master → step ≡ steps.Sweep → w.master ≡ Some master → sweep_step master w.clock ≡ r → without_quiet (swept w master r) ≡ Ok (new, printed) → IsSweep w step new printed
+  pub swept_row : (master : MasterState) (r : Result (MasterState × Swept) Fault) → Agrees w w.master → step ≡ steps.Sweep → w.master ≡ Some master → sweep_step master w.clock ≡ r → without_quiet (swept w master r) ≡ Ok (new, printed) → IsSweep w step new printed
   swept_row master (Err fault) agrees is up step_is h = cc
   swept_row master (Ok p) agrees is up step_is h =
       let t = swept_case master p.0 w.clock p.1 (in_order w w.master master up agrees) (kept_at w w.master master up agrees).orderly step_is in
@@ -403,7 +403,7 @@ module _ (w : WorldState) (step : Step) (new : WorldState) (printed : List Line)
   cut_commit_row Kept agrees is h = cut_sweep_row w.master agrees is refl h
   cut_commit_row Lost agrees is h = down_row w step new printed w.master (inr is) refl h
 
-  cut_came_row : (now : ℕ) (commit : Commit) (r : Result MasterState Fault) → step ≡ steps.CutUp now commit → w.master ≡ None → up_step w.cell w.rows w.terms now ≡ r → cut_up w commit r ≡ Ok (new, printed) → WorldCase w step new printed
+  pub cut_came_row : (now : ℕ) (commit : Commit) (r : Result MasterState Fault) → step ≡ steps.CutUp now commit → w.master ≡ None → up_step w.cell w.rows w.terms now ≡ r → cut_up w commit r ≡ Ok (new, printed) → WorldCase w step new printed
   cut_came_row now commit (Err fault) is none step_is h = cc
   cut_came_row now Kept (Ok master) is none step_is h =
       let mid : WorldState = record w { rows = changed_rows w.rows (up_edits w.rows); master = Some master; clock = now; clients = each_member (λ number. at_up now) w.clients } in

@@ -42,4 +42,5 @@ pub mod Told
 pub mod Limits
 pub mod Turns
 pub mod RunLaws
+pub mod Crashes
 pub mod Shown

@@ -16,6 +16,7 @@ ghost use Rattle.world_cell.specs.Told.{ShowsNoOlder};
 ghost use Rattle.world_cell.specs.Limits.{StaysWithinLimits};
 ghost use Rattle.world_cell.specs.Turns.{HaveOneTurn};
 ghost use Rattle.world_cell.specs.RunLaws.{HoldsOfRuns};
+ghost use Rattle.world_cell.specs.Crashes.{HoldsBehindCrashes};
 
 use crate::worlds::World;
 use collections::Items;
@@ -114,6 +115,15 @@ impl<R: Records + Drop> World<R> {
     /// that stands at `run`. Does nothing.
     pub fn runs_hold(&self)
         ensures { HoldsOfRuns self.now }
+    {
+        self.consistent();
+    }
+
+    /// The same after each crash, whichever it leaves of the rows that stood and of those whose commit was refused since one
+    /// stood: all that stands at `run` holds of every run that begins there, over the rows that it left. Of a world whose
+    /// store had nothing else to leave, as one that was just opened. Does nothing.
+    pub fn crashes_hold(&self)
+        ensures { HoldsBehindCrashes self.now }
     {
         self.consistent();
     }
