@@ -147,6 +147,11 @@ request_stays xs ys at r h = request_by (at == 0) xs ys (at - 1) r h
 
 -- ---- a history
 
+pub sees_on : (p end : Parts) (entries : List Entry) (printed : List Line) → History p entries printed end → (at : ℕ) (r : Request) → request_at p.told at ≡ Some r → request_at end.told at ≡ Some r
+sees_on p end entries printed h at r was =
+    let grows = unheard_are p end [] entries printed h in
+    subst (λ (u : List Message). request_at u at ≡ Some r) (sym grows.1) (request_stays p.told grows.0 at r was)
+
 module _ (terms : MasterTerms) (range : terms.lease ≤ longest_lease) where
   abbrev lease : ℕ
   lease = terms.lease
@@ -180,11 +185,6 @@ module _ (terms : MasterTerms) (range : terms.lease ≤ longest_lease) where
     deed_up (Asks number ask) new printed t = subst (Behind (Asks number ask)) (sym t.left) (h, same)
     deed_up (Beats number) new printed t = subst (Behind (Beats number)) (sym t.left) (h, same)
     deed_up (Hears at) new printed t = subst (Behind (Hears at)) (sym t.left) (h, same)
-
-  sees_on : (p end : Parts) (entries : List Entry) (printed : List Line) → History p entries printed end → (at : ℕ) (r : Request) → request_at p.told at ≡ Some r → request_at end.told at ≡ Some r
-  sees_on p end entries printed h at r was =
-      let grows = unheard_are p end [] entries printed h in
-      subst (λ (u : List Message). request_at u at ≡ Some r) (sym grows.1) (request_stays p.told grows.0 at r was)
 
   history_up : (entries : List Entry) (p end : Parts) (printed : List Line) (since : Since) → IfUp lease since p.master → p.terms ≡ terms → History p entries printed end → IfUp lease (fold (entry_since end.told) since entries) end.master
   history_up [] p end printed since up same h = subst (λ (q : Parts). IfUp lease since q.master) (sym h.1) up

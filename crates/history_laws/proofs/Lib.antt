@@ -15,3 +15,4 @@ mod Kept
 mod ComeUp
 mod WorldsUp
 mod HostsUp
+mod GoOn

@@ -1,7 +1,8 @@
 -- The master of a history, of a world and of a host is one that came up and has made steps since: so the laws of a master's progress hold of it.
-use Rattle.std.specs.Prelude.{◌≡◌, ◌≤◌, ℕ, true, List, [], ◌∷◌, ◌++◌, map, fold, Option, Some, Result, Ok, Err}
+use Rattle.std.specs.Prelude.{◌≡◌, ◌≤◌, ℕ, Bool, true, false, List, [], ◌∷◌, ◌++◌, map, fold, Option, Some, Result, Ok, Err}
 use Rattle.std.proofs.Common.{inl, inr}
 use Rattle.std.specs.Option.{option_map_or}
+use Rattle.std.specs.List.{list_any}
 use Rattle.lease_core.specs.Lease.{longest_lease}
 use Rattle.node_core.specs.declared.lines.Line.{Line}
 use Rattle.rows_cell.specs.declared.settings.MasterTerms.{MasterTerms}
@@ -11,6 +12,7 @@ use Rattle.tags_cell.specs.Messages.{request_client}
 use Rattle.tags_cell.specs.Numbers.{is_client_number}
 use Rattle.tags_cell.specs.declared.messages.requests.Request.{Request}
 use Rattle.master_state.specs.State.{MasterState}
+use Rattle.over_core.specs.Deadlines.{quiet_at}
 use Rattle.codec.specs.declared.faults.WireFault.{WireFault}
 use Rattle.hosting.specs.declared.frames.Frame.{Frame}
 use Rattle.hosting.specs.declared.frames.Frame.TheVariants as frames
@@ -30,9 +32,9 @@ use Rattle.world_steps.specs.Made.{AreInOrder, Does as DoesStep}
 use Rattle.world_cell.specs.Runs.{Run}
 use Rattle.master_laws.specs.Closed.{MasterStep}
 use Rattle.master_laws.specs.Closed.MasterStep.{Takes as TakesOne, Sweeps as SweepsOnce, Beats as AnswersOne}
-use Rattle.master_laws.specs.Waits.{HasComeUp}
+use Rattle.master_laws.specs.Waits.{HasComeUp, takes_one, GoesOnWithout}
 use Rattle.history_laws.specs.Parts.{Parts, nothing_yet, Deed, ComesUp, Takes, Sweeps, AnswersBeat}
-use Rattle.history_laws.specs.Histories.{Entry, History}
+use Rattle.history_laws.specs.Histories.{Entry, History, begins_life}
 use Rattle.history_laws.specs.Hosted.{Known}
 
 -- the moment at which the last master came up, and its steps since
@@ -76,6 +78,15 @@ MastersHaveComeUp =
     (cell : List ℕ) (rows : Rows) (terms : MasterTerms) (entries : List Entry) (printed : List Line) (end : Parts) (s : MasterState)
     → terms.lease ≤ longest_lease → History (nothing_yet cell rows terms) entries printed end → end.master ≡ Some s
     → IsUpSince terms.lease (since_in end.told entries) s
+
+-- while no other master comes up, the laws of progress that speak of two moments hold of two points of a history: where messages of a kind aren't taken from one to the other, the master goes on without them
+abbrev pub MastersGoOn : Type 0
+MastersGoOn =
+    (kind : Request → Bool) (cell : List ℕ) (rows : Rows) (terms : MasterTerms) (before entries : List Entry) (printed told : List Line) (here end : Parts) (s new : MasterState) (from : ℕ)
+    → terms.lease ≤ longest_lease → History (nothing_yet cell rows terms) before printed here → here.master ≡ Some s → quiet_at s from ≡ true
+    → History here entries told end → end.master ≡ Some new → list_any (λ entry. begins_life entry.deed) entries ≡ false
+    → list_any (takes_one kind) (since_in end.told entries).steps ≡ false
+    → GoesOnWithout kind terms.lease (since_in here.told before).up s (since_in end.told entries).steps new
 
 -- ---- of a world
 

@@ -11,4 +11,4 @@ pub use laws::{
     nothing_comes_of_nobody, prefixes_are_points, trails_are_deeds, two_programs_are_possible,
     unheard_are_as_untold, views_answer_the_rows,
 };
-pub use masters::{hosts_have_come_up, masters_have_come_up, worlds_have_come_up};
+pub use masters::{hosts_have_come_up, masters_go_on, masters_have_come_up, worlds_have_come_up};
