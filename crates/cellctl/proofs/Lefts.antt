@@ -21,18 +21,20 @@ use Rattle.rows_sql.specs.Keeping.{IsLeft}
 use Rattle.cellctl.specs.Closed.{DoneOver, DoneAt}
 use Rattle.cellctl.specs.Exits.{IsShut}
 use Rattle.cellctl.specs.Led.{Known, LedOn, EndsLed}
+use Rattle.cellctl.specs.Taken.{IsAdopted, IsTakenFrom}
 use Rattle.cellctl.specs.Left.{CantOpen, IsLeftOpen, LeavesOver, LeavesAt}
 use Rattle.cellctl.specs.declared.runs.Unclosed.{Unclosed}
 use Rattle.cellctl.specs.declared.runs.Unclosed.TheVariants as unclosed
-use Rattle.cellctl.proofs.Overs.{IsFirst, adopted_as, closed_at}
+use Rattle.cellctl.proofs.Overs.{taken_from, closed_at}
 
 module _ {D : Type 0} {g : disk.Ghosts D} where
-  pub left_open : (settings : Settled) (had : State) (Leads : Store → Store → Type 0) (first last : Store) (store : FileStore D g) → IsFirst settings had first → Leads first last
-      → (IsClean (view store) → (db : Trees) → recovers store db → IsLeft last.may_leave db) → IsLeftOpen settings had Leads store
-  left_open settings had Leads first last store is led left = record {
+  pub left_open : (settings : Settled) (had : State) (Leads : Store → Store → Type 0) (first last : Store) (store : FileStore D g) → IsAdopted settings had first → (last.doubt ≡ 0 → first.doubt ≡ 0) → Leads first last
+      → (IsClean (view store) → last.doubt ≡ 0) → (IsClean (view store) → (db : Trees) → recovers store db → IsLeft last.may_leave db) → IsLeftOpen settings had Leads store
+  left_open settings had Leads first last store is grows led sure left = record {
     first = first;
     last = last;
-    adopted = adopted_as settings had first is;
+    began = is;
+    sure = λ clean. (grows (sure clean), sure clean);
     led = led;
     left = left;
   }
@@ -58,11 +60,11 @@ module _ {D : Type 0} {g : disk.Ghosts D} where
 
   -- of what is left of a store, what was to be done over it was done; or it wasn't, and nothing was written
   led_left : (settings : Settled) (held : Image) (Leads : ℕ → Store → Store → Type 0) (before after : Known) (u : Unclosed D g) → LeavesAt settings held Leads before after u
-      → ((done : ℕ) × LedOn (Leads done)) ⊎ (after ≡ before)
+      → ((done : ℕ) × LedOn (IsTakenFrom settings held) (Leads done)) ⊎ (after ≡ before)
   led_left settings held Leads before after (unclosed.Unopened error left) p = inr p.1
   led_left settings held Leads before after (unclosed.Refused fault store) p = inr p.2.1
-  led_left settings held Leads before after (unclosed.Open status error store) p = inl (status, (p.2.first, p.2.last, p.2.led))
+  led_left settings held Leads before after (unclosed.Open status error store) p = inl (status, (p.2.first, p.2.last, taken_from settings (file_state p.0) held p.2.first p.1 p.2.began, p.2.led))
 
   pub ends_left : (settings : Settled) (held : Image) (Leads : ℕ → Store → Store → Type 0) (before after : Known) (u : Unclosed D g) (status : ℕ) → IsShut status → LeavesAt settings held Leads before after u
-      → EndsLed Leads status before after
+      → EndsLed (IsTakenFrom settings held) Leads status before after
   ends_left settings held Leads before after u status shut p = inr (shut, led_left settings held Leads before after u p)

@@ -1,4 +1,6 @@
 mod Overs
+mod Commanded
+mod Drawn
 mod Lefts
 mod News
 mod Buffers

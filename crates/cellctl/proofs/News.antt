@@ -21,7 +21,8 @@ use Rattle.sqlite.specs.State.{State}
 use Rattle.cellctl.specs.Closed.{taken}
 use Rattle.cellctl.specs.Led.{Known}
 use Rattle.cellctl.specs.Anew.{RanAnew}
-use Rattle.cellctl.proofs.Overs.{IsFirst, as_taken, script_led_surely}
+use Rattle.cellctl.specs.Taken.{IsAdopted}
+use Rattle.cellctl.proofs.Overs.{as_taken, script_led_surely}
 
 -- a connection that is empty has committed no table
 pub none_of : (s : State) → IsEmpty s → s.committed.schema ≡ no_schema
@@ -41,7 +42,7 @@ takes_opening settings db rows none (inl p) = absurd (some_tables Third db.schem
 takes_opening settings db rows none (inr (inl p)) = p.1
 takes_opening settings db rows none (inr (inr (version, before, said, can, is))) = absurd (some_tables version db.schema none said.schema)
 
-pub ran_anew : (settings : Settled) (had : State) (text before after : Known) (status : ℕ) (first last : Store) (old new : WorldView) → IsFirst settings had first → had.committed.schema ≡ no_schema
+pub ran_anew : (settings : Settled) (had : State) (text before after : Known) (status : ℕ) (first last : Store) (old new : WorldView) → IsAdopted settings had first → had.committed.schema ≡ no_schema
     → old ≡ opened first (terms_of settings) → last ≡ store_in new → (IsUndoubted new → IsUndoubted old × EndsWith status (EndsSurely text old new) before after) → last.doubt ≡ 0
     → RanAnew settings text status before after
 ran_anew settings had text before after status first last old new is none opens closes ran sure =
@@ -49,4 +50,4 @@ ran_anew settings had text before after status first last old new is none opens 
     let rows = takes_opening settings had.committed first.rows none (is.adopts led.0).takes in
     let P : Store → Type 0 = λ s. EndsWith status (EndsSurely text (opened s (terms_of settings)) led.1.0) before after in
     let Q : Rows → Type 0 = λ r. EndsWith status (EndsSurely text (opened (taken settings r) (terms_of settings)) led.1.0) before after in
-    (led.1.0, subst Q rows (subst P (as_taken settings first is.cell is.left is.none led.0) led.1.1))
+    (led.1.0, subst Q rows (subst P (as_taken settings first is.fresh.cell is.fresh.left is.fresh.none led.0) led.1.1))

@@ -4,16 +4,14 @@ use Rattle.sqlite_disk.specs.declared.Disk.{Ghosts}
 use Rattle.sqlite_disk.specs.declared.Files.{Files}
 use Rattle.sqlite_wal.specs.Recovery.{Image}
 use Rattle.sqlite.specs.State.{State, HasCleanDisk}
-use Rattle.sqlite.specs.Tree.{Trees}
-use Rattle.sqlite.specs.Effect.{Database, IsDatabase}
-use Rattle.sqlite.specs.Files.{HoldsDatabase, AreFoundIn}
 use Rattle.rows_cell.specs.Settings.{Settled, terms_of}
 use Rattle.rows_cell.specs.declared.tables.Rows.{Rows}
 use Rattle.rows_cell.specs.Stores.{Store}
-use Rattle.rows_sql.specs.Adopting.{Adopts, Takes}
+use Rattle.rows_sql.specs.Adopting.{Adopts}
 use Rattle.rows_sql.specs.Closed.{StandsAlone}
 use Rattle.hosting.specs.declared.pieces.GroupLimits.{GroupLimits}
 use Rattle.cellctl.specs.Led.{Known, ScriptLeadsSurely, FramesLead}
+use Rattle.cellctl.specs.Taken.{TakesAt}
 
 -- a store of these rows that was just taken over: a crash leaves them, nothing was refused, nothing is in doubt
 abbrev pub taken : Settled → Rows → Store
@@ -31,13 +29,9 @@ pub record DoneOver {D : Type 0} (g : Ghosts D) (settings : Settled) (had : Stat
 
 -- the same over the database that these files held
 pub record DoneAt {D : Type 0} (g : Ghosts D) (settings : Settled) (held : Image) (Leads : Store → Store → Type 0) (files : Files D) : Type 0 where
-  pub had : Database
-  pub holds : (db : Trees) → HoldsDatabase held db → had.trees ≡ db
-  pub reads : AreFoundIn held had.trees
-  pub listed : IsDatabase had
   pub first : Rows
   pub last : Store
-  pub takes : Takes settings had first
+  pub takes : TakesAt settings held first
   pub led : Leads (taken settings first) last
   pub stands : StandsAlone g files last.rows
 

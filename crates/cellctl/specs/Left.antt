@@ -17,9 +17,9 @@ use Rattle.rows_cell.specs.Settings.{Settled}
 use Rattle.rows_cell.specs.declared.records.StoreFault.{StoreFault}
 use Rattle.rows_cell.specs.declared.records.StoreFault.TheVariants.{Damaged, Exhausted}
 use Rattle.rows_cell.specs.Stores.{Store}
-use Rattle.rows_sql.specs.Adopting.{Adopts, ComesBack, IsOther, IsFull}
+use Rattle.rows_sql.specs.Adopting.{ComesBack, IsOther, IsFull}
 use Rattle.rows_sql.specs.Keeping.{IsLeft}
-use Rattle.cellctl.specs.Closed.{taken}
+use Rattle.cellctl.specs.Taken.{IsAdopted}
 use Rattle.cellctl.specs.Led.{Known}
 use Rattle.cellctl.specs.declared.runs.Unclosed.{Unclosed}
 use Rattle.cellctl.specs.declared.runs.Unclosed.TheVariants as unclosed
@@ -36,11 +36,13 @@ module _ {D : Type 0} {g : disk.Ghosts D} where
     pub damaged : IsClean (view store) → fault ≡ Damaged → IsOther settings.cell (file_state conn)
     pub full : IsClean (view store) → fault ≡ Exhausted → IsFull settings.cell (file_state conn)
 
-  -- the store was taken over; what was done led from it to one of which a crash leaves what it may leave
+  -- the store was taken over; what was done led from it to one of which a crash leaves what it may leave; and if the disk gave back
+  -- what was written, nothing was in doubt from first to last
   pub record IsLeftOpen (settings : Settled) (had : State) (Leads : Store → Store → Type 0) (store : FileStore D g) : Type 0 where
     pub first : Store
     pub last : Store
-    pub adopted : first.doubt ≡ 0 → (first ≡ taken settings first.rows) × Adopts settings had first.rows
+    pub began : IsAdopted settings had first
+    pub sure : IsClean (view store) → (first.doubt ≡ 0) × (last.doubt ≡ 0)
     pub led : Leads first last
     pub left : IsClean (view store) → (db : Trees) → recovers store db → IsLeft last.may_leave db
 

@@ -10,7 +10,7 @@ use Rattle.rows_cell.specs.Counts.{counts_of}
 use Rattle.rows_cell.specs.Sound.{sound}
 use Rattle.rows_sql.specs.Found.{HoldsRows, FindsRows}
 use Rattle.rows_sql.specs.Verdicts.{verdict_text}
-use Rattle.cellctl.specs.Exits.{IsUnwritten}
+use Rattle.cellctl.specs.Exits.{IsUnwritten, IsUnset}
 use Rattle.cellctl.specs.Led.{Known}
 
 -- 0 for a store that is sound, 4 where memory ran out, and 3 for one that is refused
@@ -19,7 +19,7 @@ status_of (Ok counts) = 0
 status_of (Err NoMemory) = 4
 status_of (Err fault) = 3
 
--- its verdict, and LF behind it
+-- its verdict, and LF after it
 abbrev pub verdict_line : Result Counts StoreFault → List ℕ
 verdict_line tested = verdict_text tested ++ (10 ∷ [])
 
@@ -41,3 +41,11 @@ Reports tested status before after = ((status ≡ status_of tested) × Appends b
 
 abbrev pub ReportsRead : List ℕ → Result Image StoreFault → ℕ → Known → Known → Type 0
 ReportsRead cell read status before after = (tested : Result Counts StoreFault) × TestsRead cell read tested × Reports tested status before after
+
+-- those of whatever was read
+abbrev pub ReportsSome : List ℕ → ℕ → Known → Known → Type 0
+ReportsSome cell status before after = (read : Result Image StoreFault) × ReportsRead cell read status before after
+
+-- a store was tested by the name of a cell; or there are no settings, and nothing was written
+abbrev pub EndsTest : ℕ → Known → Known → Type 0
+EndsTest status before after = ((cell : List ℕ) × ReportsSome cell status before after) ⊎ (IsUnset status × (after ≡ before))

@@ -12,7 +12,7 @@ const SHOWN_LENGTH: usize = 60;
 /// The most lines of a script.
 const LINE_COUNT_LIMIT: u64 = 1_000_000;
 
-/// Tells why the line that was begun last is no step, behind which nothing is done. Where these words can't be written, the status
+/// Tells why the line that was begun last is no step, after which nothing is done. Where these words can't be written, the status
 /// still tells.
 pub(crate) fn tell_bad<R: Read + Drop>(
     alloc: Global,

@@ -2,7 +2,7 @@
 ghost use Rattle.std.specs.Prelude.{◌≡◌, IfOk};
 ghost use Rattle.std.specs.Io.KnownBytes.{Appends};
 ghost use Rattle.cellctl.specs.Exits.{IsExit};
-ghost use Rattle.cellctl.specs.Tested.{status_of, verdict_line, TestsRead, ReportsRead};
+ghost use Rattle.cellctl.specs.Tested.{status_of, verdict_line, TestsRead, ReportsRead, ReportsSome};
 
 use crate::exits::tell_unwritten;
 use crate::findings::{find, tell_finding};
@@ -32,11 +32,17 @@ impl Model for StoreBytes {
 
 /// Tests the store at a path by the name of a cell, prints what is found, and answers the exit status: 0 where it is sound,
 /// 3 where it is refused, 1 where that can't be written. Why it is refused goes to the standard error.
-pub(crate) fn check_store(rt: &HostRuntime, cell: &Component, path: &str) -> Result<u8>
-    ensures { IfOk result IsExit }
+pub(crate) fn check_store<W: Write>(
+    rt: &HostRuntime,
+    cell: &Component,
+    path: &str,
+    output: &mut W,
+) -> Result<u8>
+    ensures exit { IfOk result IsExit }
+    ensures tested { IfOk result (λ status. ReportsSome cell.now status (W.contents output.old) (W.contents output.new)) }
 {
     let read = read_store(rt, path);
-    report(rt, cell, path, &read, &mut rt.stdout())
+    report(rt, cell, path, &read, output)
 }
 
 // Tests a store that was read, or says why it wasn't, and answers the status.

@@ -1,7 +1,11 @@
 //! The command line.
-ghost use Rattle.std.specs.Prelude.{◌≡◌, IfErr, IfOk, OnErr};
+ghost use Rattle.std.specs.Prelude.{◌≡◌, ◌⊎◌, None, IfErr, IfOk, OnErr};
+ghost use Rattle.sqlite_wal.specs.Files.{image_at};
+ghost use Rattle.cellctl.specs.Anew.{EndsSomeRun};
 ghost use Rattle.cellctl.specs.Exits.{IsExit, IsUnset};
-ghost use Rattle.cellctl.specs.Led.{EndsAnyFrames};
+ghost use Rattle.cellctl.specs.Led.{EndsSomeFrames};
+ghost use Rattle.cellctl.specs.Taken.{IsTakenFrom, IsOpenedIn};
+ghost use Rattle.cellctl.specs.Tested.{EndsTest};
 
 use crate::check::check_store;
 use crate::exits::{tell_unwritten, unread_status};
@@ -19,6 +23,7 @@ use anyhow::{Context, Result, bail};
 use clap::ArgMatches;
 use clap::error::{Error, ErrorKind};
 use hosting::GroupLimits;
+use sqlite_disk::{Start, Unknown};
 use std::env::{self, Args};
 use std::fs::{self, File};
 use std::io::{Read, Write};
@@ -26,7 +31,7 @@ use std::sync::Wait;
 use std::thread::Threads;
 
 /// Does what the command line asks for, and answers the exit status: that of the script; 0 for a sound store and 3 for one
-/// that is refused or can't be opened; 0 behind help and the version; 1 where these can't be written; 2 for a wrong command line, also one
+/// that is refused or can't be opened; 0 after help and the version; 1 where these can't be written; 2 for a wrong command line, also one
 /// that isn't UTF-8, and for settings that aren't any; 4 where memory runs out before; 5 for a run of threads that was refused.
 pub(crate) fn run<W: Threads + Wait + Sync>(rt: &HostRuntime, threads: &W) -> u8
     ensures { IsExit result }
@@ -73,10 +78,10 @@ fn do_command<W: Threads + Wait + Sync>(
 {
     if let Some(found) = matches.subcommand_matches("check") {
         let path = found.get_str("FILE").unwrap_or_default();
-        return check(rt, found.get_str("settings"), path);
+        return check(rt, found.get_str("settings"), path, &mut rt.stdout());
     }
     if let Some(found) = matches.subcommand_matches("serve") {
-        return serve(rt, found, rt.reader(), &mut rt.stdout());
+        return serve(rt, found, Unknown, rt.reader(), &mut rt.stdout());
     }
     if let Some(found) = matches.subcommand_matches("live") {
         return Ok(run_live(rt, threads, found));
@@ -85,20 +90,22 @@ fn do_command<W: Threads + Wait + Sync>(
         return Ok(write_fresh(rt, found.get_str("FILE").unwrap_or_default()));
     }
     match matches.subcommand_matches("run") {
-        Some(found) => run_script(rt, found),
+        Some(found) => run_script(rt, found, Unknown),
         None => Ok(2),
     }
 }
 
-// Over the rows of another program where a folder is named, else over the store in a file.
-fn serve<I: Read + Drop, W: Write>(
+// Over the rows of another program where a folder is named, else over the store in a file. `S` stands for what the files hold, as in
+// `run_path`.
+fn serve<S: Start, I: Read + Drop, W: Write>(
     rt: &HostRuntime,
     found: &ArgMatches<'_>,
+    start: S,
     reader: I,
     writer: &mut W,
 ) -> Result<u8>
     ensures exit { IfOk result IsExit }
-    ensures served { IfOk result (λ status. EndsAnyFrames (I.remaining reader) status (W.contents writer.old) (W.contents writer.new)) }
+    ensures served { IfOk result (λ status. EndsSomeFrames (λ settings first. IsTakenFrom settings (image_at S.Start) first ⊎ IsOpenedIn None None settings first) (I.remaining reader) status (W.contents writer.old) (W.contents writer.new)) }
     ensures none { OnErr result (W.contents writer.new ≡ W.contents writer.old) }
 {
     let named = found.get_str("settings");
@@ -107,7 +114,7 @@ fn serve<I: Read + Drop, W: Write>(
         Some(folder) => serve_rows(rt, named, folder, limits, reader, writer),
         None => {
             let path = found.get_str("store").unwrap_or_default();
-            serve_path(rt, named, path, limits, reader, writer)
+            serve_path(rt, named, path, start, limits, reader, writer)
         }
     }
 }
@@ -137,8 +144,10 @@ fn tell_words(rt: &HostRuntime, words: &Error) -> u8
 
 // A script of a file or of the standard input, with the settings of a file or the standard ones, over the store in a file or a new
 // one in memory.
-fn run_script(rt: &HostRuntime, words: &ArgMatches<'_>) -> Result<u8>
-    ensures { IfOk result IsExit }
+fn run_script<S: Start>(rt: &HostRuntime, words: &ArgMatches<'_>, start: S) -> Result<u8>
+    ensures exit { IfOk result IsExit }
+    // Of the input and the output no byte is known; what is read and written is said by `run_over`.
+    ensures ran { IfOk result (λ status. EndsSomeRun (image_at S.Start) status None None) }
 {
     match settings(rt, words.get_str("settings")) {
         Ok(chosen) => match source_of(rt, words.get_str("FILE")) {
@@ -147,7 +156,7 @@ fn run_script(rt: &HostRuntime, words: &ArgMatches<'_>) -> Result<u8>
                     source,
                     is_traced: words.get_flag("trace"),
                 };
-                run_printing(rt, &chosen, words.get_str("store"), asked)
+                run_printing(rt, &chosen, words.get_str("store"), start, asked)
             }
             Err(status) => Ok(status),
         },
@@ -198,11 +207,12 @@ fn is_folder(rt: &HostRuntime, path: &str) -> bool {
 }
 
 // The store in a file, with the settings of a file or the standard ones.
-fn check(rt: &HostRuntime, named: Option<&str>, path: &str) -> Result<u8>
-    ensures { IfOk result IsExit }
+fn check<W: Write>(rt: &HostRuntime, named: Option<&str>, path: &str, output: &mut W) -> Result<u8>
+    ensures exit { IfOk result IsExit }
+    ensures tested { IfOk result (λ status. EndsTest status (W.contents output.old) (W.contents output.new)) }
 {
     match settings(rt, named) {
-        Ok(chosen) => check_store(rt, chosen.settings.cell(), path),
+        Ok(chosen) => check_store(rt, chosen.settings.cell(), path, output),
         Err(status) => Ok(status),
     }
 }

@@ -76,7 +76,7 @@ enum WordPlace {
 }
 
 // What stands at a place: words that say it, whether the line may end before it, and the forms of a word, each with the place
-// behind it.
+// after it.
 type PlaceWords = (&'static str, bool, &'static [(Form, WordPlace)]);
 
 // What stands at each place, in the order of `WordPlace`.
@@ -339,7 +339,7 @@ const ENTRIES: &[PlaceWords] = &[
     ("nothing", true, &[]),
 ];
 
-// Behind the last word of a line.
+// After the last word of a line.
 const LAST: PlaceWords = ("nothing", true, &[]);
 
 fn entry(place: WordPlace) -> PlaceWords {
@@ -398,13 +398,13 @@ fn ended(place: WordPlace, column: u64) -> Option<Astray<'static>> {
     })
 }
 
-// The column behind a word and the space behind it.
+// The column after a word and the space after it.
 fn behind(column: u64, word: &str) -> u64 {
     let length = word.chars().count() as u64;
     column.saturating_add(length).saturating_add(1)
 }
 
-// The place behind a word, where it may stand.
+// The place after a word, where it may stand.
 fn next_of(alloc: Global, ways: &[(Form, WordPlace)], word: &str) -> Option<WordPlace> {
     if word.is_empty() {
         return None;

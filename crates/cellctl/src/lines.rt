@@ -14,7 +14,7 @@ const READ_SIZE: usize = 0x1_0000;
 /// So many bytes of a line are kept: as many as a line may have, and one more.
 pub(crate) const KEPT_LENGTH: usize = 1_048_577;
 
-/// A reader that gives no byte behind the end of a line at once. So whoever reads lines has read all that it gave when it
+/// A reader that gives no byte after the end of a line at once. So whoever reads lines has read all that it gave when it
 /// asks for the next one, and the line that was begun last is the one that is done.
 #[derive(Drop)]
 pub(crate) struct LineReader<'a, R: Read + Drop> {

@@ -1,4 +1,6 @@
 //! Runs of clients in threads of their own.
+ghost use Rattle.std.specs.Prelude.{◌≡◌, ◌↔◌, false};
+ghost use Rattle.threads.specs.Bounds.{is_within, IsStatus};
 ghost use Rattle.cellctl.specs.Exits.{IsExit};
 
 use clap::{Arg, ArgAction, ArgMatches, Command};
@@ -67,7 +69,9 @@ pub(crate) fn run_live<W: Threads + Wait + Sync>(
     threads: &W,
     words: &ArgMatches<'_>,
 ) -> u8
-    ensures { IsExit result }
+    ensures exit { IsExit result }
+    // 0 where it balances, 2 outside the limits, and 5.
+    ensures status { IsStatus result }
 {
     match (number(words, "CLIENTS"), number(words, "ROUNDS")) {
         (Some(clients), Some(rounds)) => run_clients(rt, threads, clients, rounds),
@@ -79,24 +83,28 @@ fn number(words: &ArgMatches<'_>, name: &str) -> Option<u64> {
     words.get_str(name)?.parse().ok()
 }
 
+#[tactic(auto, using(crate::proofs::Commanded::exit_of))]
 fn run_clients<W: Threads + Wait + Sync>(
     rt: &HostRuntime,
     threads: &W,
     clients: u64,
     rounds: u64,
 ) -> u8
-    ensures { IsExit result }
+    ensures exit { IsExit result }
+    ensures status { IsStatus result }
+    ensures bounds { (result ≡ 2) ↔ (is_within clients rounds ≡ false) }
 {
     let mut output = rt.stdout();
-    match live_with(threads, rt.alloc(), clients, rounds, &NoHook, &mut output) {
-        0 => 0,
-        2 => refuse_words(rt),
-        _ => 5,
+    let status = live_with(threads, rt.alloc(), clients, rounds, &NoHook, &mut output);
+    if status == 2 {
+        let _ = refuse_words(rt);
     }
+    status
 }
 
 fn refuse_words(rt: &HostRuntime) -> u8
-    ensures { IsExit result }
+    ensures exit { IsExit result }
+    ensures words { result ≡ 2 }
 {
     let _ = eprintln!(rt;
         "cellctl: CLIENTS is 1 to 64, ROUNDS 1 to 10000, and both multiplied at most 20000"

@@ -1,6 +1,6 @@
 //! A look at a store: whose it is, and what in it is no store's.
 ghost use Rattle.std.specs.Prelude.{◌≡◌, IfOk, IsTrue};
-ghost use Rattle.sqlite_disk.specs.Memory.{memory_is_usable};
+ghost use Rattle.sqlite_disk.specs.Memory.{memory_bytes, memory_is_usable};
 
 use rows_sql::version_of;
 use sqlite::{Alter, Connection, Error, ErrorCode, FileStore, Files, Options, params};
@@ -178,7 +178,7 @@ pub(crate) fn open_bytes(
 }
 
 fn copy_of(alloc: Global, bytes: &[u8]) -> Result<Memory, Error>
-    ensures { IfOk result (λ file. IsTrue (memory_is_usable file)) }
+    ensures copied { IfOk result (λ file. IsTrue (memory_is_usable file) × (memory_bytes file ≡ bytes.now)) }
 {
     let mut file = Memory::new(alloc);
     match file.write_at(0, bytes) {

@@ -1,8 +1,8 @@
 //! A master whose rows another program keeps.
-ghost use Rattle.std.specs.Prelude.{◌≡◌, IfOk, OnErr};
-ghost use Rattle.rows_cell.specs.Settings.{terms_of};
+ghost use Rattle.std.specs.Prelude.{◌≡◌, None, IfOk, OnErr};
 ghost use Rattle.cellctl.specs.Exits.{IsExit};
-ghost use Rattle.cellctl.specs.Led.{EndsFrames, EndsAnyFrames};
+ghost use Rattle.cellctl.specs.Led.{group_terms, EndsFrames, EndsAnyFrames};
+ghost use Rattle.cellctl.specs.Taken.{IsOpenedIn};
 
 use crate::serves::{Frames, serve_seat};
 use crate::settings::settings;
@@ -27,7 +27,7 @@ pub(crate) fn serve_rows<I: Read + Drop, W: Write>(
     writer: &mut W,
 ) -> Result<u8>
     ensures exit { IfOk result IsExit }
-    ensures served { IfOk result (λ status. EndsAnyFrames (I.remaining reader) status (W.contents writer.old) (W.contents writer.new)) }
+    ensures served { IfOk result (λ status. EndsAnyFrames (IsOpenedIn None None) limits (I.remaining reader) status (W.contents writer.old) (W.contents writer.new)) }
     ensures none { OnErr result (W.contents writer.new ≡ W.contents writer.old) }
 {
     match settings(rt, named) {
@@ -46,7 +46,7 @@ fn serve_folder<I: Read + Drop, W: Write>(
     writer: &mut W,
 ) -> Result<u8>
     ensures exit { IfOk result IsExit }
-    ensures served { IfOk result (λ status. EndsFrames (record { master = terms_of settings.now; limits = limits }) (I.remaining reader) status (W.contents writer.old) (W.contents writer.new)) }
+    ensures served { IfOk result (λ status. EndsFrames (IsOpenedIn None None settings.now) (group_terms limits settings.now) (I.remaining reader) status (W.contents writer.old) (W.contents writer.new)) }
     ensures none { OnErr result (W.contents writer.new ≡ W.contents writer.old) }
 {
     let path = format!(in rt.alloc(); "{folder}/asked").context("naming the pipe")?;
@@ -71,7 +71,7 @@ fn serve_asked<I: Read + Drop, W: Write>(
     writer: &mut W,
 ) -> Result<u8>
     ensures exit { IfOk result IsExit }
-    ensures served { IfOk result (λ status. EndsFrames (record { master = terms_of settings.now; limits = limits }) (I.remaining reader) status (W.contents writer.old) (W.contents writer.new)) }
+    ensures served { IfOk result (λ status. EndsFrames (IsOpenedIn None None settings.now) (group_terms limits settings.now) (I.remaining reader) status (W.contents writer.old) (W.contents writer.new)) }
     ensures none { OnErr result (W.contents writer.new ≡ W.contents writer.old) }
 {
     let path = format!(in rt.alloc(); "{folder}/answered").context("naming the pipe")?;
@@ -94,17 +94,18 @@ fn serve_asked<I: Read + Drop, W: Write>(
     }
 }
 
-fn serve_pipes<I: Read + Drop, W: Write>(
+// It asks for the rows in the first of the pipes, and reads them from the other.
+fn serve_pipes<A: Write + Drop, B: Read + Drop, I: Read + Drop, W: Write>(
     rt: &HostRuntime,
     settings: &Settings,
     folder: &str,
     limits: GroupLimits,
-    pipes: (File, File),
+    pipes: (A, B),
     reader: I,
     writer: &mut W,
 ) -> Result<u8>
     ensures exit { IfOk result IsExit }
-    ensures served { IfOk result (λ status. EndsFrames (record { master = terms_of settings.now; limits = limits }) (I.remaining reader) status (W.contents writer.old) (W.contents writer.new)) }
+    ensures served { IfOk result (λ status. EndsFrames (IsOpenedIn (A.contents pipes.0) (B.remaining pipes.1) settings.now) (group_terms limits settings.now) (I.remaining reader) status (W.contents writer.old) (W.contents writer.new)) }
     ensures none { OnErr result (W.contents writer.new ≡ W.contents writer.old) }
 {
     let (asked, answered) = pipes;

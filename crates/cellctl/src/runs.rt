@@ -12,6 +12,7 @@ ghost use Rattle.cellctl.specs.Anew.{RanAnew};
 ghost use Rattle.cellctl.specs.Closed.{RanOver, RanAt};
 ghost use Rattle.cellctl.specs.Led.{ScriptLeads, LedOn};
 ghost use Rattle.cellctl.specs.Left.{LeavesOver, LeavesAt};
+ghost use Rattle.cellctl.specs.Taken.{IsAdopted, IsTakenFrom};
 
 use rows_cell::{Settings, StoreFault};
 use rows_sql::{OrderedStore, SqlRecords};
@@ -53,8 +54,8 @@ pub(crate) fn run_path<S: Start, I: Read + Drop, W: Write, E: Write + Drop>(
     writer: &mut W,
 ) -> Result<(u8, Files<FileFrom<S>>), Unclosed<FileFrom<S>>>
     ensures closed { IfOk result (λ r. AreClean ⟦<FileFrom<S> as Disk>⟧ r.1.log r.1.db → RanAt ⟦<FileFrom<S> as Disk>⟧ settings.now (image_at S.Start) (I.remaining script.reader) r.0 r.1 (W.contents writer.old) (W.contents writer.new)) }
-    // And whatever the disk did: it was run.
-    ensures ran { IfOk result (λ r. LedOn (ScriptLeads (terms_of settings.now) (I.remaining script.reader) (W.contents writer.old) (W.contents writer.new) r.0)) }
+    // And whatever the disk did: it was run, over what the files are taken over as.
+    ensures ran { IfOk result (λ r. LedOn (IsTakenFrom settings.now (image_at S.Start)) (ScriptLeads (terms_of settings.now) (I.remaining script.reader) (W.contents writer.old) (W.contents writer.new) r.0)) }
     ensures left { IfErr result (LeavesAt settings.now (image_at S.Start) (ScriptLeads (terms_of settings.now) (I.remaining script.reader) (W.contents writer.old) (W.contents writer.new)) (W.contents writer.old) (W.contents writer.new)) }
     ensures status { IfOk result (λ r. IsStatus r.0) }
 {
@@ -76,8 +77,8 @@ pub(crate) fn run_files<D: Disk + Drop, I: Read + Drop, W: Write, E: Write + Dro
     // Where nobody else wrote the files, and the disk gave back what was written: it led from the rows that they had to
     // those that they have, and the laws of runs hold of it.
     ensures closed { IfOk result (λ r. AreClean D.Disk r.1.log r.1.db → RanOver D.Disk settings.now (file_state conn) (I.remaining script.reader) r.0 r.1 (W.contents writer.old) (W.contents writer.new)) }
-    // And whatever the disk did: it was run.
-    ensures ran { IfOk result (λ r. LedOn (ScriptLeads (terms_of settings.now) (I.remaining script.reader) (W.contents writer.old) (W.contents writer.new) r.0)) }
+    // And whatever the disk did: it was run, over what the connection is taken over as.
+    ensures ran { IfOk result (λ r. LedOn (IsAdopted settings.now (file_state conn)) (ScriptLeads (terms_of settings.now) (I.remaining script.reader) (W.contents writer.old) (W.contents writer.new) r.0)) }
     // Else it is said what a crash leaves.
     ensures left { IfErr result (LeavesOver settings.now conn (ScriptLeads (terms_of settings.now) (I.remaining script.reader) (W.contents writer.old) (W.contents writer.new)) (W.contents writer.old) (W.contents writer.new)) }
     ensures status { IfOk result (λ r. IsStatus r.0) }

@@ -1,14 +1,14 @@
 //! A master that another program starts.
 ghost use Rattle.std.specs.Prelude.{◌≡◌, IfOk, IfErr, OnErr};
-ghost use Rattle.rows_cell.specs.Settings.{terms_of};
 ghost use Rattle.sqlite_wal.specs.Reads.{AreClean};
 ghost use Rattle.sqlite_wal.specs.Files.{image_at};
 ghost use Rattle.sqlite.specs.Files.{file_state};
 ghost use Rattle.hosting.specs.Seats.{hosted};
 ghost use Rattle.cellctl.specs.Closed.{ServedOver, ServedAt};
 ghost use Rattle.cellctl.specs.Exits.{IsExit};
-ghost use Rattle.cellctl.specs.Led.{served_status, EndsServing, FramesLead, LedOn, EndsFrames, EndsAnyFrames};
+ghost use Rattle.cellctl.specs.Led.{served_status, group_terms, EndsServing, FramesLead, LedOn, EndsFrames, EndsAnyFrames};
 ghost use Rattle.cellctl.specs.Left.{LeavesOver, LeavesAt};
+ghost use Rattle.cellctl.specs.Taken.{IsAdopted, IsTakenFrom};
 
 use crate::admission::{admit_served, make_file};
 use crate::runs::Unclosed;
@@ -19,7 +19,7 @@ use hosting::{GroupLimits, GroupStop, GroupTerms, HostedMaster, StreamStop, serv
 use rows_cell::{Records, Settings};
 use rows_sql::SqlRecords;
 use sqlite::{Connection, FileStore, Files};
-use sqlite_disk::{Disk, Start, Unknown};
+use sqlite_disk::{Disk, Start};
 use sqlite_std_file::FileFrom;
 use std::alloc::Global;
 use std::fs;
@@ -39,45 +39,48 @@ pub(crate) struct Frames<I, E> {
 
 /// Answers the frames of an input over the store in the file at a path, which is made where there is none, with the settings
 /// of a file or the standard ones. At the end the store is closed: its rows stand in the one file. Where it can't be
-/// opened, taken over or closed, the words of it go to the standard error, and the status is 3.
-pub(crate) fn serve_path<I: Read + Drop, W: Write>(
+/// opened, taken over or closed, the words of it go to the standard error, and the status is 3. `S` stands for what the files hold,
+/// as in `run_path`.
+pub(crate) fn serve_path<S: Start, I: Read + Drop, W: Write>(
     rt: &HostRuntime,
     named: Option<&str>,
     path: &str,
+    start: S,
     limits: GroupLimits,
     reader: I,
     writer: &mut W,
 ) -> Result<u8>
     ensures exit { IfOk result IsExit }
     // All of its frames were served, and the status is what follows of them; or there were no settings, and nothing was written.
-    ensures served { IfOk result (λ status. EndsAnyFrames (I.remaining reader) status (W.contents writer.old) (W.contents writer.new)) }
+    ensures served { IfOk result (λ status. EndsAnyFrames (λ settings. IsTakenFrom settings (image_at S.Start)) limits (I.remaining reader) status (W.contents writer.old) (W.contents writer.new)) }
     ensures none { OnErr result (W.contents writer.new ≡ W.contents writer.old) }
 {
     match settings(rt, named) {
-        Ok(chosen) => serve_at(rt, &chosen, path, limits, reader, writer),
+        Ok(chosen) => serve_at(rt, &chosen, path, start, limits, reader, writer),
         Err(status) => Ok(status),
     }
 }
 
 // The files lie where a link leads.
-fn serve_at<I: Read + Drop, W: Write>(
+fn serve_at<S: Start, I: Read + Drop, W: Write>(
     rt: &HostRuntime,
     chosen: &Chosen,
     path: &str,
+    start: S,
     limits: GroupLimits,
     reader: I,
     writer: &mut W,
 ) -> Result<u8>
     ensures exit { IfOk result IsExit }
-    ensures served { IfOk result (λ status. EndsFrames (record { master = terms_of chosen.now.settings; limits = limits }) (I.remaining reader) status (W.contents writer.old) (W.contents writer.new)) }
+    ensures served { IfOk result (λ status. EndsFrames (IsTakenFrom chosen.now.settings (image_at S.Start)) (group_terms limits chosen.now.settings) (I.remaining reader) status (W.contents writer.old) (W.contents writer.new)) }
     ensures none { OnErr result (W.contents writer.new ≡ W.contents writer.old) }
 {
     match fs::canonicalize(rt, path) {
-        Ok(real) => serve_there(rt, chosen, real.as_str(), limits, reader, writer),
+        Ok(real) => serve_there(rt, chosen, real.as_str(), start, limits, reader, writer),
         Err(error) => match error.kind() {
             io::ErrorKind::NotFound => {
                 let _ = make_file(rt, path);
-                serve_real(rt, chosen, path, limits, reader, writer)
+                serve_real(rt, chosen, path, start, limits, reader, writer)
             }
             kind => Ok(tell_unfound(rt, path, kind)),
         },
@@ -85,36 +88,38 @@ fn serve_at<I: Read + Drop, W: Write>(
 }
 
 // Looks whose the store is, before it is taken over.
-fn serve_there<I: Read + Drop, W: Write>(
+fn serve_there<S: Start, I: Read + Drop, W: Write>(
     rt: &HostRuntime,
     chosen: &Chosen,
     path: &str,
+    start: S,
     limits: GroupLimits,
     reader: I,
     writer: &mut W,
 ) -> Result<u8>
     ensures exit { IfOk result IsExit }
-    ensures served { IfOk result (λ status. EndsFrames (record { master = terms_of chosen.now.settings; limits = limits }) (I.remaining reader) status (W.contents writer.old) (W.contents writer.new)) }
+    ensures served { IfOk result (λ status. EndsFrames (IsTakenFrom chosen.now.settings (image_at S.Start)) (group_terms limits chosen.now.settings) (I.remaining reader) status (W.contents writer.old) (W.contents writer.new)) }
     ensures none { OnErr result (W.contents writer.new ≡ W.contents writer.old) }
 {
     let log = format!(in rt.alloc(); "{path}-wal").context("naming the log")?;
     match admit_served(rt, chosen, path, log.as_str()) {
-        Ok(()) => serve_real(rt, chosen, path, limits, reader, writer),
+        Ok(()) => serve_real(rt, chosen, path, start, limits, reader, writer),
         Err(status) => Ok(status),
     }
 }
 
-// Behind the last frame the log is removed: the database file alone has the rows.
-fn serve_real<I: Read + Drop, W: Write>(
+// After the last frame the log is removed: the database file alone has the rows.
+fn serve_real<S: Start, I: Read + Drop, W: Write>(
     rt: &HostRuntime,
     chosen: &Chosen,
     path: &str,
+    start: S,
     limits: GroupLimits,
     reader: I,
     writer: &mut W,
 ) -> Result<u8>
     ensures exit { IfOk result IsExit }
-    ensures served { IfOk result (λ status. EndsFrames (record { master = terms_of chosen.now.settings; limits = limits }) (I.remaining reader) status (W.contents writer.old) (W.contents writer.new)) }
+    ensures served { IfOk result (λ status. EndsFrames (IsTakenFrom chosen.now.settings (image_at S.Start)) (group_terms limits chosen.now.settings) (I.remaining reader) status (W.contents writer.old) (W.contents writer.new)) }
     ensures none { OnErr result (W.contents writer.new ≡ W.contents writer.old) }
 {
     let log = format!(in rt.alloc(); "{path}-wal").context("naming the log")?;
@@ -123,7 +128,7 @@ fn serve_real<I: Read + Drop, W: Write>(
         errors: rt.stderr(),
         limits,
     };
-    match serve_file(rt, &chosen.settings, path, Unknown, frames, writer) {
+    match serve_file(rt, &chosen.settings, path, start, frames, writer) {
         Ok((status, files)) => {
             let _ = fs::remove_file(rt, log.as_str());
             drop(files);
@@ -145,8 +150,8 @@ fn serve_file<S: Start, I: Read + Drop, W: Write, E: Write + Drop>(
 ) -> Result<(u8, Files<FileFrom<S>>), Unclosed<FileFrom<S>>>
     ensures closed { IfOk result (λ r. AreClean ⟦<FileFrom<S> as Disk>⟧ r.1.log r.1.db → ServedAt ⟦<FileFrom<S> as Disk>⟧ settings.now frames.limits (image_at S.Start) (I.remaining frames.reader) r.0 r.1 (W.contents writer.old) (W.contents writer.new)) }
     // And whatever the disk did: they were served.
-    ensures served { IfOk result (λ r. LedOn (FramesLead (record { master = terms_of settings.now; limits = frames.limits }) (I.remaining frames.reader) (W.contents writer.old) (W.contents writer.new) r.0)) }
-    ensures left { IfErr result (LeavesAt settings.now (image_at S.Start) (FramesLead (record { master = terms_of settings.now; limits = frames.limits }) (I.remaining frames.reader) (W.contents writer.old) (W.contents writer.new)) (W.contents writer.old) (W.contents writer.new)) }
+    ensures served { IfOk result (λ r. LedOn (IsTakenFrom settings.now (image_at S.Start)) (FramesLead (group_terms frames.limits settings.now) (I.remaining frames.reader) (W.contents writer.old) (W.contents writer.new) r.0)) }
+    ensures left { IfErr result (LeavesAt settings.now (image_at S.Start) (FramesLead (group_terms frames.limits settings.now) (I.remaining frames.reader) (W.contents writer.old) (W.contents writer.new)) (W.contents writer.old) (W.contents writer.new)) }
     ensures status { IfOk result (λ r. IsExit r.0) }
 {
     match Connection::open_from(rt, path, false, start) {
@@ -155,7 +160,7 @@ fn serve_file<S: Start, I: Read + Drop, W: Write, E: Write + Drop>(
     }
 }
 
-/// Takes the store of a connection over, answers all frames, gives the status behind the last one, and closes the store, whatever
+/// Takes the store of a connection over, answers all frames, gives the status after the last one, and closes the store, whatever
 /// that is: so its rows stand in the database file alone.
 fn serve_store<D: Disk + Drop, I: Read + Drop, W: Write, E: Write + Drop>(
     alloc: Global,
@@ -168,9 +173,9 @@ fn serve_store<D: Disk + Drop, I: Read + Drop, W: Write, E: Write + Drop>(
     // to those that they have.
     ensures closed { IfOk result (λ r. AreClean D.Disk r.1.log r.1.db → ServedOver D.Disk settings.now frames.limits (file_state conn) (I.remaining frames.reader) r.0 r.1 (W.contents writer.old) (W.contents writer.new)) }
     // And whatever the disk did: they were served.
-    ensures served { IfOk result (λ r. LedOn (FramesLead (record { master = terms_of settings.now; limits = frames.limits }) (I.remaining frames.reader) (W.contents writer.old) (W.contents writer.new) r.0)) }
+    ensures served { IfOk result (λ r. LedOn (IsAdopted settings.now (file_state conn)) (FramesLead (group_terms frames.limits settings.now) (I.remaining frames.reader) (W.contents writer.old) (W.contents writer.new) r.0)) }
     // Else it is said what a crash leaves.
-    ensures left { IfErr result (LeavesOver settings.now conn (FramesLead (record { master = terms_of settings.now; limits = frames.limits }) (I.remaining frames.reader) (W.contents writer.old) (W.contents writer.new)) (W.contents writer.old) (W.contents writer.new)) }
+    ensures left { IfErr result (LeavesOver settings.now conn (FramesLead (group_terms frames.limits settings.now) (I.remaining frames.reader) (W.contents writer.old) (W.contents writer.new)) (W.contents writer.old) (W.contents writer.new)) }
     ensures status { IfOk result (λ r. IsExit r.0) }
 {
     let records = match SqlRecords::adopt(alloc, conn, settings) {
@@ -184,7 +189,7 @@ fn serve_store<D: Disk + Drop, I: Read + Drop, W: Write, E: Write + Drop>(
     }
 }
 
-/// Answers all frames, and gives the status behind the last one.
+/// Answers all frames, and gives the status after the last one.
 pub(crate) fn serve_seat<R: Records, I: Read + Drop, W: Write, E: Write + Drop>(
     alloc: Global,
     settings: &Settings,
@@ -192,7 +197,7 @@ pub(crate) fn serve_seat<R: Records, I: Read + Drop, W: Write, E: Write + Drop>(
     frames: Frames<I, E>,
     writer: &mut W,
 ) -> (HostedMaster<R>, u8)
-    ensures served { EndsServing (record { master = terms_of settings.now; limits = frames.limits }) (I.remaining frames.reader) (W.contents writer.old) (W.contents writer.new) result.1 (hosted R.store seat) (hosted R.store result.0) }
+    ensures served { EndsServing (group_terms frames.limits settings.now) (I.remaining frames.reader) (W.contents writer.old) (W.contents writer.new) result.1 (hosted R.store seat) (hosted R.store result.0) }
     ensures exit { IsExit result.1 }
 {
     let Frames {

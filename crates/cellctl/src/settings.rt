@@ -1,6 +1,7 @@
 //! The settings of a run.
-ghost use Rattle.std.specs.Prelude.{IfErr};
+ghost use Rattle.std.specs.Prelude.{◌≡◌, IfErr, IfOk};
 ghost use Rattle.cellctl.specs.Exits.{IsExit, IsUnset};
+ghost use Rattle.cellctl.specs.Taken.{IsLease};
 
 use crate::texts::Trouble;
 use crate::troubles::{TroubleSubject, tell, trouble_of};
@@ -22,6 +23,7 @@ pub(crate) struct Chosen {
 /// The settings that a file says, or the standard ones where no file is named. Where there are none, the words of it go
 /// to the standard error, and the answer is the exit status.
 pub(crate) fn settings(rt: &HostRuntime, path: Option<&str>) -> Result<Chosen, u8>
+    ensures lease { IfOk result (λ chosen. IsLease chosen.settings.lease) }
     ensures exit { IfErr result IsExit }
     ensures unset { IfErr result IsUnset }
 {
@@ -31,15 +33,25 @@ pub(crate) fn settings(rt: &HostRuntime, path: Option<&str>) -> Result<Chosen, u
     }
 }
 
+// Settings have a lease of their range always.
+fn chosen_of(settings: Settings, says_principals: bool) -> Chosen
+    ensures settings { result.settings ≡ settings }
+    ensures lease { IsLease result.settings.lease }
+{
+    let _lease = settings.lease();
+    Chosen {
+        settings,
+        says_principals,
+    }
+}
+
 fn standard(rt: &HostRuntime) -> Result<Chosen, u8>
+    ensures lease { IfOk result (λ chosen. IsLease chosen.settings.lease) }
     ensures exit { IfErr result IsExit }
     ensures unset { IfErr result IsUnset }
 {
     match Settings::standard(rt.alloc()) {
-        Ok(settings) => Ok(Chosen {
-            settings,
-            says_principals: false,
-        }),
+        Ok(settings) => Ok(chosen_of(settings, false)),
         Err(fault) => {
             let _ = eprintln!(rt; "cellctl: making the settings: {fault}");
             Err(4)
@@ -48,6 +60,7 @@ fn standard(rt: &HostRuntime) -> Result<Chosen, u8>
 }
 
 fn settings_at(rt: &HostRuntime, path: &str) -> Result<Chosen, u8>
+    ensures lease { IfOk result (λ chosen. IsLease chosen.settings.lease) }
     ensures exit { IfErr result IsExit }
     ensures unset { IfErr result IsUnset }
 {
@@ -58,14 +71,12 @@ fn settings_at(rt: &HostRuntime, path: &str) -> Result<Chosen, u8>
 }
 
 fn said(rt: &HostRuntime, path: &str, text: &str) -> Result<Chosen, u8>
+    ensures lease { IfOk result (λ chosen. IsLease chosen.settings.lease) }
     ensures exit { IfErr result IsExit }
     ensures unset { IfErr result IsUnset }
 {
     match read_settings(rt.alloc(), text) {
-        Ok(settings) => Ok(Chosen {
-            settings,
-            says_principals: text.contains("principals"),
-        }),
+        Ok(settings) => Ok(chosen_of(settings, text.contains("principals"))),
         Err(fault) => Err(tell_fault(rt, path, &fault)),
     }
 }

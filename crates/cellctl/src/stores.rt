@@ -1,9 +1,11 @@
 //! The store that a script runs over.
 ghost use Rattle.std.specs.Prelude.{◌≡◌, None, IfOk, OnErr};
 ghost use Rattle.rows_cell.specs.Settings.{terms_of};
+ghost use Rattle.sqlite_wal.specs.Files.{image_at};
 ghost use Rattle.cellctl.specs.Anew.{EndsAnew, EndsRun};
 ghost use Rattle.cellctl.specs.Exits.{IsExit, IsShut};
 ghost use Rattle.cellctl.specs.Led.{EndsScript};
+ghost use Rattle.cellctl.specs.Taken.{IsTakenFrom};
 
 use crate::admission::{admit, make_warned};
 use crate::bad_lines::tell_bad;
@@ -18,8 +20,7 @@ use crate::troubles::{TroubleSubject, tell, trouble_of};
 use anyhow::{Context, Result};
 use rows_cell::StoreFault;
 use sqlite::{Error, ErrorCode};
-use sqlite_disk::Unknown;
-use sqlite_std_file::File;
+use sqlite_disk::{Disk, Start};
 use std::cell::Cell;
 use std::fs;
 use std::io::{self, BufWriter, Read, Stderr, Write};
@@ -40,35 +41,37 @@ pub(crate) struct ScriptAsked<I> {
 
 /// Runs a script over the store in the file at a path, which is made where there is none, or over a new store in memory, and
 /// prints to the standard output. Where the store can't be opened, taken over or closed, or is that of another cell, the words of
-/// it go to the standard error, and the status is 3.
-pub(crate) fn run_printing<I: Read + Drop>(
+/// it go to the standard error, and the status is 3. `S` stands for what the files hold, as in `run_path`.
+pub(crate) fn run_printing<S: Start, I: Read + Drop>(
     rt: &HostRuntime,
     chosen: &Chosen,
     path: Option<&str>,
+    start: S,
     asked: ScriptAsked<I>,
 ) -> Result<u8>
     ensures exit { IfOk result IsExit }
     // Of the standard output no byte is known; what is written is said by `run_over`.
-    ensures ran { IfOk result (λ status. EndsRun chosen.now.settings path.entry (I.remaining asked.source) status None None) }
+    ensures ran { IfOk result (λ status. EndsRun chosen.now.settings (image_at S.Start) path.entry (I.remaining asked.source) status None None) }
 {
     let at = Cell::new(0);
     let writer = BufWriter::with_capacity(rt.alloc(), WRITE_SIZE, rt.stdout());
     let writer = writer.context("making room for the output")?;
     let mut output = Output::new(writer, rt.stderr(), &at);
-    run_over(rt, chosen, path, asked, &mut output, &at)
+    run_over(rt, chosen, path, start, asked, &mut output, &at)
 }
 
 /// The same, to any writer: it was the script of all the source, and the status is what follows of it.
-fn run_over<I: Read + Drop, W: Write + Drop>(
+fn run_over<S: Start, I: Read + Drop, W: Write + Drop>(
     rt: &HostRuntime,
     chosen: &Chosen,
     path: Option<&str>,
+    start: S,
     asked: ScriptAsked<I>,
     output: &mut Output<'_, W, Stderr>,
     at: &Cell<u64>,
 ) -> Result<u8>
     ensures exit { IfOk result IsExit }
-    ensures ran { IfOk result (λ status. EndsRun chosen.now.settings path.entry (I.remaining asked.source) status (W.contents output.old.writer) (W.contents output.new.writer)) }
+    ensures ran { IfOk result (λ status. EndsRun chosen.now.settings (image_at S.Start) path.entry (I.remaining asked.source) status (W.contents output.old.writer) (W.contents output.new.writer)) }
     ensures none { OnErr result (W.contents output.new.writer ≡ W.contents output.old.writer) }
 {
     let ScriptAsked { source, is_traced } = asked;
@@ -79,24 +82,25 @@ fn run_over<I: Read + Drop, W: Write + Drop>(
         errors: rt.stderr(),
         is_traced,
     };
-    let status = run_in(rt, chosen, path, script, output)?;
+    let status = run_in(rt, chosen, path, start, script, output)?;
     tell_end(rt, status, &lines, output.failure(), at);
     Ok(status)
 }
 
-fn run_in<I: Read + Drop, W: Write>(
+fn run_in<S: Start, I: Read + Drop, W: Write>(
     rt: &HostRuntime,
     chosen: &Chosen,
     path: Option<&str>,
+    start: S,
     script: Script<I, Stderr>,
     writer: &mut W,
 ) -> Result<u8>
     ensures exit { IfOk result IsExit }
-    ensures ran { IfOk result (λ status. EndsRun chosen.now.settings path.entry (I.remaining script.reader) status (W.contents writer.old) (W.contents writer.new)) }
+    ensures ran { IfOk result (λ status. EndsRun chosen.now.settings (image_at S.Start) path.entry (I.remaining script.reader) status (W.contents writer.old) (W.contents writer.new)) }
     ensures none { OnErr result (W.contents writer.new ≡ W.contents writer.old) }
 {
     match path {
-        Some(path) => run_at(rt, chosen, path, script, writer),
+        Some(path) => run_at(rt, chosen, path, start, script, writer),
         None => Ok(run_in_memory(rt, chosen, script, writer)),
     }
 }
@@ -136,23 +140,24 @@ fn tell_end<I: Read + Drop>(
 }
 
 // The files lie where a link leads.
-fn run_at<I: Read + Drop, W: Write>(
+fn run_at<S: Start, I: Read + Drop, W: Write>(
     rt: &HostRuntime,
     chosen: &Chosen,
     path: &str,
+    start: S,
     script: Script<I, Stderr>,
     writer: &mut W,
 ) -> Result<u8>
     ensures exit { IfOk result IsExit }
-    ensures ran { IfOk result (λ status. EndsScript (terms_of chosen.now.settings) (I.remaining script.reader) status (W.contents writer.old) (W.contents writer.new)) }
+    ensures ran { IfOk result (λ status. EndsScript (IsTakenFrom chosen.now.settings (image_at S.Start)) (terms_of chosen.now.settings) (I.remaining script.reader) status (W.contents writer.old) (W.contents writer.new)) }
     ensures none { OnErr result (W.contents writer.new ≡ W.contents writer.old) }
 {
     match fs::canonicalize(rt, path) {
-        Ok(real) => run_there(rt, chosen, real.as_str(), script, writer),
+        Ok(real) => run_there(rt, chosen, real.as_str(), start, script, writer),
         Err(error) => match error.kind() {
             io::ErrorKind::NotFound => {
                 make_warned(rt, chosen, path);
-                Ok(run_closing(rt, chosen, path, script, writer))
+                Ok(run_closing(rt, chosen, path, start, script, writer))
             }
             kind => Ok(tell_unfound(rt, path, kind)),
         },
@@ -168,39 +173,41 @@ pub(crate) fn tell_unfound(rt: &HostRuntime, path: &str, kind: io::ErrorKind) ->
 }
 
 // Looks whose the store is, before it is run over.
-fn run_there<I: Read + Drop, W: Write>(
+fn run_there<S: Start, I: Read + Drop, W: Write>(
     rt: &HostRuntime,
     chosen: &Chosen,
     path: &str,
+    start: S,
     script: Script<I, Stderr>,
     writer: &mut W,
 ) -> Result<u8>
     ensures exit { IfOk result IsExit }
-    ensures ran { IfOk result (λ status. EndsScript (terms_of chosen.now.settings) (I.remaining script.reader) status (W.contents writer.old) (W.contents writer.new)) }
+    ensures ran { IfOk result (λ status. EndsScript (IsTakenFrom chosen.now.settings (image_at S.Start)) (terms_of chosen.now.settings) (I.remaining script.reader) status (W.contents writer.old) (W.contents writer.new)) }
     ensures none { OnErr result (W.contents writer.new ≡ W.contents writer.old) }
 {
     let log = format!(in rt.alloc(); "{path}-wal").context("naming the log")?;
     match admit(rt, chosen, path, log.as_str()) {
-        Ok(()) => Ok(run_closing(rt, chosen, path, script, writer)),
+        Ok(()) => Ok(run_closing(rt, chosen, path, start, script, writer)),
         Err(status) => Ok(status),
     }
 }
 
-// Behind the run the log is removed: the database file alone has the rows.
-fn run_closing<I: Read + Drop, W: Write>(
+// After the run the log is removed: the database file alone has the rows.
+fn run_closing<S: Start, I: Read + Drop, W: Write>(
     rt: &HostRuntime,
     chosen: &Chosen,
     path: &str,
+    start: S,
     script: Script<I, Stderr>,
     writer: &mut W,
 ) -> u8
     ensures exit { IsExit result }
-    ensures ran { EndsScript (terms_of chosen.now.settings) (I.remaining script.reader) result (W.contents writer.old) (W.contents writer.new) }
+    ensures ran { EndsScript (IsTakenFrom chosen.now.settings (image_at S.Start)) (terms_of chosen.now.settings) (I.remaining script.reader) result (W.contents writer.old) (W.contents writer.new) }
 {
     let Ok(log) = format!(in rt.alloc(); "{path}-wal") else {
         return 4;
     };
-    match run_path(rt, &chosen.settings, path, Unknown, script, writer) {
+    match run_path(rt, &chosen.settings, path, start, script, writer) {
         Ok((status, files)) => {
             let _ = fs::remove_file(rt, log.as_str());
             drop(files);
@@ -212,12 +219,12 @@ fn run_closing<I: Read + Drop, W: Write>(
 
 /// Tells why a store isn't closed, and answers the status. While its files are held, a log that holds no page is removed: so
 /// nothing is left behind of a store that is refused.
-pub(crate) fn left_open(
+pub(crate) fn left_open<D: Disk + Drop>(
     rt: &HostRuntime,
     chosen: &Chosen,
     path: &str,
     log: &str,
-    unclosed: Unclosed<File>,
+    unclosed: Unclosed<D>,
 ) -> u8
     ensures exit { IsExit result }
     ensures shut { IsShut result }

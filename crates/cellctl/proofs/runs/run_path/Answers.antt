@@ -5,6 +5,8 @@ use Rattle.sqlite_wal.specs.Recovery.{Image}
 use Rattle.sqlite_wal.specs.Files.{image_at}
 use Rattle.sqlite_std_file.specs.File.{IsFresh}
 use Rattle.cellctl.specs.Led.{ScriptLeads, ScriptLeadsSurely}
+use Rattle.sqlite.specs.Files.{file_state}
+use Rattle.cellctl.proofs.Overs.{ok_led_at}
 use Rattle.cellctl.proofs.Lefts.{cant_open, left_at, closed_from}
 use Rattle.cellctl.proofs.runs.run_path.Goals as goal
 
@@ -15,7 +17,10 @@ returns-in-Ok-clause-closed g c =
     c.in-Ok.ensures.found c.run_files.ensures.closed
 
 pub returns-in-Ok-clause-ran : goal.returns-in-Ok-clause-ran
-returns-in-Ok-clause-ran g c = c.run_files.ensures.ran
+returns-in-Ok-clause-ran g c =
+    ok_led_at c.args.settings.now (file_state c.in-Ok.conn) (image_at g.S.Start)
+    (ScriptLeads (terms_of c.args.settings.now) (g.I.Read.remaining c.args.script.reader) (g.W.Write.contents c.args.writer.now) (g.W.Write.contents c.run_files.new.writer)) c.run_files.result
+    c.in-Ok.ensures.found c.run_files.ensures.ran
 
 pub returns-in-Ok-clause-left : goal.returns-in-Ok-clause-left
 returns-in-Ok-clause-left g c =

@@ -5,6 +5,8 @@ use Rattle.sqlite_wal.specs.Recovery.{Image}
 use Rattle.sqlite_wal.specs.Files.{image_at}
 use Rattle.sqlite_std_file.specs.File.{IsFresh}
 use Rattle.cellctl.specs.Led.{FramesLead}
+use Rattle.sqlite.specs.Files.{file_state}
+use Rattle.cellctl.proofs.Overs.{ok_led_at}
 use Rattle.cellctl.proofs.Lefts.{cant_open, left_at, closed_from}
 use Rattle.cellctl.proofs.serves.serve_file.Goals as goal
 
@@ -15,7 +17,10 @@ returns-in-Ok-clause-closed g c =
     c.in-Ok.ensures.found c.serve_store.ensures.closed
 
 pub returns-in-Ok-clause-served : goal.returns-in-Ok-clause-served
-returns-in-Ok-clause-served g c = c.serve_store.ensures.served
+returns-in-Ok-clause-served g c =
+    ok_led_at c.args.settings.now (file_state c.in-Ok.conn) (image_at g.S.Start)
+    (FramesLead (record { master = terms_of c.args.settings.now; limits = c.args.frames.limits }) (g.I.Read.remaining c.args.frames.reader) (g.W.Write.contents c.args.writer.now) (g.W.Write.contents c.serve_store.new.writer)) c.serve_store.result
+    c.in-Ok.ensures.found c.serve_store.ensures.served
 
 pub returns-in-Ok-clause-left : goal.returns-in-Ok-clause-left
 returns-in-Ok-clause-left g c =

@@ -1,0 +1,6 @@
+use Rattle.std.specs.Prelude.{string_bytes}
+use Rattle.cellctl.proofs.Drawn.{says_secret}
+use Rattle.cellctl.proofs.fresh.fresh_text.Goals as goal
+
+pub returns : goal.returns
+returns c = says_secret c.in_ok-settings.settings c.args.secret.now (string_bytes c.in_ok-text.text) c.is_secret_of.result c.in_ok-settings.ensures c.is_secret_of.ensures c.if-not-is_secret_of.false
