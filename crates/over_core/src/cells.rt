@@ -224,6 +224,13 @@ impl<R: Records> Cell<R> {
         self.master.master()
     }
 
+    /// The records that the master commits to, to be looked at.
+    pub fn records(&self) -> &R
+        ensures { R.store result.now ≡ self.now.store }
+    {
+        self.records.records()
+    }
+
     /// What holds of every master: what it knows of its rows is what they hold, and they are sound.
     pub fn kept(&self)
         ensures { IsKept self.now.store.cell self.now.store.rows self.now.master }

@@ -49,6 +49,13 @@ impl<R: Records> Keeping<R> {
         self.is_settled
     }
 
+    /// The records, to be looked at.
+    pub(crate) fn records(&self) -> &R
+        ensures { R.store result.now ≡ self.now }
+    {
+        &self.records
+    }
+
     pub(crate) fn into_records(self) -> R
         ensures { R.store result ≡ self }
     {
