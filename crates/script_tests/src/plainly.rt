@@ -5,10 +5,11 @@ use crate::tables::{Part, text_under};
 use crate::texts::first_number;
 use crate::troubles::Trouble;
 use rows_cell::{FailAt, ListRecords, Records, Settings};
-use scripts::{Counted, script_on};
+use scripts::{Counted, script_on, script_with_crashes};
 use std::alloc::{AllocError, Global};
 use std::io::Read;
 use world_cell::World;
+use world_steps::CrashRecords;
 
 /// A script, and how it is run.
 #[derive(Clone, Copy)]
@@ -85,6 +86,24 @@ fn ran_refused(run: &Run<'_>, told: &mut Told) -> Result<(), Trouble> {
     Ok(())
 }
 
+// In it a line may be a crash.
+fn ran_crashing(run: &Run<'_>, told: &mut Told) -> Result<(), Trouble> {
+    let number = first_number(run.rest).ok_or(Trouble::Said("no number"))?;
+    let Ok(records) = CrashRecords::new(run.alloc, run.settings, number) else {
+        return Err(Trouble::NoMemory);
+    };
+    let mut world = World::new(run.alloc, records, run.settings);
+    told.status = script_with_crashes(
+        run.alloc,
+        &mut world,
+        run.steps,
+        &mut told.output,
+        &mut told.errors,
+    );
+    drop(world.close());
+    Ok(())
+}
+
 fn ran_in_sql(run: &Run<'_>, told: &mut Told) -> Result<(), Trouble> {
     let records = sql_records(run.alloc, run.settings)?;
     drop(ran(run, told, records, run.steps));
@@ -122,6 +141,7 @@ fn ran_by_its_way(run: &Run<'_>, told: &mut Told) -> Result<(), Trouble> {
         "fails" => ran_in_lists(run, told, trickle(run, true)),
         "reads" => ran_counted(run, told),
         "refuses" => ran_refused(run, told),
+        "crashes" => ran_crashing(run, told),
         "sql" => ran_in_sql(run, told),
         "files" => ran_in_files(run, told),
         _ => ran_in_lists(run, told, run.steps),

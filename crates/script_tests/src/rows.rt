@@ -87,7 +87,8 @@ impl<'a> Row<'a> {
             | "untraced"
             | "reads"
             | "room"
-            | "refuses" => script_left(alloc, settings, parts, way, rest),
+            | "refuses"
+            | "crashes" => script_left(alloc, settings, parts, way, rest),
             _ => Err(Trouble::Said("no such way")),
         }
     }

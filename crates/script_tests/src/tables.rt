@@ -138,7 +138,7 @@ pub(crate) fn is_known(word: &str) -> bool {
 pub(crate) fn is_way(word: &str) -> bool {
     matches!(
         word,
-        "over" | "reads" | "room" | "refuses" | "cuts" | "stops"
+        "over" | "reads" | "room" | "refuses" | "crashes" | "cuts" | "stops"
     )
 }
 

@@ -12,3 +12,4 @@ pub mod Turns
 mod Doings
 mod FirstLines
 mod RunsOf
+mod Crashings

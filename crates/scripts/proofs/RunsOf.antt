@@ -75,7 +75,7 @@ pub refused_ran : (old new : Played) (step : Step) (printed : List Line) → Pla
 refused_ran old new step printed h =
     record { steps = step ∷ []; told = printed; run = (new.view, printed, [], inr h.refused, (refl, refl), sym (append-nil printed)); tells = adds_all printed }
 
-same_ran : (old new : Played) (printed : List Line) → printed ≡ [] → new ≡ old → Ran old.view new.view printed
+pub same_ran : (old new : Played) (printed : List Line) → printed ≡ [] → new ≡ old → Ran old.view new.view printed
 same_ran old new printed none same = subst (λ xs. Ran old.view new.view xs) (sym none) (subst (λ (w : Played). Ran old.view w.view []) (sym same) (ran_none old.view))
 
 pub turn_ran : (more : Bool) (old new : Played) (printed : List Line) → TakesTurn more old printed new → Ran old.view new.view printed
@@ -113,7 +113,7 @@ begun_ran true old new printed h =
     subst (λ xs. Ran old.view new.view xs) (sym h.tells) (ran_then old.view h.mid.view new.view h.here h.later (turns_ran h.count old h.mid h.here h.first) (last_ran h.mid new h.later h.last))
 begun_ran false old new printed h = refusal_ran old.view new.view MasterDown printed h.0 (ap (λ (w : Played). w.view) h.1)
 
-begins_ran : (old new : Played) (meant : Parsed) (printed : List Line) → Begins old meant printed new → Ran old.view new.view printed
+pub begins_ran : (old new : Played) (meant : Parsed) (printed : List Line) → Begins old meant printed new → Ran old.view new.view printed
 begins_ran old new parsed.Nothing printed h = parsed_ran old new parsed.Nothing printed h
 begins_ran old new (parsed.Step step) printed h = parsed_ran old new (parsed.Step step) printed h
 begins_ran old new parsed.Settle printed h = begun_ran (is_some old.view.world.master) old new printed h
@@ -183,7 +183,7 @@ serves_adds opening told (line ∷ printed) (inr h) serves (x ∷ before) rest c
     let same : map_by opening x ≡ opening = ap (map_by opening) (sym e.0 ∙ h.1) in
     subst (λ n. entry ≡ view_at (map_at n before) name) (sym same) (serves_adds opening told printed h.2 serves before rest client name entry e.1)
 
-tells_of : (old new : WorldView) (printed : List Line) (r : Ran old new printed) → HoldsOfRun old r.steps r.told new → TellsOfRun old new printed
+pub tells_of : (old new : WorldView) (printed : List Line) (r : Ran old new printed) → HoldsOfRun old r.steps r.told new → TellsOfRun old new printed
 tells_of old new printed r h = record {
   served = serves_adds (map_of old.world.rows) r.told printed r.tells h.served;
   once = λ client some. subst Rises (applied_adds client r.told printed r.tells) (h.once client some);
@@ -267,7 +267,7 @@ pub refusal_begun : (meant : Parsed) (w : Played) (fault : Fault) → meant ≡ 
 refusal_begun meant w fault is = subst (λ m. Begins w m (lines.Refused fault ∷ []) w) (sym is) (refl, refl)
 
 module _ {Y : Type 0} (P : Y → List Line → Type 0) (Q : ScriptStop → List Line → Type 0) (a c : Option (List ℕ)) where
-  unwritten : (stop : ScriptStop) (printed : List Line) → stop ≡ Unwritten → Q Unwritten printed → AppendsFront a c (lines_text printed) → (let r : Result Y ScriptStop = Err stop in EndsAs r P Q a c)
+  pub unwritten : (stop : ScriptStop) (printed : List Line) → stop ≡ Unwritten → Q Unwritten printed → AppendsFront a c (lines_text printed) → (let r : Result Y ScriptStop = Err stop in EndsAs r P Q a c)
   unwritten stop printed is h k = subst (λ s. (let r : Result Y ScriptStop = Err s in EndsAs r P Q a c)) (sym is) (printed, h, k)
 
   -- lines can't be written

@@ -4,6 +4,7 @@ pub mod Steps
 pub mod Words
 pub mod Ran
 pub mod Scripts
+pub mod Crashing
 pub mod Settling
 pub mod Stops
 pub mod Traced

@@ -2,6 +2,7 @@
 //! a cell, read from a text in TOML.
 #![tactic(auto)]
 
+mod crashes;
 mod deliveries;
 mod faults;
 mod limits;
@@ -14,6 +15,7 @@ mod traces;
 mod values;
 mod words;
 
+pub use crashes::script_with_crashes;
 pub use faults::TextFault;
 pub use lines::Counted;
 pub use reading::read_settings;

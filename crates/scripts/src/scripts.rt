@@ -117,7 +117,7 @@ fn run_lines<R: Records + Drop, I: Read + Drop, W: Write, E: Write + Drop>(
 }
 
 // Goes on to the next line; false where there is none. What was printed is written before more input is read.
-fn advance<I: Read + Drop, W: Write>(
+pub(crate) fn advance<I: Read + Drop, W: Write>(
     lines: &mut ScriptLines<I>,
     output: &mut W,
 ) -> Result<bool, ScriptStop>
@@ -149,7 +149,7 @@ fn run_told<R: Records + Drop, I: Read + Drop, W: Write, E: Write + Drop>(
 }
 
 // Does what the line asks for that was read last.
-fn run_line<R: Records + Drop, I: Read + Drop, W: Write>(
+pub(crate) fn run_line<R: Records + Drop, I: Read + Drop, W: Write>(
     alloc: Global,
     world: &mut World<R>,
     lines: &ScriptLines<I>,
@@ -256,7 +256,7 @@ fn has_waiting<R: Records + Drop>(world: &World<R>, delivered: &Deliveries) -> b
 }
 
 // Writes what a step printed, or its refusal.
-fn write_answer<W: Write>(
+pub(crate) fn write_answer<W: Write>(
     output: &mut W,
     answer: &Result<Items<Line>, Fault>,
 ) -> Result<(), ScriptStop>

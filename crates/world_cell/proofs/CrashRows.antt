@@ -4,8 +4,7 @@ use Rattle.std.specs.Prelude.{◌⊎◌, ◌==◌}
 use Rattle.std.specs.Option.{option_map}
 use Rattle.std.specs.BTreeMap.{insert_entry}
 use Rattle.std.specs.Ordering.{nat_cmp}
-use Rattle.coherence.specs.Slice.{Slice, Reached, Live, Never, Ended}
-use Rattle.node_core.specs.declared.events.Event.{Event}
+use Rattle.coherence.specs.Slice.{Slice, Reached, Live}
 use Rattle.node_core.specs.declared.views.Mod.TheVariants.{Gone}
 use Rattle.node_core.specs.Nodes.{view_at}
 use Rattle.rows_cell.specs.declared.tables.SessionRow as of_rows
@@ -43,49 +42,18 @@ use Rattle.world_steps.specs.declared.members.WorldClient.{WorldClient}
 use Rattle.world_steps.specs.World.{WorldState, member_of}
 use Rattle.world_cell.specs.Consistent.{IsConsistent}
 use Rattle.world_cell.specs.Contents.{IsTrue}
+use Rattle.world_cell.specs.Left.{behind_cut, IsOverAs, IsOver, IsLeaving, StandsBeside, GoesBeside, Follows}
 use Rattle.world_cell.specs.Slices.{Shown, slice, standing_so, standing_of, standing_in, Seen, seen_of, grants_of, client_of}
 use Rattle.world_cell.proofs.ConsistentSteps.{once_served, cut_holds}
 use Rattle.world_cell.proofs.CrashSlices.{MayShow, MayStand, fallen, fallen_reached}
 use Rattle.world_cell.proofs.RelockedRows.{HasRow, let_go, relocked_rows}
 use Rattle.world_cell.proofs.RepliesSent.{AllAnswer}
-use Rattle.world_cell.proofs.SliceCuts.{behind_cut}
 use Rattle.world_cell.proofs.Slices.{IsKnown, by_test, is_same, is_other, standing_kept}
 use Rattle.world_cell.proofs.SliceSweeps.{standing_by, HasRows, pending_by, touched_is, untouched, mapped_rows_of, changed_rows_of}
 use Rattle.world_cell.proofs.SweptNames.{free_of_holders}
 use Rattle.world_cell.proofs.TellsOn.{each_stays}
 
 -- ---- which rows
-
--- the master may end the session
-abbrev pub IsOverAs : ℕ → Seen → Type 0
-IsOverAs now seen = (seen.live ≡ true) × (seen.timeout ≤ now)
-
-abbrev pub IsOver : ℕ → MasterState → ℕ → Type 0
-IsOver now s c = IsOverAs now (seen_of (session_of s c))
-
--- the client has asked for the end of its session
-abbrev pub IsLeaving : WorldState → ℕ → Type 0
-IsLeaving w c = (member : WorldClient) × (member_of w c ≡ Some member) × (member.client.leaving ≡ true)
-
--- a change of the name waits, and nobody holds a right to it
-abbrev pub IsFreeToChange : MasterState → List ℕ → Type 0
-IsFreeToChange s x = (0 < touching x s.gate.waiting) × ((c : ℕ) → holds c x s.rights ≡ false)
-
-abbrev pub StandsBeside : WorldState → MasterState → Rows → ℕ → Type 0
-StandsBeside w s rows c =
-    (standing_in rows c ≡ standing_in w.rows c)
-    ⊎ (((standing_in rows c ≡ Ended) × (standing_in w.rows c ≡ Live) × (IsOver w.clock s c ⊎ IsLeaving w c)) ⊎ ((standing_in rows c ≡ Live) × (standing_in w.rows c ≡ Never)))
-
--- where the rows differ from those that stand, the master may still make the difference
-pub record GoesBeside (w : WorldState) (s : MasterState) (rows : Rows) : Type 0 where
-  pub shows : (x : List ℕ) → (view_at (map_of rows) x ≡ view_at (map_of w.rows) x) ⊎ IsFreeToChange s x
-  pub stands : (c : ℕ) → StandsBeside w s rows c
-
--- what the rows keep of those that stood
-pub record Follows (old rows : Rows) : Type 0 where
-  pub epoch : rows.epoch ≡ old.epoch
-  pub secret : rows.secret ≡ old.secret
-  pub stands : (event : Event) → IsTrue old event → IsTrue rows event
 
 pub same_beside : (w : WorldState) (s : MasterState) → GoesBeside w s w.rows
 same_beside w s = record { shows = λ x. inl refl; stands = λ c. inl refl }

@@ -40,19 +40,20 @@ use Rattle.world_steps.specs.declared.steps.Commit.TheVariants.{Kept}
 use Rattle.world_steps.specs.Members.{each_member}
 use Rattle.world_steps.specs.World.{Agrees, WorldState, WorldView, IsUndoubted, Outcome, with_client, world_step, world_up, came_up, world_cut_up, cut_up, asked, asked_by, beaten, beaten_by, gave_by, ends_ask, ends_beat, swept, answered, world_sweep, world_beats, without_quiet, moves_nobody, moved, step_edits, step_frees, came_up_edits, store_in}
 use Rattle.world_steps.specs.Made.{Does}
+use Rattle.world_steps.specs.Crash.{crashed}
 use Rattle.world_cell.specs.Consistent.{IsConsistent}
-use Rattle.world_cell.specs.Crashes.{crashed, CrashedRuns}
+use Rattle.world_cell.specs.Crashes.{CrashedRuns}
+use Rattle.world_cell.specs.Left.{behind_cut, IsOver, IsLeaving, StandsBeside, GoesBeside, Follows, MayLeaveBy, MayBeLeft, EachIsLeft}
 use Rattle.world_cell.specs.Runs.{Run}
 use Rattle.world_cell.proofs.ClocksByRuns.{run_consistent}
 use Rattle.world_cell.proofs.ConsistentSteps.{Later, case_holds, case_later, once_served, agrees_at, noted_at, noted_fits, swept_epoch}
-use Rattle.world_cell.proofs.CrashRows.{IsOver, IsLeaving, StandsBeside, GoesBeside, Follows, same_beside, same_follows, crash_holds, go_beside}
+use Rattle.world_cell.proofs.CrashRows.{same_beside, same_follows, crash_holds, go_beside}
 use Rattle.world_cell.proofs.CrashSweeps.{plain_sweep, refused_bare, made_beats, swept_stays, beaten_stays}
 use Rattle.world_cell.proofs.CrashTakes.{Stays, stays_same, taken_stays}
 use Rattle.world_cell.proofs.MasterFits.{application_sent}
 use Rattle.world_cell.proofs.OwnSteps.{asks_own, beats_own, gives_own}
 use Rattle.world_cell.proofs.Reaches.{leads_on}
 use Rattle.world_cell.proofs.RepliesSent.{swept_secret}
-use Rattle.world_cell.proofs.SliceCuts.{behind_cut}
 use Rattle.world_cell.proofs.Slices.{IsKnown, known}
 use Rattle.world_cell.proofs.StepsHold.{does_holds}
 use Rattle.world_cell.proofs.SureRuns.{run_sure, run_doubts}
@@ -62,17 +63,6 @@ use Rattle.world_cell.proofs.WorldCases.WorldCase.{ComesUp, Joins, Asks, Beats, 
 
 -- ---- what is carried along a run
 
--- of rows that a crash may leave: beside a master that is up what it may still do, and else that the world after the crash is consistent
-abbrev MayLeaveBy : WorldState → Option MasterState → Rows → Type 0
-MayLeaveBy w None rows = IsConsistent (behind_cut w rows)
-MayLeaveBy w (Some s) rows = GoesBeside w s rows × Follows w.rows rows
-
-abbrev MayBeLeft : WorldState → Rows → Type 0
-MayBeLeft w rows = MayLeaveBy w w.master rows
-
-abbrev EachIsLeft : WorldView → Type 0
-EachIsLeft w = (rows : Rows) → IsIn rows w.may_leave → MayBeLeft w.world rows
-
 -- the rows that stand are
 same_left : (w : WorldState) → IsConsistent w → (m : Option MasterState) → w.master ≡ m → MayLeaveBy w m w.rows
 same_left w h None none = subst (λ (m : Option MasterState). IsConsistent (record w { master = m })) none h
@@ -81,7 +71,7 @@ same_left w h (Some s) up = (same_beside w s, same_follows w.rows)
 stands_left : (w : WorldState) → IsConsistent w → MayBeLeft w w.rows
 stands_left w h = same_left w h w.master refl
 
-left_consistent : (w : WorldState) (rows : Rows) (m : Option MasterState) → IsConsistent w → w.master ≡ m → MayLeaveBy w m rows → IsConsistent (behind_cut w rows)
+pub left_consistent : (w : WorldState) (rows : Rows) (m : Option MasterState) → IsConsistent w → w.master ≡ m → MayLeaveBy w m rows → IsConsistent (behind_cut w rows)
 left_consistent w rows None h up left = left
 left_consistent w rows (Some s) h up left = crash_holds w s rows h up left.0 left.1
 
@@ -437,7 +427,7 @@ only_one : {A : Type 0} (x y : A) → IsIn x (y ∷ []) → x ≡ y
 only_one x y (inl e) = e
 only_one x y (inr i) = absurd i
 
-does_left : (old : WorldView) (step : Step) (new : WorldView) (printed : List Line) → IsConsistent old.world → EachIsLeft old → Does old step new printed → EachIsLeft new
+pub does_left : (old : WorldView) (step : Step) (new : WorldView) (printed : List Line) → IsConsistent old.world → EachIsLeft old → Does old step new printed → EachIsLeft new
 does_left old step new printed h each (inl m) rows i =
     let new_holds : IsConsistent new.world = does_holds old step new printed h (inl m) in
     elim (after_left (step_frees old.world step) (step_edits old.world step) old.may_leave new.may_leave new.world.rows m.stored.leave) [
@@ -459,14 +449,14 @@ run_left old [] printed new h each run = subst EachIsLeft (sym run.1) each
 run_left old (step ∷ steps) printed new h each run =
     run_left run.0 steps run.2 new (does_holds old step run.0 run.1 h run.3) (does_left old step run.0 run.1 h each run.3) run.4
 
-settled_left : (w : WorldView) → IsConsistent w.world → IsSettled (store_in w) → EachIsLeft w
+pub settled_left : (w : WorldView) → IsConsistent w.world → IsSettled (store_in w) → EachIsLeft w
 settled_left w h settled rows i = subst (λ (r : Rows). MayBeLeft w.world r) (sym (only_one rows w.world.rows (subst (IsIn rows) settled i))) (stands_left w.world h)
 
 -- ---- runs with crashes between
 
-crash_consistent : (old : WorldView) (steps : List Step) (printed : List Line) (mid : WorldView) (rows : Rows) → IsConsistent old.world → IsSettled (store_in old) → Run old steps printed mid → IsIn rows mid.may_leave → IsConsistent (crashed mid rows).world
-crash_consistent old steps printed mid rows h settled run i =
-    left_consistent mid.world rows mid.world.master (run_consistent old steps printed mid h run) refl (run_left old steps printed mid h (settled_left old h settled) run rows i)
+crash_consistent : (old : WorldView) (steps : List Step) (printed : List Line) (mid : WorldView) (rows : Rows) → IsConsistent old.world → EachIsLeft old → Run old steps printed mid → IsIn rows mid.may_leave → IsConsistent (crashed mid rows).world
+crash_consistent old steps printed mid rows h each run i =
+    left_consistent mid.world rows mid.world.master (run_consistent old steps printed mid h run) refl (run_left old steps printed mid h each run rows i)
 
 pub crashes_doubt : (old : WorldView) (runs : List (List Step)) (printed : List (List Line)) (here : WorldView) → CrashedRuns old runs printed here → old.doubt ≤ here.doubt
 crashes_doubt old [] printed here r = subst (λ (w : WorldView). old.doubt ≤ w.doubt) (sym r.1) (omega arith)
@@ -475,18 +465,16 @@ crashes_doubt old (steps ∷ runs) printed here r =
     let b : r.0.doubt ≤ here.doubt = crashes_doubt (crashed r.0 r.3) runs r.2 here r.6 in
     omega (arith, a, b)
 
--- a consistent world over a store that has nothing else to leave
-pub record IsSettledWorld (w : WorldView) : Type 0 where
+-- a consistent world that a crash leaves so, whichever rows it leaves
+pub record IsSafeWorld (w : WorldView) : Type 0 where
   pub consistent : IsConsistent w.world
-  pub settled : IsSettled (store_in w)
+  pub left : EachIsLeft w
 
-pub crashes_settle : (old : WorldView) (runs : List (List Step)) (printed : List (List Line)) (here : WorldView) → IsSettledWorld old → CrashedRuns old runs printed here → IsUndoubted here → IsSettledWorld here
-crashes_settle old [] printed here h r sure = subst IsSettledWorld (sym r.1) h
-crashes_settle old (steps ∷ runs) printed here h r sure =
+pub crashes_keep : (old : WorldView) (runs : List (List Step)) (printed : List (List Line)) (here : WorldView) → IsSafeWorld old → CrashedRuns old runs printed here → IsUndoubted here → IsSafeWorld here
+crashes_keep old [] printed here h r sure = subst IsSafeWorld (sym r.1) h
+crashes_keep old (steps ∷ runs) printed here h r sure =
     let next : WorldView = crashed r.0 r.3 in
     let rises : r.0.doubt ≤ here.doubt = crashes_doubt next runs r.2 here r.6 in
     let undoubted : r.0.doubt ≡ 0 = omega (arith, rises, sure) in
-    crashes_settle next runs r.2 here (record {
-      consistent = crash_consistent old steps r.1 r.0 r.3 h.consistent h.settled (run_sure old steps r.1 r.0 r.4 undoubted) r.5;
-      settled = refl;
-    }) r.6 sure
+    let consistent : IsConsistent next.world = crash_consistent old steps r.1 r.0 r.3 h.consistent h.left (run_sure old steps r.1 r.0 r.4 undoubted) r.5 in
+    crashes_keep next runs r.2 here (record { consistent = consistent; left = settled_left next consistent refl }) r.6 sure

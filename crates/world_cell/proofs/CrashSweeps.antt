@@ -43,8 +43,8 @@ use Rattle.over_core.specs.Plans.{plan_of, plan_task, no_plan, leaving, tellings
 use Rattle.over_core.specs.Sweep.{acted, swept, action_edits, frees, is_over, sweep_step, sweep_edits, sweep_frees, beats_action, beats_answered, beats_step}
 use Rattle.over_core.proofs.SweepCases.{expiry_of, answer_of}
 use Rattle.over_core.proofs.ToldSessions.{reads_told}
+use Rattle.world_cell.specs.Left.{IsOverAs, IsOver}
 use Rattle.world_cell.specs.Slices.{seen_of}
-use Rattle.world_cell.proofs.CrashRows.{IsOverAs, IsOver}
 use Rattle.world_cell.proofs.CrashTakes.{Stays, stays_on, stays_seen, queued_stays, asking_stays}
 use Rattle.world_cell.proofs.LockReplies.{told_seen}
 use Rattle.world_cell.proofs.Slices.{by_test, is_same, is_other}

@@ -38,8 +38,8 @@ use Rattle.cell_core.specs.declared.asking.TouchedNames.{TouchedNames}
 use Rattle.cell_core.specs.Step.{queued, parked, recorded, replied, granting, waits, with_call, asking_for, names_of, task_of, is_cachable}
 use Rattle.cell_core.specs.Cases.{TakeCase, taken_by}
 use Rattle.cell_core.specs.Cases.TakeCase.{StartQueued, BeatParked, LeavesBeside, Recovering, Answered, Granted, Waits}
+use Rattle.world_cell.specs.Left.{IsOverAs, IsOver}
 use Rattle.world_cell.specs.Slices.{SeenRight, seen_of}
-use Rattle.world_cell.proofs.CrashRows.{IsOverAs, IsOver}
 use Rattle.world_cell.proofs.SliceCalls.{asked_for_all, asking_rights, asking_waiting, asking_seen}
 use Rattle.world_cell.proofs.SliceRights.{granted_to_another}
 use Rattle.world_cell.proofs.Slices.{by_test, is_same, is_other, seen_stays}

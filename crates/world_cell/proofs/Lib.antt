@@ -51,6 +51,7 @@ pub mod CrashRows
 pub mod CrashTakes
 pub mod CrashSweeps
 pub mod CrashRuns
+pub mod LeftKept
 pub mod CrashLaws
 pub mod WereSent
 pub mod LocksRise

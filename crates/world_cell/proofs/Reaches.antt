@@ -6,11 +6,12 @@ use Rattle.world_steps.specs.declared.steps.Step.{Step}
 use Rattle.world_steps.specs.World.{WorldState}
 use Rattle.world_cell.specs.Slices.{slice}
 use Rattle.world_cell.specs.Consistent.{IsConsistent}
+use Rattle.world_cell.specs.Left.{behind_cut}
 use Rattle.world_cell.proofs.SliceSteps.{reached_behind_ticks, reached_behind_up, reached_behind_join, reached_behind_ask, reached_behind_beat, reached_behind_give, reached_behind_take, reached_behind_sweep, reached_behind_down}
 use Rattle.world_cell.proofs.WorldCases.{WorldCase}
 use Rattle.world_cell.proofs.WorldCases.WorldCase.{ComesUp, Joins, Asks, Beats, Gives, Ticks, Takes, Sweeps, GoesDown, CutsSweep, CutsUp, LosesUp}
 use Rattle.world_cell.proofs.ConsistentSteps.{rows_only, LeadsOn}
-use Rattle.world_cell.proofs.SliceCuts.{behind_cut, reached_stays_at_cut_sweep, reached_stays_at_cut_up}
+use Rattle.world_cell.proofs.SliceCuts.{reached_stays_at_cut_sweep, reached_stays_at_cut_up}
 use Rattle.world_cell.proofs.RepliesSent.{replies_answer}
 use Rattle.world_cell.proofs.HoldsOn.{holds_on}
 use Rattle.world_cell.proofs.TellsOn.{tells_on}

@@ -14,17 +14,14 @@ use Rattle.over_core.specs.SweepCase.{SweepCase, swept_by, swept_edits}
 use Rattle.world_steps.specs.declared.mail.Message.TheVariants.{ToClient}
 use Rattle.world_steps.specs.declared.members.WorldClient.{WorldClient}
 use Rattle.world_steps.specs.Members.{at_up}
-use Rattle.world_steps.specs.World.{WorldState, member_of, without_master}
+use Rattle.world_steps.specs.World.{WorldState, member_of}
+use Rattle.world_cell.specs.Left.{behind_cut}
 use Rattle.world_cell.specs.Slices.{Shown, slice, beats_of, offer_of, put_offer, offers_of, grants_of, client_of}
 use Rattle.world_cell.proofs.GrantsSent.{grants_stay}
 use Rattle.world_cell.proofs.Slices.{LeadsTo, reached_stays, beats_stay, offers_more, lookup_each}
 use Rattle.world_cell.proofs.SliceTicks.{behind_up}
 use Rattle.world_cell.proofs.SliceSweeps.{behind_sweep}
 use Rattle.over_core.specs.declared.actions.Action.{Action}
-
--- the world after it: the commit stands
-abbrev pub behind_cut : WorldState → Rows → WorldState
-behind_cut w rows = record (without_master w) { rows = rows }
 
 -- ---- offers stay
 

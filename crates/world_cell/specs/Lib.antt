@@ -33,6 +33,7 @@ pub use Rattle.client_core.specs.Gives
 pub mod Slices
 pub mod Contents
 pub mod Consistent
+pub mod Left
 pub mod Runs
 pub mod Served
 pub mod Locks

@@ -4,6 +4,7 @@ ghost use Rattle.rows_cell.specs.Rows.{map_of};
 ghost use Rattle.node_core.specs.declared.lines.Line.{Line as PrintedLine};
 ghost use Rattle.node_core.specs.declared.views.Mod.{Mod};
 ghost use Rattle.world_cell.specs.Consistent.{IsConsistent};
+ghost use Rattle.world_cell.specs.Left.{EachIsLeft};
 ghost use Rattle.rows_cell.specs.Sound.{is_live_in};
 ghost use Rattle.world_steps.specs.World.{IsUndoubted};
 ghost use Rattle.world_cell.specs.Runs.{AnyRun, map_at, after_lines, epoch_at, live_at, LeasesKeepSessions, AreJoint, KeepsClocksFair, AreRecordedOnce, applied, Rises, IsOfCall, IsOfIdle};
@@ -120,17 +121,24 @@ impl<R: Records + Drop> World<R> {
     }
 
     /// The same after each crash, whichever it leaves of the rows that stood and of those whose commit was refused since one
-    /// stood: all that stands at `run` holds of every run that begins there, over the rows that it left. Of a world whose
-    /// store had nothing else to leave, as one that was just opened. Does nothing.
+    /// stood: all that stands at `run` holds of every run that begins there, over the rows that it left. Does nothing.
     pub fn crashes_hold(&self)
         ensures { HoldsBehindCrashes self.now }
     {
         self.consistent();
+        self.left();
     }
 
     // What holds of every world in which nothing is in doubt.
     fn consistent(&self)
         ensures { IsUndoubted self.now → IsConsistent self.now.world }
+    {
+        let _parts = &self.parts;
+    }
+
+    // What a crash may leave of it.
+    fn left(&self)
+        ensures { IsUndoubted self.now → EachIsLeft self.now }
     {
         let _parts = &self.parts;
     }

@@ -4,6 +4,7 @@ ghost use Rattle.rows_cell.specs.Rows.{map_of};
 ghost use Rattle.rows_cell.specs.Settings.{terms_of};
 ghost use Rattle.world_steps.specs.World.{opened, store_in, world_sweep, step_edits, step_frees, IsUndoubted, IsStored, IsLeft, MayRefuseStep};
 ghost use Rattle.world_steps.specs.Made.{WasMade, WasRefused};
+ghost use Rattle.world_steps.specs.Crash.{IsCrash, IsNoCrash};
 ghost use Rattle.world_cell.specs.Served.{ServesPresent};
 ghost use Rattle.world_cell.specs.Locks.{HasLegalLocks, CountsHolds};
 
@@ -12,11 +13,11 @@ use node_core::{Fault, Line};
 use rows_cell::{Records, Settings};
 use std::alloc::Global;
 use std::marker::Model;
-use world_steps::{Message, Step, SweepResult, WorldParts};
+use world_steps::{Crashes, Message, Step, SweepResult, WorldParts};
 
 /// A cell with all that happens around it: records, at most one master, clients, and every message that was sent. To a
 /// contract, plain lists of these. Where nothing that was read from the records is in doubt, they fit one another always
-/// (`IsConsistent`).
+/// (`IsConsistent`), and would after a crash, whichever rows it leaves (`EachIsLeft`).
 #[derive(Drop)]
 pub struct World<R: Records> {
     pub(crate) parts: WorldParts<R>,
@@ -25,12 +26,13 @@ pub struct World<R: Records> {
 impl<R: Records> Model for World<R> {
     ghost use Rattle.world_steps.specs.World.{WorldView, IsUndoubted};
     ghost use Rattle.world_cell.specs.Consistent.{IsConsistent};
+    ghost use Rattle.world_cell.specs.Left.{EachIsLeft};
 
     ghost Value = { WorldView };
 
     ghost view = { λ w. w.parts };
 
-    ghost invariant = { λ w. IsUndoubted w.parts → IsConsistent w.parts.world };
+    ghost invariant = { λ w. (IsUndoubted w.parts → IsConsistent w.parts.world) × (IsUndoubted w.parts → EachIsLeft w.parts) };
 }
 
 impl<R: Records + Drop> World<R> {
@@ -101,5 +103,19 @@ impl<R: Records + Drop> World<R> {
 
     pub(crate) fn alloc(&self) -> Global {
         self.parts.alloc()
+    }
+}
+
+impl<R: Crashes + Drop> World<R> {
+    /// A crash that leaves the rows of this number, counted from 1, of those that it may leave: the ones that stand, and those of
+    /// each commit that was refused since one stood. The master is gone, if one was up; clients, clocks and messages stay.
+    /// All that holds of worlds holds of the one that is left.
+    ///
+    /// Refused, and nothing changed: where there are no rows of the number, as NoSuchMessage, and for want of memory.
+    pub fn crash(&mut self, number: u64) -> Result<Items<Line>, Fault>
+        ensures ok { IfOk result (λ lines. IsCrash number self.old self.new lines) }
+        ensures refused { IfErr result (λ e. IsNoCrash number e self.old self.new) }
+    {
+        self.parts.crash(number)
     }
 }

@@ -8,3 +8,4 @@ pub mod JoinOutcomes
 pub mod AsRead
 pub mod CutUps
 pub mod LeftSweeps
+pub mod Beside

@@ -19,3 +19,4 @@ pub mod Members
 pub mod Lives
 pub mod World
 pub mod Made
+pub mod Crash

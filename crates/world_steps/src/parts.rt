@@ -1,11 +1,14 @@
 //! The parts of a world, and what each step does to them.
 ghost use Rattle.lease_core.specs.Lease.{longest_lease};
-ghost use Rattle.std.specs.Prelude.{◌≡◌, ◌≤◌, ◌<◌, ◌+◌, ◌∷◌, ◌++◌, [], length, filter, false, Some, None, Ok, Err, IfOk, IfErr, OnOk, OnErr, is_some};
+ghost use Rattle.std.specs.Prelude.{◌≡◌, ◌≤◌, ◌<◌, ◌+◌, ◌∷◌, ◌++◌, [], length, filter, true, false, Some, None, Ok, Err, IfOk, IfErr, OnOk, OnErr, is_some};
 ghost use Rattle.std.specs.Vec.{vec_len, vec_capacity};
 ghost use Rattle.rows_cell.specs.Settings.{terms_of};
+ghost use Rattle.rows_cell.specs.declared.tables.Rows.{Rows};
 ghost use Rattle.world_steps.specs.World.{opened, store_in, with_refusal, world_join, world_ask, world_beat, world_tick, world_take, world_beats, world_give, world_sweep, world_down, without_master, is_of_commit, world_cut_sweep, moves_nobody, are_fair, goes_past_end, ticked, step_edits, step_frees, IsStored, IsLeft, MayRefuseStep, Agrees};
 ghost use Rattle.world_steps.specs.Made.{IsTyped, WasMade, WasRefused};
+ghost use Rattle.world_steps.specs.Crash.{left_at, crashed, IsCrash, IsNoCrash};
 
+use crate::crashes::Crashes;
 use crate::mail;
 use crate::mail::Message;
 use crate::members::WorldClients;
@@ -487,6 +490,51 @@ impl<R: Records + Drop> WorldParts<R> {
                 Some(fault) => Ok(refused_behind(lines, fault, room)),
                 None => Ok(lines),
             },
+        }
+    }
+}
+
+impl<R: Crashes + Drop> WorldParts<R> {
+    /// A crash that leaves the rows of this number, counted from 1, of those that it may leave: the master is gone, if one was
+    /// up, and these rows stand. Clients, clocks and messages stay. Refused, with nothing changed, where there are no rows of
+    /// the number, as NoSuchMessage, and for want of memory.
+    pub fn crash(&mut self, number: u64) -> Result<Items<Line>, Fault>
+        ensures ok { IfOk result (λ lines. IsCrash number self.old self.new lines) }
+        ensures refused { IfErr result (λ e. IsNoCrash number e self.old self.new) }
+    {
+        if !self.may_leave(number) {
+            return Err(Fault::NoSuchMessage);
+        }
+        let mut lines = Items::new(self.alloc);
+        if self.is_up() {
+            lines.push(Line::Down)?;
+        }
+        self.let_go();
+        self.leave(number);
+        Ok(lines)
+    }
+
+    // Whether there are rows of this number among those that a crash may leave.
+    fn may_leave(&self, number: u64) -> bool
+        ensures { result ≡ is_some (left_at self.now.may_leave number) }
+    {
+        if let Some(cell) = &self.master {
+            return cell.records().may_leave(number);
+        }
+        match &self.records {
+            Some(records) => records.may_leave(number),
+            None => false,
+        }
+    }
+
+    // The rows of this number stand, where no master is up.
+    fn leave(&mut self, number: u64)
+        requires none { self.old.world.master ≡ None }
+        requires there { is_some (left_at self.old.may_leave number) ≡ true }
+        ensures { (rows : Rows) × (left_at self.old.may_leave number ≡ Some rows) × (self.new ≡ crashed self.old rows) }
+    {
+        if let Some(records) = &mut self.records {
+            records.crash(number);
         }
     }
 }
