@@ -91,7 +91,7 @@ fn run_or_crash<R: Crashes + Drop, I: Read + Drop, W: Write>(
     requires { length lines.now.line ≤ 1048576 }
     ensures { EndsAs result (λ _ printed. DoesOrCrashes (played world.old delivered.old) lines.now.line printed (played world.new delivered.new)) (λ _ printed. Between world.old world.new printed) (W.contents output.old) (W.contents output.new) }
 {
-    match crash_of(lines.line()) {
+    match crash_in(lines.line()) {
         Some(number) => crash(world, number, output),
         None => run_line(alloc, world, lines, delivered, output),
     }
@@ -108,14 +108,21 @@ fn crash<R: Crashes + Drop, W: Write>(
     write_answer(output, &world.crash(number))
 }
 
-// The number of the rows that a crash leaves, where the line asks for one.
-fn crash_of(line: &[u8]) -> Option<u64>
-    ensures some { IfSome result (WritesCrash line.now) }
-    ensures none { IfNone result ((number : ℕ) → ¬ (WritesCrash line.now number)) }
+// The number of the rows that a crash leaves, where the line asks for one. What isn't UTF-8 asks for none.
+fn crash_in(line: &[u8]) -> Option<u64>
+    ensures { IfSome result (WritesCrash line.now) }
 {
-    let Ok(text) = str::from_utf8(line) else {
-        return None;
-    };
+    match str::from_utf8(line) {
+        Ok(text) => crash_of(text),
+        Err(_) => None,
+    }
+}
+
+// The same of a text: exactly where its words are those of a crash.
+fn crash_of(text: &str) -> Option<u64>
+    ensures some { IfSome result (WritesCrash text.now) }
+    ensures none { IfNone result ((number : ℕ) → ¬ (WritesCrash text.now number)) }
+{
     if text == "crash" {
         return Some(1);
     }

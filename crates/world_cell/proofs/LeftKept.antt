@@ -5,27 +5,18 @@ use Rattle.coherence.specs.Slice.{IsIn}
 use Rattle.node_core.specs.declared.refusals.Fault.{Fault}
 use Rattle.node_core.specs.declared.lines.Line.{Line}
 use Rattle.node_core.specs.declared.lines.Line.TheVariants as lines
-use Rattle.rows_cell.specs.declared.settings.MasterTerms.{MasterTerms}
 use Rattle.rows_cell.specs.declared.tables.Rows.{Rows}
-use Rattle.rows_cell.specs.Stores.{Store}
-use Rattle.lease_core.specs.Lease.{longest_lease}
 use Rattle.world_steps.specs.declared.parts.SweepResult.{SweepResult}
 use Rattle.world_steps.specs.declared.steps.Step.{Step}
 use Rattle.world_steps.specs.declared.steps.Step.TheVariants as steps
-use Rattle.world_steps.specs.World.{WorldView, IsUndoubted, opened, world_step, world_sweep, without_quiet, step_edits, step_frees, IsStored, IsLeft, MayRefuseStep}
+use Rattle.world_steps.specs.World.{WorldView, IsUndoubted, world_step, world_sweep, without_quiet, step_edits, step_frees, IsStored, IsLeft, MayRefuseStep}
 use Rattle.world_steps.specs.Made.{WasMade, WasRefused}
 use Rattle.world_steps.specs.Crash.{left_at, crashed, IsCrash, IsNoCrash}
 use Rattle.world_steps.proofs.AsRead.{made_doubts, refused_doubts, made_sure, refused_sure}
 use Rattle.world_cell.specs.Consistent.{IsConsistent}
 use Rattle.world_cell.specs.Left.{EachIsLeft}
-use Rattle.world_cell.proofs.ConsistentSteps.{new_holds}
 use Rattle.world_cell.proofs.CrashRuns.{left_consistent, does_left, settled_left}
 use Rattle.world_cell.proofs.WorldCases.{step_sweeps}
-
--- ---- a new world, whatever its store may leave
-
-pub new_left : (store : Store) (terms : MasterTerms) → terms.lease ≤ longest_lease → EachIsLeft (opened store terms)
-new_left store terms range rows i = new_holds store.cell rows terms range
 
 -- ---- a step
 

@@ -6,7 +6,7 @@ use Rattle.scripts.proofs.crashes.run_or_crash.Goals as goal
 
 pub returns-in-Some : goal.returns-in-Some
 returns-in-Some g c =
-    crash_line c.args.lines.now.line c.in-Some.number c.args.world.now c.crash.new.world c.args.delivered.now _ _ c.crash.result (subst (λ text. WritesCrash text c.in-Some.number) c.line.ensures c.in-Some.ensures.some) c.crash.ensures
+    crash_line c.args.lines.now.line c.in-Some.number c.args.world.now c.crash.new.world c.args.delivered.now _ _ c.crash.result (subst (λ text. WritesCrash text c.in-Some.number) c.line.ensures c.in-Some.ensures) c.crash.ensures
 
 pub returns-in-None : goal.returns-in-None
 returns-in-None g c =
