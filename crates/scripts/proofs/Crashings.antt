@@ -181,15 +181,15 @@ all_done there text mid after old new a b none next h =
 
 -- ---- where it breaks off
 
-module _ {Y : Type 0} (P : Y → List Line → Type 0) (text rest : Option (List ℕ)) (count : ℕ) (old : WorldView) (w : Played) (a b : Option (List ℕ)) where
-  pub parts_between : Wrote (λ printed. IsOfCrashPart text rest count old printed w) a b → Wrote (Between old w.view) a b
-  parts_between h = wrote_as (λ printed. IsOfCrashPart text rest count old printed w) (Between old w.view) a b (λ printed f. part_between text rest count old w printed f) h
+pub parts_between : (text rest : Option (List ℕ)) (count : ℕ) (old : WorldView) (w : Played) (a b : Option (List ℕ)) → Wrote (λ printed. IsOfCrashPart text rest count old printed w) a b → Wrote (Between old w.view) a b
+parts_between text rest count old w a b h = wrote_as (λ printed. IsOfCrashPart text rest count old printed w) (Between old w.view) a b (λ printed f. part_between text rest count old w printed f) h
 
+module _ {Y : Type 0} (P : Y → List Line → Type 0) (text rest : Option (List ℕ)) (count : ℕ) (old : WorldView) (w : Played) (a b : Option (List ℕ)) where
   part_stops : (stop : ScriptStop) → Wrote (λ printed. IsOfCrashPart text rest count old printed w) a b → (let r : Result Y ScriptStop = Err stop in EndsAs r P (λ _ printed. Between old w.view printed) a b)
-  part_stops Unwritten h = front_of (Between old w.view) a b (parts_between h)
-  part_stops NoMemory h = parts_between h
-  part_stops (BadStep at) h = parts_between h
-  part_stops (Unread at) h = parts_between h
+  part_stops Unwritten h = front_of (Between old w.view) a b (parts_between text rest count old w a b h)
+  part_stops NoMemory h = parts_between text rest count old w a b h
+  part_stops (BadStep at) h = parts_between text rest count old w a b h
+  part_stops (Unread at) h = parts_between text rest count old w a b h
 
   -- the next line isn't read
   pub exit_part : (r : Result Y ScriptStop) (stop : ScriptStop) → IsErr r × IsErrAnd r (λ e. e ≡ stop) → Wrote (λ printed. IsOfCrashPart text rest count old printed w) a b → EndsAs r P (λ _ printed. Between old w.view printed) a b
@@ -197,19 +197,19 @@ module _ {Y : Type 0} (P : Y → List Line → Type 0) (text rest : Option (List
   exit_part (Err e) stop exit h = part_stops e h
 
 -- a line breaks off after the others
-module _ {X Y : Type 0} (O : X → List Line → Type 0) (P : Y → List Line → Type 0) (text rest : Option (List ℕ)) (count : ℕ) (old : WorldView) (w new : Played) (a b c : Option (List ℕ)) where
-  joins : (front back : List Line) → IsOfCrashPart text rest count old front w → Between w.view new.view back → Between old new.view (front ++ back)
-  joins front back f g = between_then old w.view new.view front back (part_between text rest count old w front f) g
+module _ {X Y : Type 0} (O : X → List Line → Type 0) (P : Y → List Line → Type 0) (text rest : Option (List ℕ)) (count : ℕ) (old : WorldView) (w : Played) (new : WorldView) (a b c : Option (List ℕ)) where
+  joins : (front back : List Line) → IsOfCrashPart text rest count old front w → Between w.view new back → Between old new (front ++ back)
+  joins front back f g = between_then old w.view new front back (part_between text rest count old w front f) g
 
-  breaks : (stop : ScriptStop) → Wrote (λ printed. IsOfCrashPart text rest count old printed w) a b → (let q : Result X ScriptStop = Err stop in EndsAs q O (λ _ printed. Between w.view new.view printed) b c) → (let r : Result Y ScriptStop = Err stop in EndsAs r P (λ _ printed. Between old new.view printed) a c)
-  breaks Unwritten h k = front_then (λ p. IsOfCrashPart text rest count old p w) (Between w.view new.view) (Between old new.view) a b c joins h k
-  breaks NoMemory h k = wrote_then (λ p. IsOfCrashPart text rest count old p w) (Between w.view new.view) (Between old new.view) a b c joins h k
-  breaks (BadStep at) h k = wrote_then (λ p. IsOfCrashPart text rest count old p w) (Between w.view new.view) (Between old new.view) a b c joins h k
-  breaks (Unread at) h k = wrote_then (λ p. IsOfCrashPart text rest count old p w) (Between w.view new.view) (Between old new.view) a b c joins h k
+  breaks : (stop : ScriptStop) → Wrote (λ printed. IsOfCrashPart text rest count old printed w) a b → (let q : Result X ScriptStop = Err stop in EndsAs q O (λ _ printed. Between w.view new printed) b c) → (let r : Result Y ScriptStop = Err stop in EndsAs r P (λ _ printed. Between old new printed) a c)
+  breaks Unwritten h k = front_then (λ p. IsOfCrashPart text rest count old p w) (Between w.view new) (Between old new) a b c joins h k
+  breaks NoMemory h k = wrote_then (λ p. IsOfCrashPart text rest count old p w) (Between w.view new) (Between old new) a b c joins h k
+  breaks (BadStep at) h k = wrote_then (λ p. IsOfCrashPart text rest count old p w) (Between w.view new) (Between old new) a b c joins h k
+  breaks (Unread at) h k = wrote_then (λ p. IsOfCrashPart text rest count old p w) (Between w.view new) (Between old new) a b c joins h k
 
-  pub exit_line : (r : Result Y ScriptStop) (stop : ScriptStop) → IsErr r × IsErrAnd r (λ e. e ≡ stop) → Wrote (λ printed. IsOfCrashPart text rest count old printed w) a b → (let q : Result X ScriptStop = Err stop in EndsAs q O (λ _ printed. Between w.view new.view printed) b c) → EndsAs r P (λ _ printed. Between old new.view printed) a c
+  pub exit_line : (r : Result Y ScriptStop) (stop : ScriptStop) → IsErr r × IsErrAnd r (λ e. e ≡ stop) → Wrote (λ printed. IsOfCrashPart text rest count old printed w) a b → (let q : Result X ScriptStop = Err stop in EndsAs q O (λ _ printed. Between w.view new printed) b c) → EndsAs r P (λ _ printed. Between old new printed) a c
   exit_line (Ok y) stop exit h k = let none = exit.0 in cc
-  exit_line (Err e) stop exit h k = breaks e h (subst (λ s. (let q : Result X ScriptStop = Err s in EndsAs q O (λ _ printed. Between w.view new.view printed) b c)) (sym exit.1) k)
+  exit_line (Err e) stop exit h k = breaks e h (subst (λ s. (let q : Result X ScriptStop = Err s in EndsAs q O (λ _ printed. Between w.view new printed) b c)) (sym exit.1) k)
 
 -- ---- the whole script
 

@@ -22,4 +22,4 @@ loop-preserved g c =
     part_more _ _ _ c.advance.new.lines _ _ _ _ _ _ c.if-not-branch.false c.in_ok-advance.ensures.advances (wrote_kept _ _ _ _ c.loop.invariant c.advance.ensures.kept) c.in_ok-run_or_crash.ensures
 
 pub returns : goal.returns
-returns g c = parts_between _ _ _ _ _ _ _ _ c.loop.invariant
+returns g c = parts_between _ _ _ _ _ _ _ c.loop.invariant

@@ -12,4 +12,4 @@ returns-in_err-lines g c = exit_unbegun _ _ _ _ c.from_residual.result c.in_err-
 pub returns-in_err-flush : goal.returns-in_err-flush
 returns-in_err-flush g c =
     exit_unflushed _ _ _ _ _ _ c.crashing_lines-ended.result c.from_residual-in_err-flush.result c.from_residual-in_err-flush.ensures
-    (subst (λ text. EndsAs c.crashing_lines-ended.result (λ _ printed. IsOfCrashes text c.args.world.now c.crashing_lines-ended.new.world printed) (λ _ printed. Between c.args.world.now c.crashing_lines-ended.new.world printed) _ _) (ap (λ (r : Reading). r.rest) c.in_ok-lines.ensures.new) c.crashing_lines-ended.ensures) c.flush.ensures.bytes
+    (subst (λ text. EndsAs c.crashing_lines-ended.result (λ _ printed. IsOfCrashes text c.args.world.now c.crashing_lines-ended.new.world printed) (λ _ printed. Between c.args.world.now c.crashing_lines-ended.new.world printed) (g.W.Write.contents c.args.writer.now) (g.W.Write.contents c.crashing_lines-ended.new.output)) (ap (λ (r : Reading). r.rest) c.in_ok-lines.ensures.new) c.crashing_lines-ended.ensures) c.flush.ensures.bytes
