@@ -31,7 +31,6 @@ use Rattle.lock_core.specs.Turns.{tried, acquired, released, closed_by}
 use Rattle.master_state.specs.declared.updates.Change.{Change}
 use Rattle.master_state.specs.declared.updates.LockPut.{LockPut}
 use Rattle.master_parts.specs.declared.handles.HandleNote.{HandleNote}
-use Rattle.master_parts.specs.declared.handles.HandleState.TheVariants as states
 use Rattle.master_parts.specs.Claims.{owner_of, claim_of}
 use Rattle.master_state.specs.NameSpace.{name_space, caller}
 use Rattle.master_state.specs.State.{MasterState}
@@ -41,7 +40,7 @@ use Rattle.master_parts.specs.Keys.{key_of}
 use Rattle.cell_core.specs.declared.effects.Effect.{Effect}
 use Rattle.cell_core.specs.declared.effects.Leave.{Leave}
 use Rattle.cell_core.specs.declared.effects.Locking.TheVariants as lockings
-use Rattle.cell_core.specs.Effect.{answered, refused, changes_to, is_last, new_node_fault, content_fault, lock_fault, opened_effect, new_node, acls_of, create_put, create_made, create_numbered, create_permitted, create_in, create_under, create_new, create_over, create_effect, create_tested, create_under_sequencer, open_effect, lock_put, lock_taken, acquired_by, acquire_by, try_by, release_by, close_by, close_under, generation_fits, with_content, with_acls, put_at, deleted, delete_at, change_at, change_on, effect_on, handle_effect, effect}
+use Rattle.cell_core.specs.Effect.{answered, closed_state, refused, changes_to, is_last, new_node_fault, content_fault, lock_fault, opened_effect, new_node, acls_of, create_put, create_made, create_numbered, create_permitted, create_in, create_under, create_new, create_over, create_effect, create_tested, create_under_sequencer, open_effect, lock_put, lock_taken, acquired_by, acquire_by, try_by, release_by, close_by, close_under, generation_fits, with_content, with_acls, put_at, deleted, delete_at, change_at, change_on, effect_on, handle_effect, effect}
 
 -- it ends with an answer, changes the map beside that, deletes a node with its lock, takes a lock, waits for it, or leaves it
 pub data Shape : Type 0 where
@@ -212,7 +211,7 @@ module _ (s : MasterState) where
       (by_option (node_of_handle (name_space s) handle) (λ node. change_at (name_space s) s.clock handle call node) (refused faults.StaleInstance) (of_node handle call) (of_fault faults.StaleInstance))
 
   of_call : (handle : Handle) (call : Call) (sequencer : Option (List ℕ)) → HasShape (effect_on (name_space s) s.clock handle call sequencer)
-  of_call handle (calls.Close bytes) sequencer = of_closed handle (Some (record { key = key_of handle; state = states.Closed })) (node_of_handle (name_space s) handle)
+  of_call handle (calls.Close bytes) sequencer = of_closed handle (Some (record { key = key_of handle; state = closed_state (name_space s) handle })) (node_of_handle (name_space s) handle)
   of_call handle call sequencer = of_application handle call (answer_on (name_space s) handle call sequencer)
 
   of_handle : (call : Call) (sequencer : Option (List ℕ)) (o : Option Handle) → HasShape (handle_effect (name_space s) s.clock call sequencer o)

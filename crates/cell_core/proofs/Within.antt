@@ -41,7 +41,6 @@ use Rattle.lock_core.specs.Locks.{lock_at, with_lock}
 use Rattle.lock_core.specs.Counted.{claims_in, claim_count}
 use Rattle.lock_core.proofs.ClaimTurns.{one_where, one_at_most, counted_lock, counted_gone, GrowsTo, GrowsAt, GrowsBy, GrowsIn, acquired_grows, tried_grows, Shrinks, ShrinksBy, ShrinksIn, released_shrinks, closed_shrinks}
 use Rattle.master_parts.specs.declared.handles.HandleNote.{HandleNote}
-use Rattle.master_parts.specs.declared.handles.HandleState.TheVariants as states
 use Rattle.master_parts.specs.Keys.{key_of}
 use Rattle.master_parts.specs.Claims.{owner_of, claim_of}
 use Rattle.master_parts.specs.Calls.{create_fault, bytes_of}
@@ -50,7 +49,7 @@ use Rattle.master_state.specs.State.{MasterState}
 use Rattle.master_state.specs.Lookups.{may, missing_right, is_of_cell, sequencer_fault, lock_under, node_of_handle, new_handle, open_present, plain_open, opened_answer, opened_note, answer_on}
 use Rattle.cell_core.specs.declared.effects.Effect.{Effect}
 use Rattle.cell_core.specs.declared.effects.Locking.TheVariants as lockings
-use Rattle.cell_core.specs.Effect.{answered, refused, changes_to, is_last, new_node_fault, content_fault, lock_fault, new_node, acls_of, unless, opened_effect, create_put, create_made, create_numbered, create_permitted, create_in, create_under, create_new, create_over, create_effect, create_under_sequencer, open_effect, lock_taken, acquired_by, acquire_by, try_by, release_by, close_by, close_under, generation_fits, with_content, with_acls, put_at, deleted, change_at, change_on, effect_on, handle_effect, effect}
+use Rattle.cell_core.specs.Effect.{answered, closed_state, refused, changes_to, is_last, new_node_fault, content_fault, lock_fault, new_node, acls_of, unless, opened_effect, create_put, create_made, create_numbered, create_permitted, create_in, create_under, create_new, create_over, create_effect, create_under_sequencer, open_effect, lock_taken, acquired_by, acquire_by, try_by, release_by, close_by, close_under, generation_fits, with_content, with_acls, put_at, deleted, change_at, change_on, effect_on, handle_effect, effect}
 use Rattle.cell_core.specs.Room.{IsWithin, KeepsWithin}
 
 -- ---- numbers
@@ -334,7 +333,7 @@ module _ (s : MasterState) (ordered : IsStrictlySortedBy (slice_cmp nat_cmp) (ke
       (λ node there. on_node handle call node (at_name handle node (get_node s.nodes handle.name) there)) (λ gone. refuses faults.StaleInstance))
 
   by_call : (handle : Handle) (call : Call) (sequencer : Option (List ℕ)) → Keeps (effect_on (name_space s) s.clock handle call sequencer)
-  by_call handle (calls.Close bytes) sequencer = closes handle (Some (record { key = key_of handle; state = states.Closed })) (node_of_handle (name_space s) handle)
+  by_call handle (calls.Close bytes) sequencer = closes handle (Some (record { key = key_of handle; state = closed_state (name_space s) handle })) (node_of_handle (name_space s) handle)
   by_call handle call sequencer = on_handle handle call (answer_on (name_space s) handle call sequencer)
 
   by_handle : (call : Call) (sequencer : Option (List ℕ)) (o : Option Handle) → Keeps (handle_effect (name_space s) s.clock call sequencer o)

@@ -45,6 +45,7 @@ use Rattle.node_core.specs.declared.kinds.Right.TheVariants as rights
 use Rattle.tags_cell.specs.declared.messages.calls.NewNode.TheVariants as made
 use Rattle.tags_cell.specs.declared.messages.calls.Call.TheVariants as calls
 use Rattle.tags_cell.specs.declared.messages.outs.CallResult.TheVariants as results
+use Rattle.master_parts.specs.declared.handles.HandleState.{HandleState}
 use Rattle.master_parts.specs.declared.handles.HandleState.TheVariants as states
 use Rattle.lock_core.specs.declared.turns.Acquired.TheVariants as asked
 
@@ -236,10 +237,14 @@ abbrev pub close_under : NameSpace → Handle → Option Node → Locking
 close_under space handle None = Nothing
 close_under space handle (Some node) = close_by space handle (closed_by (lock_under space handle) (owner_of handle))
 
+-- one that this epoch gave is forgotten: of no use unless it is noted as open
+abbrev pub closed_state : NameSpace → Handle → Option HandleState
+closed_state space handle = if handle.epoch == space.epoch then None else Some states.Closed
+
 -- a handle that is closed lets its lock go, or waits for it no longer
 abbrev pub close_at : NameSpace → Handle → Effect
 close_at space handle = record {
-  note = Some (record { key = key_of handle; state = states.Closed });
+  note = Some (record { key = key_of handle; state = closed_state space handle });
   change = None;
   locking = close_under space handle (node_of_handle space handle);
   answer = Some results.Closed;

@@ -9,7 +9,7 @@ ghost use Rattle.master_parts.specs.Calls.{bytes_of};
 
 use crate::asking::TouchedNames;
 use collections::Bytes;
-use master_parts::{HandleKey, HandleNote, OpenHandle, bytes_of, create_fault};
+use master_parts::{HandleKey, OpenHandle, OpenNote, bytes_of, create_fault};
 use master_state::Master;
 use names_cell::Name;
 use node_core::Fault;
@@ -20,7 +20,7 @@ use tags_cell::{Call, CallMessage, CallResult, ClientNumber, Handle, MessageNumb
 #[derive(Drop)]
 pub(crate) struct Admission {
     /// What is noted of a handle first.
-    pub note: Option<HandleNote>,
+    pub note: Option<OpenNote>,
     /// The names whose view the call may change, where it waits.
     pub touched: Option<TouchedNames>,
     /// The name of which the answer tells what it shows: the view of its node, or that there is none.
@@ -116,7 +116,7 @@ fn shown_note(
     master: &Master,
     handle: &Handle,
     bytes: &[u8],
-) -> Result<Option<HandleNote>, AllocError>
+) -> Result<Option<OpenNote>, AllocError>
     requires { read_handle master.now.secret bytes.now ≡ Some handle.now }
     ensures { IfOk result (λ note. note ≡ shown_note master.now handle.now bytes.now) }
 {

@@ -5,7 +5,7 @@ ghost use Rattle.master_state.specs.NameSpace.{name_space, caller};
 ghost use Rattle.cell_core.specs.Effect.{create_effect, create_over, create_new, create_in, create_permitted, create_numbered, create_made, create_put, new_node, kind_of, first_generation, content_of, acls_of};
 ghost use Rattle.master_state.specs.Lookups.{may};
 
-use crate::effects::{Effect, Locking, opened_effect};
+use crate::effects::{Effect, Locking, any_note, opened_effect};
 use crate::room::new_node_fault;
 use collections::Bytes;
 use master_state::{Change, Master};
@@ -162,7 +162,7 @@ fn create_put(
     let change = made_change(master, name, node);
     let (note, answer) = master.opened(Ok(handle))?;
     Ok(Effect {
-        note,
+        note: any_note(note),
         locking: Locking::Nothing,
         answer: Some(answer),
         change: Some(change),

@@ -8,7 +8,7 @@ use crate::locks::close_at;
 use crate::writes::change_on;
 use collections::{Bytes, Items};
 use lock_core::{Claim, Turn};
-use master_parts::{HandleNote, bytes_of, create_fault};
+use master_parts::{HandleNote, OpenNote, bytes_of, create_fault};
 use master_state::{Change, LockPut, Master};
 use names_cell::Name;
 use node_core::{Fault, Mod};
@@ -187,9 +187,19 @@ pub(crate) fn opened_effect(
 {
     let (note, answer) = master.opened(opened)?;
     Ok(Effect {
-        note,
+        note: any_note(note),
         change: None,
         locking: Locking::Nothing,
         answer: Some(answer),
     })
+}
+
+// The note of a handle that is open, among notes of any kind.
+pub(crate) fn any_note(note: Option<OpenNote>) -> Option<HandleNote>
+    ensures { result ≡ note }
+{
+    match note {
+        None => None,
+        Some(note) => Some(note.any()),
+    }
 }

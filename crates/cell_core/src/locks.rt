@@ -3,7 +3,7 @@ ghost use Rattle.std.specs.Prelude.{◌≡◌, Some, None, Ok, IfOk};
 ghost use Rattle.lock_core.specs.Locks.{lock_at};
 ghost use Rattle.master_state.specs.NameSpace.{name_space};
 ghost use Rattle.master_state.specs.Lookups.{node_of_handle};
-ghost use Rattle.cell_core.specs.Effect.{lock_put, lock_taken, lock_awaited, leaving_by, acquired_by, acquire_by, acquire_at, try_by, try_at, release_at, close_under, close_at, deleted, gone_by_itself};
+ghost use Rattle.cell_core.specs.Effect.{lock_put, lock_taken, lock_awaited, leaving_by, acquired_by, acquire_by, acquire_at, try_by, try_at, release_at, close_under, closed_state, close_at, deleted, gone_by_itself};
 
 use crate::effects::{Effect, Leave, Locking};
 use crate::room::lock_fault;
@@ -110,12 +110,23 @@ pub(crate) fn close_at(master: &Master, handle: &Handle) -> Result<Effect, Alloc
     Ok(Effect {
         note: Some(HandleNote {
             key: HandleKey::of(handle),
-            state: HandleState::Closed,
+            state: closed_state(master, handle),
         }),
         change: None,
         locking,
         answer: Some(CallResult::Closed),
     })
+}
+
+// One that this epoch gave is forgotten: it is of no use unless it is noted as open.
+fn closed_state(master: &Master, handle: &Handle) -> Option<HandleState>
+    ensures { result ≡ closed_state (name_space master.now) handle.now }
+{
+    if handle.epoch.get() == master.epoch() {
+        None
+    } else {
+        Some(HandleState::Closed)
+    }
 }
 
 fn close_by(master: &Master, handle: &Handle) -> Result<Locking, AllocError>

@@ -14,7 +14,9 @@ use crate::cells::MemoryMaster;
 use collections::Items;
 use gate_core::Pending;
 use lease_core::MOMENT_LIMIT;
-use master_parts::{HandleNote, Taken, Task, WaitingRequest, Work, answered_by, is_leave};
+use master_parts::{
+    HandleKey, HandleState, OpenNote, Taken, Task, WaitingRequest, Work, answered_by, is_leave,
+};
 use master_state::{Master, settle_note};
 use names_cell::Name;
 use node_core::Fault;
@@ -242,10 +244,10 @@ fn new_call<A: Answers>(master: &mut Master, message: &CallMessage) -> Result<A,
     }
 }
 
-// What is noted of the call's handle is taken back where memory is refused.
+// The call's handle is open from now on.
 fn admit_noted<A: Answers>(
     master: &mut Master,
-    note: HandleNote,
+    note: OpenNote,
     message: &CallMessage,
     touched: Option<TouchedNames>,
     told: Option<Name>,
@@ -255,7 +257,24 @@ fn admit_noted<A: Answers>(
     ensures ok { IfOk result (λ taken. admit_step (with_note master.old (Some note)) message.now touched told answer ≡ (master.new, A.answer taken)) }
     ensures err { OnErr result (master.new ≡ master.old) }
 {
-    let HandleNote { key, state } = note;
+    let (key, state) = note.parts();
+    admit_known(master, key, state, message, touched, told, answer)
+}
+
+// What is noted of it is taken back where memory is refused.
+fn admit_known<A: Answers>(
+    master: &mut Master,
+    key: HandleKey,
+    state: HandleState,
+    message: &CallMessage,
+    touched: Option<TouchedNames>,
+    told: Option<Name>,
+    answer: Option<CallResult>,
+) -> Result<A, AllocError>
+    requires { is_spent master.old ≡ false }
+    ensures ok { IfOk result (λ taken. admit_step (with_note master.old (Some (record { key = key; state = Some state }))) message.now touched told answer ≡ (master.new, A.answer taken)) }
+    ensures err { OnErr result (master.new ≡ master.old) }
+{
     let former = master.tables.put_handle(key, state)?;
     match admit(master, message, touched, told, answer) {
         Ok(taken) => {

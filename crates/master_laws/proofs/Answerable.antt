@@ -36,6 +36,7 @@ use Rattle.session_core.specs.Laws.{issued_at}
 use Rattle.session_core.proofs.OneClient.{own_session, other_session, lookup_put, lookup_put_apart}
 use Rattle.session_core.proofs.IssuedBy.{issued_to_each}
 use Rattle.session_core.proofs.Keys.{same_key}
+use Rattle.master_parts.specs.OpenHandles.{without_client}
 use Rattle.master_parts.specs.declared.pending.Task.{Task}
 use Rattle.master_state.specs.State.{MasterState}
 use Rattle.master_state.specs.Lookups.{acknowledgement}
@@ -345,9 +346,9 @@ none_left : {P : Type 0} (own covered : Bool) → own ≡ true → covered ≡ t
 none_left own covered h k n = absurd (let both : (own && covered) ≡ true = rw (h, k) refl in cc)
 
 pub ended_answerable : (cell : List ℕ) (rows : Rows) (s : MasterState) (client : ℕ) (ending : Ending) → (ending ≡ endings.Expiry) ⊎ (ending ≡ endings.Leave) → IsKept cell rows s → IsAnswerable [] s
-    → IsAnswerable [] (record s { sessions = with_session s.sessions client of_session.ended; rights = ended client ending s.rights })
+    → IsAnswerable [] (record s { handles = without_client s.handles client; sessions = with_session s.sessions client of_session.ended; rights = ended client ending s.rights })
 ended_answerable cell rows s client ending all k h =
-    let new : MasterState = record s { sessions = with_session s.sessions client of_session.ended; rights = ended client ending s.rights } in
+    let new : MasterState = record s { handles = without_client s.handles client; sessions = with_session s.sessions client of_session.ended; rights = ended client ending s.rights } in
     let tallies : (q : ℕ) → tally_of new q ≡ tally_of s q = λ q. reads_step tally_in s.sessions client of_session.ended (λ before. refl) q in
     record {
       live = λ other name held.

@@ -1,6 +1,8 @@
 -- A call that shows a closed handle is refused, and changes nothing else.
-use Rattle.std.proofs.Common.{◌≡◌, ℕ, List, Bool, true, false, Option, Some, None, refl, ap, ◌∙◌, ⊎_elim}
-use Rattle.std.specs.Prelude.{◌&&◌, ◌==◌}
+use Rattle.std.proofs.Common.{◌≡◌, ℕ, List, Bool, true, false, Option, Some, None, refl, sym, ap, ◌∙◌, ⊎_elim, arith}
+use Rattle.std.specs.Prelude.{◌&&◌, ◌==◌, not, nat_lt}
+use Rattle.std.proofs.lemmas.Bool.{and_parts}
+use Rattle.std.proofs.lemmas.Bool.Decides.{nat_tests}
 use Rattle.std.specs.Option.{option_map_or}
 use Rattle.node_core.specs.declared.refusals.Fault.TheVariants as faults
 use Rattle.tags_cell.specs.Handles.{read_handle}
@@ -10,13 +12,15 @@ use Rattle.tags_cell.specs.declared.handles.Handle.{Handle}
 use Rattle.tags_cell.specs.declared.messages.outs.CallResult.{CallResult}
 use Rattle.tags_cell.specs.declared.messages.outs.CallResult.TheVariants as results
 use Rattle.tags_cell.specs.declared.messages.requests.CallMessage.{CallMessage}
+use Rattle.master_parts.specs.declared.handles.HandleState.{HandleState}
+use Rattle.master_parts.specs.declared.handles.HandleState.TheVariants as states
 use Rattle.master_parts.specs.declared.pending.Taken.{Taken}
 use Rattle.master_state.specs.State.{MasterState}
 use Rattle.master_state.specs.Lookups.{handle_state_of, is_usable, own_handle, shown_handle, noted}
 use Rattle.master_parts.specs.Keys.{key_of}
 use Rattle.cell_core.specs.Step.{answering, handle_admission, admission_of, admission_for, replied}
 use Rattle.master_state.specs.Updates.{with_note}
-use Rattle.master_laws.specs.Closed.{IsClosed, shown_bytes, ClosedHandleIsRefused}
+use Rattle.master_laws.specs.Closed.{is_closed, IsClosed, shown_bytes, ClosedHandleIsRefused}
 use Rattle.master_laws.proofs.NewCalls.{NewCase, new_by, IsNewCase, new_case}
 use Rattle.master_laws.proofs.NewCalls.NewCase.{Recovers, Answers, Grants, Queues}
 
@@ -48,13 +52,22 @@ both_fail : (b c : Bool) → c ≡ false → (b && c) ≡ false
 both_fail true c h = h
 both_fail false c h = refl
 
-unusable : (s : MasterState) (handle : Handle) → IsClosed s (key_of handle) → is_usable s handle (handle_state_of s (key_of handle)) ≡ false
-unusable s handle closed = rw closed refl
+turned : (b : Bool) → not b ≡ true → b ≡ false
+turned true h = sym h
+turned false h = refl
 
-none_shown : (s : MasterState) (client : ℕ) (bytes : List ℕ) (handle : Handle) → read_handle s.secret bytes ≡ Some handle → IsClosed s (key_of handle) → shown_handle s client bytes ≡ None
+not_below : (n m : ℕ) → (n == m) ≡ true → nat_lt n m ≡ false
+not_below n m h = grind (arith, nat_tests)
+
+unusable : (s : MasterState) (handle : Handle) (o : Option HandleState) → is_closed s.epoch handle o ≡ true → is_usable s handle o ≡ false
+unusable s handle (Some (states.Open noted)) h = turned (handle.epoch == noted.handle.epoch) (and_parts (handle.epoch == s.epoch) (not (handle.epoch == noted.handle.epoch)) h).1
+unusable s handle (Some states.Closed) h = refl
+unusable s handle None h = not_below handle.epoch s.epoch h
+
+none_shown : (s : MasterState) (client : ℕ) (bytes : List ℕ) (handle : Handle) → read_handle s.secret bytes ≡ Some handle → IsClosed s handle → shown_handle s client bytes ≡ None
 none_shown s client bytes handle reads closed =
     ap (λ o. option_map_or (λ h. own_handle s client h) o None) reads
-    ∙ rw (both_fail (handle.client == client) (is_usable s handle (handle_state_of s (key_of handle))) (unusable s handle closed)) refl
+    ∙ rw (both_fail (handle.client == client) (is_usable s handle (handle_state_of s (key_of handle))) (unusable s handle (handle_state_of s (key_of handle)) closed)) refl
 
 same_value : {X : Type 0} {x y : X} → Some x ≡ Some y → x ≡ y
 same_value h = cc

@@ -1,6 +1,7 @@
 -- When a Close has its turn its handle is closed.
-use Rattle.std.proofs.Common.{◌≡◌, ℕ, List, [], ◌∷◌, Option, Some, Ok, refl, sym, ap, subst, ◌∙◌}
-use Rattle.std.specs.Prelude.{Contains}
+use Rattle.std.proofs.Common.{◌≡◌, ℕ, List, [], ◌∷◌, Bool, true, false, cond, Option, Some, None, Ok, refl, sym, ap, subst, ◌∙◌}
+use Rattle.std.specs.Prelude.{◌==◌, Contains}
+use Rattle.std.specs.Ordering.{is_eq}
 use Rattle.std.specs.Map.{lookup}
 use Rattle.std.specs.BTreeMap.{is_at, insert_entry}
 use Rattle.std.proofs.lemmas.List.Elements.{Contains-push, Contains-append_left}
@@ -13,6 +14,7 @@ use Rattle.tags_cell.specs.declared.messages.outs.Out.{Out}
 use Rattle.tags_cell.specs.declared.messages.outs.Out.TheVariants as outs
 use Rattle.tags_cell.specs.declared.messages.outs.Reply.{Reply}
 use Rattle.master_parts.specs.Keys.{handle_order}
+use Rattle.master_parts.specs.OpenHandles.{is_shut, with_state}
 use Rattle.master_parts.specs.declared.handles.HandleKey.{HandleKey}
 use Rattle.master_parts.specs.declared.handles.HandleState.{HandleState}
 use Rattle.master_parts.specs.declared.handles.HandleState.TheVariants as states
@@ -20,19 +22,32 @@ use Rattle.master_parts.specs.declared.pending.WaitingRequest.{WaitingRequest}
 use Rattle.master_state.specs.NameSpace.{name_space, caller}
 use Rattle.master_state.specs.State.{MasterState}
 use Rattle.master_parts.specs.Keys.{key_of}
-use Rattle.master_state.specs.Lookups.{noted, reply_of}
+use Rattle.master_state.specs.Lookups.{handle_state_of, noted, reply_of}
 use Rattle.master_parts.proofs.PlacedHandles.{exact_handle, same_handle}
 use Rattle.over_core.specs.declared.plans.Plan.{Plan}
 use Rattle.over_core.specs.declared.swept.Swept.{Swept}
-use Rattle.cell_core.specs.Effect.{close_at, handle_effect, effect}
+use Rattle.cell_core.specs.Effect.{closed_state, close_at, handle_effect, effect}
 use Rattle.master_state.specs.Replies.{sent}
 use Rattle.cell_core.specs.Outcomes.{locking_replies}
 use Rattle.over_core.specs.Sweep.{sweep_step}
 use Rattle.master_laws.specs.Steps.{IsBeingApplied}
-use Rattle.master_laws.specs.Closed.{CloseCloses}
-use Rattle.master_laws.proofs.AfterSweeps.{done_handles}
+use Rattle.master_laws.specs.Closed.{is_closed, CloseCloses}
+use Rattle.master_laws.proofs.AfterSweeps.{done_handles, done_epoch}
+use Rattle.master_laws.proofs.ClosedNotes.{stated, known_then, is_shut_closed}
 use Rattle.over_core.proofs.SweepCases.{does_first}
 use Rattle.master_laws.proofs.Applications.{plan_for, done_as, done_so}
+
+-- a handle that a Close closes is closed, whatever was known of it
+closed_now : (epoch : ℕ) (handle : Handle) (shut : Bool) (known : Option HandleState) → shut ≡ is_shut known → is_closed epoch handle (stated shut true (cond (handle.epoch == epoch) None (Some states.Closed)) known) ≡ true
+closed_now epoch handle shut known same =
+    (elim (handle.epoch == epoch) as (λ b. (handle.epoch == epoch) ≡ b → is_closed epoch handle (stated shut true (cond b None (Some states.Closed)) known) ≡ true) [
+      | true ↦ (λ own.
+          (elim shut as (λ b. b ≡ is_shut known → is_closed epoch handle (cond b known None) ≡ true) [
+            | true ↦ (λ h. is_shut_closed epoch handle known (sym h))
+            | false ↦ (λ h. own)
+          ]) same)
+      | false ↦ (λ own. refl)
+    ]) refl
 
 -- what is noted of a handle is what is known of it
 pub known_note : (s : MasterState) (key : HandleKey) (state : HandleState) → lookup (is_at (handle_order key)) (insert_entry handle_order s.handles key state) ≡ Some state
@@ -60,9 +75,16 @@ pub close_closes : CloseCloses
 close_closes s new now number told asked bytes sequencer handle h turn reads =
     let there : MasterState = noted s now in
     let is = closed_so s new now number told asked bytes sequencer handle h turn reads in
+    let plan : Plan = close_plan there number asked bytes handle in
+    let key : HandleKey = key_of handle in
+    let epoch : new.epoch ≡ s.epoch = ap (λ p. p.0.epoch) is ∙ done_epoch there plan.update in
+    let handles : new.handles ≡ with_state s.handles key (closed_state (name_space there) handle) = ap (λ p. p.0.handles) is ∙ done_handles there plan.update in
+    let known : handle_state_of new key ≡ stated (is_shut (handle_state_of s key)) true (closed_state (name_space there) handle) (handle_state_of s key) =
+    ap (λ entries. lookup (is_at (handle_order key)) entries) handles ∙ known_then s.handles key key (closed_state (name_space there) handle)
+    ∙ ap (λ b. stated (is_shut (handle_state_of s key)) b (closed_state (name_space there) handle) (handle_state_of s key)) (ap is_eq (same_handle key)) in
     let own : Reply = reply_of s asked.client asked.number results.Closed in (
-      ap (λ p. lookup (is_at (handle_order (key_of handle))) p.0.handles) is
-          ∙ ap (λ entries. lookup (is_at (handle_order (key_of handle))) entries) (done_handles there (close_plan there number asked bytes handle).update)
-          ∙ known_note there (key_of handle) states.Closed,
+      ap (λ e. is_closed e handle (handle_state_of new key)) epoch
+          ∙ ap (is_closed s.epoch handle) known
+          ∙ closed_now s.epoch handle (is_shut (handle_state_of s key)) (handle_state_of s key) refl,
       subst (λ p. Contains p.1.outs (outs.Reply own)) (sym is) (has_first (outs.Reply own) (sent (locking_replies there (close_at (name_space there) handle).locking))),
     )

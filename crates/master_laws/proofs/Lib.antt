@@ -1,4 +1,5 @@
 mod AfterSweeps
+mod EndedHandles
 mod Answered
 mod ClosedByMessages
 mod ClosedBySweeps

@@ -1,6 +1,6 @@
 -- A call that is refused when its turn comes does nothing else; and what it notes of a handle otherwise.
 use Rattle.std.proofs.Common.{◌≡◌, ℕ, List, Bool, true, false, cond, Option, Some, None, Result, Ok, Err, refl, ap}
-use Rattle.std.specs.Prelude.{◌||◌, is_none}
+use Rattle.std.specs.Prelude.{◌||◌, ◌==◌, is_none}
 use Rattle.std.specs.Option.{option_map_or}
 use Rattle.names_cell.specs.Text.{parent_of}
 use Rattle.node_core.specs.declared.refusals.Fault.{Fault}
@@ -38,9 +38,9 @@ use Rattle.master_parts.specs.Keys.{key_of}
 use Rattle.master_parts.specs.Notes.{open_note}
 use Rattle.cell_core.specs.declared.effects.Effect.{Effect}
 use Rattle.cell_core.specs.declared.effects.Locking.{Locking}
-use Rattle.cell_core.specs.Effect.{answered, refused, changes_to, is_last, new_node_fault, content_fault, lock_fault, unless, opened_effect, new_node, acls_of, create_put, create_made, create_numbered, create_permitted, create_in, create_under, create_new, create_over, create_effect, create_tested, create_under_sequencer, open_effect, lock_taken, acquired_by, acquire_by, try_by, release_by, close_under, generation_fits, with_content, with_acls, put_at, deleted, delete_at, change_at, change_on, effect_on, handle_effect, effect}
+use Rattle.cell_core.specs.Effect.{answered, closed_state, refused, changes_to, is_last, new_node_fault, content_fault, lock_fault, unless, opened_effect, new_node, acls_of, create_put, create_made, create_numbered, create_permitted, create_in, create_under, create_new, create_over, create_effect, create_tested, create_under_sequencer, open_effect, lock_taken, acquired_by, acquire_by, try_by, release_by, close_under, generation_fits, with_content, with_acls, put_at, deleted, delete_at, change_at, change_on, effect_on, handle_effect, effect}
 use Rattle.master_laws.proofs.OpenedKeys.{IsOfCall, new_key, present_key, plain_key}
-use Rattle.master_laws.proofs.ClosedNotes.{AreFair, closes, is_by_open, none_fair, one_fair}
+use Rattle.master_laws.proofs.ClosedNotes.{AreFair, is_closing, closes, is_by_open, none_fair, one_fair}
 
 -- a refusal comes alone, and what is noted of a handle is fair
 pub record IsTame (s : MasterState) (client number : ℕ) (call : Call) (effected : Effect) : Type 0 where
@@ -89,10 +89,15 @@ module _ (s : MasterState) (client number : ℕ) (call : Call) where
   of_released handle (Ok turn) = record { refuses = λ fault h. absurd cc; notes = none_fair s client number call }
   of_released handle (Err fault) = of_fault fault
 
-  of_closed : (handle : Handle) (locking : Locking) → Tame (record { note = Some (record { key = key_of handle; state = states.Closed }); change = None; locking = locking; answer = Some results.Closed })
+  is_closed_state : (handle : Handle) → is_closing (closed_state (name_space s) handle) ≡ true
+  is_closed_state handle = elim (handle.epoch == s.epoch) as (λ b. is_closing (cond b None (Some states.Closed)) ≡ true) [ true ↦ refl | false ↦ refl ]
+
+  of_closed : (handle : Handle) (locking : Locking) → Tame (record { note = Some (record { key = key_of handle; state = closed_state (name_space s) handle }); change = None; locking = locking; answer = Some results.Closed })
   of_closed handle locking = record {
     refuses = λ fault h. absurd cc;
-    notes = one_fair s client number call (record { key = key_of handle; state = states.Closed }) (closes s client number call (record { key = key_of handle; state = states.Closed }) refl);
+    notes =
+        one_fair s client number call (record { key = key_of handle; state = closed_state (name_space s) handle })
+        (closes s client number call (record { key = key_of handle; state = closed_state (name_space s) handle }) (is_closed_state handle));
   }
 
   -- ---- a change of a node that stands

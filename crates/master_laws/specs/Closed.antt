@@ -1,5 +1,5 @@
 -- A handle that was closed.
-use Rattle.std.specs.Prelude.{◌≡◌, ℕ, Bool, false, List, fold, Contains, Option, Some, None, Result, Ok, Err}
+use Rattle.std.specs.Prelude.{◌≡◌, ℕ, Bool, true, false, not, ◌&&◌, ◌==◌, List, fold, Contains, Option, Some, None, Result, Ok, Err}
 use Rattle.std.specs.List.{list_any}
 use Rattle.node_core.specs.declared.refusals.Fault.{Fault}
 use Rattle.node_core.specs.declared.refusals.Fault.TheVariants as faults
@@ -14,6 +14,7 @@ use Rattle.tags_cell.specs.declared.messages.requests.CallMessage.{CallMessage}
 use Rattle.tags_cell.specs.declared.messages.requests.Request.{Request}
 use Rattle.tags_cell.specs.declared.messages.requests.Request.TheVariants as requests
 use Rattle.master_parts.specs.declared.handles.HandleKey.{HandleKey}
+use Rattle.master_parts.specs.declared.handles.HandleState.{HandleState}
 use Rattle.master_parts.specs.declared.handles.HandleState.TheVariants as states
 use Rattle.master_parts.specs.declared.pending.WaitingRequest.{WaitingRequest}
 use Rattle.master_parts.specs.declared.pending.Taken.{Taken}
@@ -32,9 +33,15 @@ use Rattle.over_core.specs.Kept.{IsKept}
 use Rattle.over_core.specs.Sweep.{sweep_step, beats_step}
 use Rattle.master_laws.specs.Steps.{TakesCall, IsBeingApplied}
 
--- the handle with this key was closed in the master's epoch
-abbrev pub IsClosed : MasterState → HandleKey → Type 0
-IsClosed s key = handle_state_of s key ≡ Some states.Closed
+-- in this epoch a handle is closed that is known so: it is noted as closed; or the epoch gave it, and it isn't noted as open
+abbrev pub is_closed : ℕ → Handle → Option HandleState → Bool
+is_closed epoch handle (Some (states.Open noted)) = handle.epoch == epoch && not (handle.epoch == noted.handle.epoch)
+is_closed epoch handle (Some states.Closed) = true
+is_closed epoch handle None = handle.epoch == epoch
+
+-- the handle was closed in the master's epoch
+abbrev pub IsClosed : MasterState → Handle → Type 0
+IsClosed s handle = is_closed s.epoch handle (handle_state_of s (key_of handle)) ≡ true
 
 -- when a Close has its turn its handle is closed, and it is answered so
 abbrev pub CloseCloses : Type 0
@@ -42,7 +49,7 @@ CloseCloses =
     (s new : MasterState) (now number : ℕ) (told : Swept) (asked : WaitingRequest) (bytes : List ℕ) (sequencer : Option (List ℕ)) (handle : Handle) → sweep_step s now ≡ Ok (new, told)
     → IsBeingApplied (noted s now) number asked (calls.Close bytes) sequencer
     → read_handle s.secret bytes ≡ Some handle
-    → IsClosed new (key_of handle) × Contains told.outs (outs.Reply (reply_of s asked.client asked.number results.Closed))
+    → IsClosed new handle × Contains told.outs (outs.Reply (reply_of s asked.client asked.number results.Closed))
 
 -- ---- calls by it
 
@@ -62,7 +69,7 @@ pub record IsShown (secret : List ℕ) (call : Call) (handle : Handle) : Type 0 
 -- a new call that shows a closed handle is refused as BadHandle, and changes nothing but what is kept of the call
 abbrev pub ClosedHandleIsRefused : Type 0
 ClosedHandleIsRefused =
-    (s new : MasterState) (now : ℕ) (message : CallMessage) (handle : Handle) (taken : Taken) → TakesCall s now message new taken → IsShown s.secret message.call handle → IsClosed s (key_of handle)
+    (s new : MasterState) (now : ℕ) (message : CallMessage) (handle : Handle) (taken : Taken) → TakesCall s now message new taken → IsShown s.secret message.call handle → IsClosed s handle
     → (new, taken) ≡ replied (noted s now) message.client message.number (results.Refused faults.BadHandle)
 
 -- ---- no way back
@@ -90,25 +97,25 @@ abbrev pub waits_to_open : HandleKey → MasterState → Bool
 waits_to_open key s = list_any (λ w. task_opens key w.change.body) s.gate.waiting
 
 -- a handle was closed, and the Open that gives it doesn't wait to be done once more
-pub record IsClosedForGood (s : MasterState) (key : HandleKey) : Type 0 where
-  pub closed : IsClosed s key
-  pub unasked : waits_to_open key s ≡ false
+pub record IsClosedForGood (s : MasterState) (handle : Handle) : Type 0 where
+  pub closed : IsClosed s handle
+  pub unasked : waits_to_open (key_of handle) s ≡ false
 
 -- a handle that was closed stays closed by each message but the Open that gives it
 abbrev pub ClosedHandleStaysClosed : Type 0
 ClosedHandleStaysClosed =
-    (s new : MasterState) (now : ℕ) (request : Request) (key : HandleKey) (taken : Taken) → take_step s now request ≡ Ok (new, taken) → asks_to_open key request ≡ false → IsClosed s key
-    → IsClosed new key
+    (s new : MasterState) (now : ℕ) (request : Request) (handle : Handle) (taken : Taken) → take_step s now request ≡ Ok (new, taken) → asks_to_open (key_of handle) request ≡ false → IsClosed s handle
+    → IsClosed new handle
 
 -- one that was closed for good stays so by each message but that Open ..
 abbrev pub ClosedForGoodByMessages : Type 0
 ClosedForGoodByMessages =
-    (s new : MasterState) (now : ℕ) (request : Request) (key : HandleKey) (taken : Taken) → take_step s now request ≡ Ok (new, taken) → asks_to_open key request ≡ false → IsClosedForGood s key
-    → IsClosedForGood new key
+    (s new : MasterState) (now : ℕ) (request : Request) (handle : Handle) (taken : Taken) → take_step s now request ≡ Ok (new, taken) → asks_to_open (key_of handle) request ≡ false → IsClosedForGood s handle
+    → IsClosedForGood new handle
 
 -- .. and by each sweep
 abbrev pub ClosedForGoodBySweeps : Type 0
-ClosedForGoodBySweeps = (s new : MasterState) (now : ℕ) (key : HandleKey) (told : Swept) → sweep_step s now ≡ Ok (new, told) → IsClosedForGood s key → IsClosedForGood new key
+ClosedForGoodBySweeps = (s new : MasterState) (now : ℕ) (handle : Handle) (told : Swept) → sweep_step s now ≡ Ok (new, told) → IsClosedForGood s handle → IsClosedForGood new handle
 
 -- ---- over many steps
 
@@ -136,7 +143,7 @@ step_opens key (Beats now) = false
 -- a handle that was closed for good is closed for good after every list of steps, of which none is the Open that gave it
 abbrev pub ClosedForGoodForever : Type 0
 ClosedForGoodForever =
-    (s : MasterState) (steps : List MasterStep) (key : HandleKey) → IsClosedForGood s key → list_any (step_opens key) steps ≡ false → IsClosedForGood (fold master_behind s steps) key
+    (s : MasterState) (steps : List MasterStep) (handle : Handle) → IsClosedForGood s handle → list_any (step_opens (key_of handle)) steps ≡ false → IsClosedForGood (fold master_behind s steps) handle
 
 -- ---- where it begins
 
@@ -147,4 +154,4 @@ CloseClosesForGood =
     → sweep_step s now ≡ Ok (new, told)
     → IsBeingApplied (noted s now) number asked (calls.Close bytes) sequencer
     → read_handle s.secret bytes ≡ Some handle
-    → IsClosedForGood new (key_of handle)
+    → IsClosedForGood new handle

@@ -116,7 +116,7 @@ from_one n le =
 next_greater : (n : ℕ) → nat_cmp (n + 1) n ≡ Greater
 next_greater n = grind (arith, nat_tests)
 
-on_client : (client number : ℕ) → 1 ≤ number → range_contains handle_order (Included (Key client 1)) (Excluded (Key (client + 1) 1)) (Key client number) ≡ true
+pub on_client : (client number : ℕ) → 1 ≤ number → range_contains handle_order (Included (Key client 1)) (Excluded (Key (client + 1) 1)) (Key client number) ≡ true
 on_client client number le = rw (tied_itself nat_cmp_total client, next_greater client, from_one number le) refl
 
 pub of_client : (handles : Handles) (client next : ℕ) (first end key : HandleKey) (state : HandleState) → IsStrictlySortedBy handle_order (keys_of handles) → first ≡ Key client 1 → end ≡ Key next 1 → next ≡ client + 1 → key.client ≡ client → 1 ≤ key.number → state_at handles key ≡ Some state → state_at (entries_between handle_order (Included first) (Excluded end) handles) key ≡ Some state

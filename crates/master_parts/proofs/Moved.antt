@@ -34,10 +34,12 @@ use Rattle.master_parts.specs.declared.pending.Task.{Task}
 use Rattle.master_parts.specs.declared.pending.Task.TheVariants.{Asked, Tidies}
 use Rattle.master_parts.specs.Handles.{NotedHandle}
 use Rattle.master_parts.specs.Keys.{handle_order}
-use Rattle.master_parts.specs.OpenHandles.{is_open_in, state_at}
+use Rattle.master_parts.specs.OpenHandles.{is_open_in, state_at, is_shut, forgotten, without_client}
 use Rattle.master_parts.specs.EphemeralNames.{is_ephemeral}
 use Rattle.master_parts.proofs.Found.{first_of_both, same_key, any_found, found_any}
 use Rattle.master_parts.proofs.PlacedHandles.{exact_handle, handle_total, same_handle}
+use Rattle.master_parts.proofs.Forgotten.{lookup_forgotten}
+use Rattle.master_parts.proofs.Parted.{other_kept, was_known}
 use Rattle.master_parts.specs.State.{TableState}
 use Rattle.master_parts.specs.Ephemerals.{is_held_open, must_stay, has_its_turn, tidies, goes}
 use Rattle.master_parts.specs.Candidates.{CandidateState, Has, Leads, HaveToGo, AreFound, HaveNumbers, AreCandidates, instance_open, instance_of_task, instance_tidied}
@@ -320,21 +322,67 @@ module _ (nodes : Nodes) (sessions : Sessions) (queue : Queue) where
         numbered = numbers old key former sorted number h.numbered;
       })
 
+  -- a handle is forgotten: whoever was to go, or held open by it alone, is looked at
+  forget_handle : (old : Handles) (c d : CandidateState) (key : HandleKey) → IsStrictlySortedBy handle_order (keys_of old) → ((i : ℕ) (q : List ℕ) → instance_open (state_at old key) ≡ Some i → Leads c i q → Has d q) → ((i : ℕ) (q : List ℕ) → Leads c i q → Leads d i q) → ((q : List ℕ) → Has c q → Has d q) → AreCandidates (State nodes old sessions queue) c → AreCandidates (State nodes (forgotten old key) sessions queue) d
+  forget_handle old c d key sorted own leads kept h =
+      let new : Handles = forgotten old key in
+      let opens : ℕ → HandleKey × HandleState → Bool = λ i e. is_open_in sessions i e.0 e.1 in
+      record {
+        to_go = λ q w there is.
+            let closed : is_held_open (State nodes new sessions queue) w.instance ≡ false = is_closed (State nodes new sessions queue) q w is in
+            let short : is_ephemeral w.life ≡ true = is_short_lived (State nodes new sessions queue) q w is in
+            (elim (list_any (opens w.instance) old) as (λ b. list_any (opens w.instance) old ≡ b → Has d q) [
+              | true ↦ (λ t.
+                  let one = found_any handle_order handle_total exact_handle (opens w.instance) old sorted t in
+                  (elim (is_at (handle_order one.0) key) as (λ b. is_at (handle_order one.0) key ≡ b → state_at new one.0 ≡ cond (is_shut (state_at old key)) (state_at old one.0) (cond b None (state_at old one.0)) → Has d q) [
+                    | true ↦ (λ e k.
+                        let P : HandleKey → Type 0 = λ x. state_at old x ≡ Some one.1 in
+                        let mine : state_at old key ≡ Some one.1 = subst P (same_key handle_order exact_handle one.0 key e) one.2 in
+                        own w.instance q (ap instance_open mine ∙ (opened sessions w.instance one.0 one.1 one.3).0) (h.found q w there short))
+                    | false ↦ (λ e k.
+                        let same : state_at new one.0 ≡ state_at old one.0 = k ∙ either_one (is_shut (state_at old key)) (state_at old one.0) in
+                        let still : list_any (opens w.instance) new ≡ true = any_found handle_order handle_total exact_handle (opens w.instance) new one.0 one.1 (same ∙ one.2) one.3 in
+                        absurd (cc))
+                  ]) refl (lookup_forgotten old key one.0))
+              | false ↦ (λ t.
+                  let held : is_held_open (State nodes old sessions queue) w.instance ≡ true → is_held_open (State nodes new sessions queue) w.instance ≡ true = λ k. absurd (cc) in
+                  kept q (h.to_go q w there (went (State nodes old sessions queue) (State nodes new sessions queue) q w held (λ x. x) (λ x. x) is)))
+            ]) refl;
+        found = λ q w there short. leads w.instance q (h.found q w there short);
+        numbered = λ k s there. h.numbered k s (was_there (is_shut (state_at old key)) (is_at (handle_order k) key) (state_at old k) s (sym (lookup_forgotten old key k) ∙ there));
+      }
+    where
+      either_one : {X : Type 0} (b : Bool) (x : X) → cond b x x ≡ x
+      either_one true x = refl
+      either_one false x = refl
+
+      was_there : (a b : Bool) (o : Option HandleState) (s : HandleState) → cond a o (cond b None o) ≡ Some s → o ≡ Some s
+      was_there true b o s k = k
+      was_there false true o s k = absurd (cc)
+      was_there false false o s k = k
+
+  pub by_forget : (old new : Handles) (c d : CandidateState) (key : HandleKey) → IsStrictlySortedBy handle_order (keys_of old) → new ≡ forgotten old key → ((i : ℕ) (q : List ℕ) → instance_open (state_at old key) ≡ Some i → Leads c i q → Has d q) → ((i : ℕ) (q : List ℕ) → Leads c i q → Leads d i q) → ((q : List ℕ) → Has c q → Has d q) → AreCandidates (State nodes old sessions queue) c → AreCandidates (State nodes new sessions queue) d
+  by_forget old new c d key sorted e own leads kept h =
+      let P : Handles → Type 0 = λ hs. AreCandidates (State nodes hs sessions queue) d in
+      subst P (sym e) (forget_handle old c d key sorted own leads kept h)
+
   pub by_settle : (old new : Handles) (c : CandidateState) → new ≡ old → AreCandidates (State nodes old sessions queue) c → AreCandidates (State nodes new sessions queue) c
   by_settle old new c e h = let P : Handles → Type 0 = λ hs. AreCandidates (State nodes hs sessions queue) c in subst P (sym e) h
 
 -- ---- the end of a session
 
-pub by_end : (nodes : Nodes) (handles : Handles) (queue : Queue) (old new : Sessions) (c d : CandidateState) (client : ℕ) → IsStrictlySortedBy handle_order (keys_of handles) → new ≡ with_session old client ended → ((key : HandleKey) (noted : NotedHandle) (q : List ℕ) → state_at handles key ≡ Some (Open noted) → key.client ≡ client → Leads c noted.handle.instance q → Has d q) → ((i : ℕ) (q : List ℕ) → Leads c i q → Leads d i q) → ((q : List ℕ) → Has c q → Has d q) → AreCandidates (State nodes handles old queue) c → AreCandidates (State nodes handles new queue) d
-by_end nodes handles queue old new c d client sorted e own leads kept h =
-    let P : Sessions → Type 0 = λ s. AreCandidates (State nodes handles s queue) d in
+pub by_end : (nodes : Nodes) (handles after : Handles) (queue : Queue) (old new : Sessions) (c d : CandidateState) (client : ℕ) → IsStrictlySortedBy handle_order (keys_of handles) → after ≡ without_client handles client → new ≡ with_session old client ended → ((key : HandleKey) (noted : NotedHandle) (q : List ℕ) → state_at handles key ≡ Some (Open noted) → key.client ≡ client → Leads c noted.handle.instance q → Has d q) → ((i : ℕ) (q : List ℕ) → Leads c i q → Leads d i q) → ((q : List ℕ) → Has c q → Has d q) → AreCandidates (State nodes handles old queue) c → AreCandidates (State nodes after new queue) d
+by_end nodes handles after queue old new c d client sorted less e own leads kept h =
+    let P : Sessions → Type 0 = λ s. AreCandidates (State nodes after s queue) d in
+    let fewer : Handles = without_client handles client in
+    let R : Handles → Type 0 = λ hs. AreCandidates (State nodes hs (with_session old client ended) queue) d in
     let left : Sessions = with_session old client ended in
     let was : ℕ → HandleKey × HandleState → Bool = λ i x. is_open_in old i x.0 x.1 in
     let still : ℕ → HandleKey × HandleState → Bool = λ i x. is_open_in left i x.0 x.1 in
-    subst P (sym e) (record {
+    subst P (sym e) (subst R (sym less) (record {
       to_go = λ q w there is.
-          let closed : list_any (still w.instance) handles ≡ false = is_closed (State nodes handles left queue) q w is in
-          let short : is_ephemeral w.life ≡ true = is_short_lived (State nodes handles left queue) q w is in
+          let closed : list_any (still w.instance) fewer ≡ false = is_closed (State nodes fewer left queue) q w is in
+          let short : is_ephemeral w.life ≡ true = is_short_lived (State nodes fewer left queue) q w is in
           (elim (list_any (was w.instance) handles) as (λ b. list_any (was w.instance) handles ≡ b → Has d q) [
             | true ↦ (λ t.
                 let one = found_any handle_order handle_total exact_handle (was w.instance) handles sorted t in
@@ -342,16 +390,17 @@ by_end nodes handles queue old new c d client sorted e own leads kept h =
                   | true ↦ (λ u. woken q w one.0 one.1 (same_number one.0.client client u) one.2 one.3 (h.found q w there short))
                   | false ↦ (λ u.
                       let stays : still w.instance (one.0, one.1) ≡ true = open_more old left w.instance one.0 one.1 (other_live old client ended one.0.client u) one.3 in
-                      let held : list_any (still w.instance) handles ≡ true = any_found handle_order handle_total exact_handle (still w.instance) handles one.0 one.1 one.2 stays in
+                      let kept_there : state_at fewer one.0 ≡ Some one.1 = other_kept handles client one.0 one.1 sorted u one.2 in
+                      let held : list_any (still w.instance) fewer ≡ true = any_found handle_order handle_total exact_handle (still w.instance) fewer one.0 one.1 kept_there stays in
                       absurd (cc))
                 ]) refl)
             | false ↦ (λ t.
-                let held : is_held_open (State nodes handles old queue) w.instance ≡ true → is_held_open (State nodes handles left queue) w.instance ≡ true = λ k. absurd (cc) in
-                kept q (h.to_go q w there (went (State nodes handles old queue) (State nodes handles left queue) q w held (λ x. x) (λ x. x) is)))
+                let held : is_held_open (State nodes handles old queue) w.instance ≡ true → is_held_open (State nodes fewer left queue) w.instance ≡ true = λ k. absurd (cc) in
+                kept q (h.to_go q w there (went (State nodes handles old queue) (State nodes fewer left queue) q w held (λ x. x) (λ x. x) is)))
           ]) refl;
       found = λ q w there short. leads w.instance q (h.found q w there short);
-      numbered = h.numbered;
-    })
+      numbered = λ k s there. h.numbered k s (was_known handles client k s sorted there);
+    }))
   where
     woken : (q : List ℕ) (w : Node) (key : HandleKey) (state : HandleState) → key.client ≡ client → state_at handles key ≡ Some state → is_open_in old w.instance key state ≡ true → Leads c w.instance q → Has d q
     woken q w key Closed mine there holding led = absurd (cc)

@@ -1,10 +1,12 @@
 -- Where the handles that are open on a node are found.
-use Rattle.std.specs.Prelude.{◌≡◌, ◌≢◌, ◌==◌, ◌&&◌, ℕ, Bool, true, false, List, Option, Some, is_some}
+use Rattle.std.specs.Prelude.{◌≡◌, ◌≢◌, ◌==◌, ◌&&◌, ℕ, Bool, true, false, not, List, filter, Option, Some, None, is_some, if◌then◌else◌}
 use Rattle.std.specs.declared.cmp.Ordering.{Ordering}
 use Rattle.std.specs.Ordering.{nat_cmp, ordering_then}
 use Rattle.std.specs.Map.{lookup}
 use Rattle.std.specs.Option.{option_map_or}
 use Rattle.std.specs.BTreeMap.{is_at, insert_entry}
+use Rattle.std.specs.declared.ops.Bound.TheVariants.{Included, Excluded}
+use Rattle.std.specs.BTreeMap.Range.{range_contains}
 use Rattle.session_core.specs.Sessions.{SessionTable, is_live}
 use Rattle.tags_cell.specs.Numbers.{IsOrdinal}
 use Rattle.tags_cell.specs.declared.handles.Handle.{Handle}
@@ -31,6 +33,54 @@ place_of instance key = record { instance = instance; client = key.client; numbe
 -- how a handle stands, if it is known
 abbrev pub state_at : List (HandleKey × HandleState) → HandleKey → Option HandleState
 state_at entries key = lookup (is_at (handle_order key)) entries
+
+-- a handle in this state is closed
+abbrev pub is_shut : Option HandleState → Bool
+is_shut (Some (states.Open noted)) = false
+is_shut (Some states.Closed) = true
+is_shut None = false
+
+-- an entry of another handle
+abbrev pub is_other : HandleKey → HandleKey × HandleState → Bool
+is_other key entry = not (is_at (handle_order key) entry.0)
+
+-- nothing is known of a handle any more; one that is known as closed stays so
+abbrev pub forgotten : List (HandleKey × HandleState) → HandleKey → List (HandleKey × HandleState)
+forgotten entries key = if is_shut (state_at entries key) then entries else filter (is_other key) entries
+
+abbrev pub without_key : List (HandleKey × HandleState) → Option HandleKey → List (HandleKey × HandleState)
+without_key entries None = entries
+without_key entries (Some key) = forgotten entries key
+
+-- how a handle stands, where it is said
+abbrev pub put_state : List (HandleKey × HandleState) → HandleKey → Option HandleState → List (HandleKey × HandleState)
+put_state entries key None = entries
+put_state entries key (Some state) = insert_entry handle_order entries key state
+
+-- the handle is forgotten, where nothing is said
+abbrev pub to_forget : HandleKey → Option HandleState → Option HandleKey
+to_forget key None = Some key
+to_forget key (Some state) = None
+
+-- how a handle stands from now on, or it is forgotten
+abbrev pub with_state : List (HandleKey × HandleState) → HandleKey → Option HandleState → List (HandleKey × HandleState)
+with_state entries key state = without_key (put_state entries key state) (to_forget key state)
+
+-- a handle that the client has open
+abbrev pub goes_with : ℕ → HandleKey × HandleState → Bool
+goes_with client entry = entry.0.client == client && not (is_shut (Some entry.1))
+
+abbrev pub outlasts : ℕ → HandleKey × HandleState → Bool
+outlasts client entry = not (goes_with client entry)
+
+-- nothing is known any more of the handles that a client has open
+abbrev pub without_client : List (HandleKey × HandleState) → ℕ → List (HandleKey × HandleState)
+without_client entries client = filter (outlasts client) entries
+
+-- each handle that a client has open stands from this key on to below that one
+abbrev pub AreBetween : ℕ → HandleKey → HandleKey → List (HandleKey × HandleState) → Type 0
+AreBetween client first end entries =
+    (key : HandleKey) (state : HandleState) → state_at entries key ≡ Some state → goes_with client (key, state) ≡ true → range_contains handle_order (Included first) (Excluded end) key ≡ true
 
 -- a handle that is open gets its place
 abbrev pub with_place : List (PlaceOnNode × HandleKey) → HandleKey → HandleState → List (PlaceOnNode × HandleKey)

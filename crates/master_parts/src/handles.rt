@@ -1,10 +1,11 @@
 //! What a master knows of handles.
-ghost use Rattle.std.specs.Prelude.{◌≡◌, Some, IfOk};
+ghost use Rattle.std.specs.Prelude.{◌≡◌, Some, IfOk, IfSome};
 ghost use Rattle.std.specs.Option.{option_copied};
 ghost use Rattle.tags_cell.specs.Handles.{handle_bytes, read_handle};
 ghost use Rattle.tags_cell.specs.declared.handles.Handle.{Handle as HandleValue};
 ghost use Rattle.master_parts.specs.Keys.{key_of, is_key};
 ghost use Rattle.master_parts.specs.Notes.{open_note};
+ghost use Rattle.master_parts.specs.OpenHandles.{to_forget};
 ghost use Rattle.master_parts.specs.Claims.{owner_of, claim_of};
 
 use collections::{Same, Secret};
@@ -37,6 +38,16 @@ impl HandleKey {
     {
         self.client.get() == other.client.get() && self.number.get() == other.number.get()
     }
+}
+
+// The least key of a client's handles.
+pub(crate) fn first_key(client: u64) -> Option<HandleKey>
+    ensures { IfSome result (λ key. key ≡ record { client = client; number = 1 }) }
+{
+    Some(HandleKey {
+        client: Ordinal::new(client)?,
+        number: Ordinal::new(1)?,
+    })
 }
 
 /// Who a handle is to a lock.
@@ -139,6 +150,13 @@ impl OpenHandle {
         self.handle.instance.get()
     }
 
+    /// The epoch of the master that gave it.
+    pub fn epoch(&self) -> u64
+        ensures { result ≡ self.now.handle.epoch }
+    {
+        self.handle.epoch.get()
+    }
+
     /// The handle, where these are its bytes.
     pub fn handle_of(&self, bytes: &[u8], secret: &Secret) -> Option<&Handle>
         ensures { (handle : HandleValue) → option_copied result ≡ Some handle → read_handle secret.now bytes.now ≡ Some handle }
@@ -151,12 +169,12 @@ impl OpenHandle {
     }
 
     /// What is noted of it.
-    pub fn note(self) -> HandleNote
+    pub fn note(self) -> OpenNote
         ensures { result ≡ open_note self.handle self.bytes }
     {
-        HandleNote {
+        OpenNote {
             key: HandleKey::of(&self.handle),
-            state: HandleState::Open(self),
+            noted: self,
         }
     }
 }
@@ -166,7 +184,7 @@ impl OpenHandle {
 pub enum HandleState {
     /// It was opened, or shown by its client.
     Open(OpenHandle),
-    /// It was closed, and is of no use from then on.
+    /// It was closed, and is of no use from then on. One that this epoch gave is forgotten instead.
     Closed,
 }
 
@@ -174,5 +192,56 @@ pub enum HandleState {
 #[derive(Drop)]
 pub struct HandleNote {
     pub key: HandleKey,
-    pub state: HandleState,
+    /// How it stands from now on; None where it is forgotten.
+    pub state: Option<HandleState>,
+}
+
+impl HandleNote {
+    /// The handle, where it is forgotten.
+    pub fn forgets(&self) -> Option<HandleKey>
+        ensures { result ≡ to_forget self.now.key self.now.state }
+    {
+        match &self.state {
+            None => Some(self.key),
+            Some(_) => None,
+        }
+    }
+}
+
+/// The note of a handle that is open. To a contract it is a `HandleNote`.
+#[derive(Drop)]
+pub struct OpenNote {
+    key: HandleKey,
+    noted: OpenHandle,
+}
+
+impl Model for OpenNote {
+    ghost use Rattle.std.specs.Prelude.{Some};
+    ghost use Rattle.master_parts.specs.declared.handles.HandleNote.{HandleNote};
+    ghost use Rattle.master_parts.specs.declared.handles.HandleState.TheVariants.{Open};
+
+    ghost Value = { HandleNote };
+
+    ghost view = { λ n. record { key = n.key; state = Some (Open n.noted) } };
+}
+
+impl OpenNote {
+    /// Which handle it is, and how it stands.
+    pub fn parts(self) -> (HandleKey, HandleState)
+        ensures { self ≡ record { key = result.0; state = Some result.1 } }
+    {
+        let OpenNote { key, noted } = self;
+        (key, HandleState::Open(noted))
+    }
+
+    /// The same among notes of any kind.
+    pub fn any(self) -> HandleNote
+        ensures { result ≡ self }
+    {
+        let OpenNote { key, noted } = self;
+        HandleNote {
+            key,
+            state: Some(HandleState::Open(noted)),
+        }
+    }
 }

@@ -20,7 +20,7 @@ mod walks;
 pub use calls::{
     bytes_of, create_fault, delay_of, denied, denied_without, is_leave, node_fault, set_answer,
 };
-pub use handles::{HandleKey, HandleNote, HandleState, OpenHandle, claim_of, owner_of};
+pub use handles::{HandleKey, HandleNote, HandleState, OpenHandle, OpenNote, claim_of, owner_of};
 pub use listeners::ListenSubject;
 pub use nodes::{Nodes, is_ephemeral};
 pub use notices::{Notice, SessionEvent, event_of, instance_of};

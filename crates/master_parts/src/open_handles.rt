@@ -1,17 +1,21 @@
 //! What a master knows of handles, and which are open on a node.
-ghost use Rattle.std.specs.Prelude.{◌≡◌, ◌+◌, [], true, false, Some, IfOk, OnOk, OnErr, length};
-ghost use Rattle.std.specs.Option.{option_copied};
+ghost use Rattle.std.specs.Prelude.{◌≡◌, ◌+◌, [], true, false, Some, IfOk, OnOk, OnErr, length, find};
+ghost use Rattle.std.specs.Option.{option_copied, option_map};
+ghost use Rattle.std.specs.Ordering.{is_le};
 ghost use Rattle.std.specs.List.{list_any};
 ghost use Rattle.std.specs.List.Sorted.{IsStrictlySortedBy};
-ghost use Rattle.std.specs.Map.{keys_of};
-ghost use Rattle.std.specs.BTreeMap.{insert_entry};
+ghost use Rattle.std.specs.Map.{keys_of, remove_entry};
+ghost use Rattle.std.specs.BTreeMap.{is_at, insert_entry};
+ghost use Rattle.std.specs.BTreeMap.Range.{entries_between};
+ghost use Rattle.std.specs.declared.ops.Bound.TheVariants.{Included, Excluded};
 ghost use Rattle.collections.specs.Tables.{with_former};
 ghost use Rattle.master_parts.specs.declared.handles.HandleState.{HandleState as StateValue};
 ghost use Rattle.master_parts.specs.Keys.{handle_order};
 ghost use Rattle.master_parts.specs.Listeners.{HasSeats, HasAsking};
-ghost use Rattle.master_parts.specs.OpenHandles.{place_of, with_place, state_at, ArePlaced, IsPlaced, IsNotOpenOn, AreAmong, HasPlaced, HasAll, HasOpenOn, HasHoldersOn, HasOwner, HasOwners, IsOwn, is_open_in, is_known_open};
+ghost use Rattle.master_parts.specs.Candidates.{HaveNumbers};
+ghost use Rattle.master_parts.specs.OpenHandles.{place_of, with_place, state_at, is_shut, forgotten, goes_with, without_client, AreBetween, ArePlaced, IsPlaced, IsNotOpenOn, AreAmong, HasPlaced, HasAll, HasOpenOn, HasHoldersOn, HasOwner, HasOwners, IsOwn, is_open_in, is_known_open};
 
-use crate::handles::{HandleKey, HandleState};
+use crate::handles::{HandleKey, HandleState, first_key};
 use crate::listeners::{ListenSubject, Listeners};
 use collections::Table;
 use lock_core::{Hold, Lock, Owner};
@@ -51,8 +55,8 @@ impl PlaceOnNode {
     }
 }
 
-/// How each handle stands that was opened, shown or closed in this epoch. To a contract, the entries in the order of the
-/// keys. The handles that are open on a node are found by their places.
+/// How each handle stands that was opened in this epoch or shown, until it is forgotten. To a contract, the entries in the
+/// order of the keys. The handles that are open on a node are found by their places.
 #[derive(Drop)]
 pub struct Handles {
     states: Table<HandleKey, HandleState>,
@@ -159,6 +163,101 @@ impl Handles {
         let _count = self.places.as_map().len();
         self.places.remove(&PlaceOnNode::of(instance, key));
         self.listeners.remove(key, instance);
+    }
+
+    /// Nothing is known of a handle any more; one that is known as closed stays so. Takes no memory.
+    pub fn forget(&mut self, key: &HandleKey)
+        ensures { self.new ≡ forgotten self.old key.now }
+    {
+        let _count = self.len();
+        if is_shut(self.get(key)) {
+            return;
+        }
+        let former = self.take_out(key);
+        self.settle(key, former);
+    }
+
+    /// The handles that a client has open are forgotten. Costs a look-up for each of them, and a step for each of the
+    /// client's that is known as closed. Takes no memory.
+    pub fn forget_client(&mut self, client: u64)
+        requires { HaveNumbers self.old }
+        ensures { self.new ≡ without_client self.old client }
+    {
+        let _count = self.len();
+        let Some(next) = client.checked_add(1) else {
+            return self.forget_among_all(client);
+        };
+        match (first_key(client), first_key(next)) {
+            (Some(first), Some(end)) => self.forget_between(client, first, end),
+            _ => self.forget_among_all(client),
+        }
+    }
+
+    // They all stand from one key to below another.
+    fn forget_between(&mut self, client: u64, first: HandleKey, end: HandleKey)
+        requires order { is_le (handle_order first end) ≡ true }
+        requires inside { AreBetween client first end self.old }
+        ensures { self.new ≡ without_client self.old client }
+    {
+        let mut from = first;
+        while let Some(key) = self.first_between(client, &from, &end) {
+            self.take(&key);
+            from = key;
+        }
+    }
+
+    // No client has a number that stands outside of all keys, so nobody waits for this.
+    fn forget_among_all(&mut self, client: u64)
+        ensures { self.new ≡ without_client self.old client }
+    {
+        while let Some(key) = self.first_of_client(client) {
+            self.take(&key);
+        }
+    }
+
+    // The first that the client has open from a key on to below another.
+    fn first_between(&self, client: u64, first: &HandleKey, end: &HandleKey) -> Option<HandleKey>
+        requires { is_le (handle_order first.now end.now) ≡ true }
+        ensures ordered { IsStrictlySortedBy handle_order (keys_of self.now) }
+        ensures found { result ≡ option_map (λ entry. entry.0) (find (goes_with client) (entries_between handle_order (Included first.now) (Excluded end.now) self.now)) }
+    {
+        let _count = self.len();
+        for (key, state) in self.states.as_map().range(*first..*end) {
+            if goes_with(client, key, state) {
+                return Some(*key);
+            }
+        }
+        None
+    }
+
+    // The first that the client has open.
+    fn first_of_client(&self, client: u64) -> Option<HandleKey>
+        ensures ordered { IsStrictlySortedBy handle_order (keys_of self.now) }
+        ensures found { result ≡ option_map (λ entry. entry.0) (find (goes_with client) self.now) }
+    {
+        let _count = self.len();
+        for (key, state) in self.states.as_map() {
+            if goes_with(client, key, state) {
+                return Some(*key);
+            }
+        }
+        None
+    }
+
+    // Nothing is known of it any more.
+    fn take(&mut self, key: &HandleKey)
+        ensures { self.new ≡ remove_entry (is_at (handle_order key.now)) self.old }
+    {
+        let former = self.take_out(key);
+        self.settle(key, former);
+    }
+
+    // Its place and its seats stay.
+    fn take_out(&mut self, key: &HandleKey) -> Option<HandleState>
+        ensures { self.new ≡ remove_entry (is_at (handle_order key.now)) self.old }
+    {
+        let _count = self.states.as_map().len();
+        self.states.remove(key)
     }
 
     /// Whether a handle of a live session is open on an instance.
@@ -283,6 +382,24 @@ fn is_seated(listeners: &Listeners, key: &HandleKey, state: &Option<HandleState>
         Some(state) => listeners.has(key, state),
         None => true,
     }
+}
+
+// Whether a handle is closed.
+fn is_shut(state: Option<&HandleState>) -> bool
+    ensures { result ≡ is_shut (option_copied state.entry) }
+{
+    match state {
+        Some(HandleState::Open(_)) => false,
+        Some(HandleState::Closed) => true,
+        None => false,
+    }
+}
+
+// Whether a client has a handle open.
+fn goes_with(client: u64, key: &HandleKey, state: &HandleState) -> bool
+    ensures { result ≡ goes_with client (key.now, state.now) }
+{
+    key.client.get() == client && !is_shut(Some(state))
 }
 
 // Whether a handle is open on an instance.

@@ -14,7 +14,7 @@ ghost use Rattle.gate_core.specs.Gate.{ready, push_answer, with_change, change_a
 ghost use Rattle.session_core.specs.Session.{beat_fault, beaten, answered, keeping, told, prolonged, session_until, ended};
 ghost use Rattle.session_core.specs.Sessions.{session_of, with_session, with_new, without, issued_by};
 ghost use Rattle.master_parts.specs.Keys.{handle_order};
-ghost use Rattle.master_parts.specs.OpenHandles.{state_at};
+ghost use Rattle.master_parts.specs.OpenHandles.{state_at, forgotten, without_client};
 ghost use Rattle.master_parts.specs.Ephemerals.{is_held_open, must_stay, is_left, has_its_turn, goes, first_to_go};
 
 use crate::candidates::Candidates;
@@ -290,6 +290,16 @@ impl Tables {
     {
         self.handles.settle(key, former);
     }
+
+    /// Nothing is known of a handle any more; one that is known as closed stays so. Takes no memory that it can't do
+    /// without.
+    pub fn forget_handle(&mut self, key: &HandleKey)
+        ensures { self.new ≡ record self.old { handles = forgotten self.old.handles key.now } }
+    {
+        let _count = self.handles.len();
+        wake_open(&mut self.candidates, self.handles.get(key));
+        self.handles.forget(key);
+    }
 }
 
 // The sessions: each call is the one of `Sessions`.
@@ -318,13 +328,14 @@ impl Tables {
         self.sessions.take_back(client);
     }
 
-    /// A client's session ends. It looks at each handle that the client has opened in this epoch. Takes no memory that it
-    /// can't do without.
+    /// A client's session ends, and the handles that it has open are forgotten. It looks at each of them twice. Takes no
+    /// memory that it can't do without.
     pub fn expire(&mut self, client: u64)
-        ensures { self.new ≡ record self.old { sessions = with_session self.old.sessions client ended } }
+        ensures { self.new ≡ record self.old { handles = without_client self.old.handles client; sessions = with_session self.old.sessions client ended } }
     {
         let _count = self.handles.len();
         wake_held(&self.handles, &mut self.candidates, client);
+        self.handles.forget_client(client);
         self.sessions.expire(client);
     }
 

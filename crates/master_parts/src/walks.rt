@@ -1,5 +1,5 @@
 //! What each step tells the candidates.
-ghost use Rattle.std.specs.Prelude.{◌≡◌, true, false, ℕ, List, Some, None, IfSome};
+ghost use Rattle.std.specs.Prelude.{◌≡◌, true, false, ℕ, List, Some, None};
 ghost use Rattle.std.specs.declared.ops.Bound.TheVariants.{Included, Excluded};
 ghost use Rattle.std.specs.BTreeMap.Range.{entries_between};
 ghost use Rattle.master_parts.specs.Keys.{handle_order};
@@ -18,7 +18,7 @@ ghost use Rattle.master_parts.specs.OpenHandles.{state_at};
 ghost use Rattle.master_parts.specs.Candidates.{Has, Leads, AreFound, HaveNumbers, instance_open, instance_tidied};
 
 use crate::candidates::Candidates;
-use crate::handles::{HandleKey, HandleState};
+use crate::handles::{HandleKey, HandleState, first_key};
 use crate::nodes::{Nodes, is_ephemeral};
 use crate::open_handles::Handles;
 use crate::pending::Task;
@@ -26,7 +26,6 @@ use gate_core::Pending;
 use names_cell::Name;
 use node_core::Node;
 use std::alloc::Global;
-use tags_cell::Ordinal;
 
 // All ephemeral nodes.
 pub(crate) fn candidates_of(alloc: Global, nodes: &Nodes) -> Candidates
@@ -131,16 +130,6 @@ pub(crate) fn wake_held(handles: &Handles, candidates: &mut Candidates, client: 
         (Some(first), Some(end)) => wake_between(handles, candidates, first, end),
         _ => candidates.lose(),
     }
-}
-
-// The least key of a client's handles.
-fn first_key(client: u64) -> Option<HandleKey>
-    ensures { IfSome result (λ key. key ≡ record { client = client; number = 1 }) }
-{
-    Some(HandleKey {
-        client: Ordinal::new(client)?,
-        number: Ordinal::new(1)?,
-    })
 }
 
 // The nodes may be to go that the handles from a key to below another are open on.

@@ -150,9 +150,9 @@ missing_right space caller mode node =
 abbrev pub handle_state_of : MasterState → HandleKey → Option HandleState
 handle_state_of s key = lookup (is_at (handle_order key)) s.handles
 
--- one of this epoch has to be open; one of an earlier epoch may be new to this master, but not closed
+-- it is noted as open, by the epoch that gave it; or it is of an earlier epoch, and new to this master
 abbrev pub is_usable : MasterState → Handle → Option HandleState → Bool
-is_usable s handle (Some (states.Open noted)) = nat_le handle.epoch s.epoch
+is_usable s handle (Some (states.Open noted)) = handle.epoch == noted.handle.epoch
 is_usable s handle (Some states.Closed) = false
 is_usable s handle None = nat_lt handle.epoch s.epoch
 

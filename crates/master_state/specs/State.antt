@@ -20,8 +20,8 @@ use Rattle.master_parts.specs.State.{TableState}
 use Rattle.master_parts.specs.StoredSessions.{sessions_of}
 
 -- name: the cell's. secret: what check digits are made over. limits: what the cell holds at most. nodes: the map. locks: by instance. sessions: also those
--- that have ended, each with the last call of its client and the reply to it. recovering: some session of an earlier master has neither been heard from nor expired. handles: those that
--- were opened, shown or closed in this epoch. rights: those to cache a name that it granted in this epoch, in order of granting, those that have ended included. gate: the changes that wait, in order of their coming. clock: the last moment that the master was told. serving_from: the moment at which its recovery ended, or at which it came up without one
+-- that have ended, each with the last call of its client and the reply to it. recovering: some session of an earlier master has neither been heard from nor expired. handles: those of
+-- sessions that live that were opened in this epoch or shown, and are open; and of those that were shown, the ones that were closed then. rights: those to cache a name that it granted in this epoch, in order of granting, those that have ended included. gate: the changes that wait, in order of their coming. clock: the last moment that the master was told. serving_from: the moment at which its recovery ended, or at which it came up without one
 pub record MasterState : Type 0 where
   pub name : List ℕ
   pub secret : List ℕ

@@ -28,6 +28,7 @@ use Rattle.master_state.specs.declared.updates.FormerParts.{FormerParts}
 use Rattle.master_state.specs.declared.updates.MapRest.{MapRest}
 use Rattle.master_state.specs.declared.updates.Rest.{Rest}
 use Rattle.master_parts.specs.Keys.{handle_order}
+use Rattle.master_parts.specs.OpenHandles.{put_state, to_forget, without_key, with_state, without_client}
 use Rattle.master_parts.specs.Locks.{lock_rows}
 use Rattle.master_state.specs.State.{MasterState}
 use Rattle.master_state.specs.Lookups.{session_of}
@@ -41,7 +42,12 @@ use Rattle.gate_core.specs.Gate as of_gate
 -- what the master notes of a handle, if anything
 abbrev pub with_note : MasterState → Option HandleNote → MasterState
 with_note s None = s
-with_note s (Some note) = record s { handles = insert_entry handle_order s.handles note.key note.state }
+with_note s (Some note) = record s { handles = with_state s.handles note.key note.state }
+
+-- of it what may want memory: a handle that is to be forgotten stands until the rest is done
+abbrev pub with_standing : MasterState → Option HandleNote → MasterState
+with_standing s None = s
+with_standing s (Some note) = record s { handles = put_state s.handles note.key note.state }
 
 -- a session that begins is of a client without one
 abbrev pub BeginsNew : MasterState → Option SessionUpdate → Type 0
@@ -70,7 +76,7 @@ abbrev pub with_locks : MasterState → List LockPut → MasterState
 with_locks s puts = record s { locks = fold with_lock_put s.locks puts }
 
 abbrev pub grown : MasterState → Update → MasterState
-grown s update = with_locks (with_node (with_note (with_begun s update.session) update.note) update.change) update.locks
+grown s update = with_locks (with_node (with_standing (with_begun s update.session) update.note) update.change) update.locks
 
 -- ---- how it is taken back
 
@@ -99,7 +105,7 @@ undone s former = without_begun (without_note (without_node (without_locks s for
 
 -- ---- what is done after the commit
 
--- what is left to be done to a session; one that ends holds no right any more
+-- what is left to be done to a session; one that ends holds no right any more, and the handles that it has open are forgotten
 abbrev pub session_rest : Option SessionUpdate → Option SessionUpdate
 session_rest (Some (Begins client principal)) = None
 session_rest update = update
@@ -113,13 +119,22 @@ abbrev pub map_rest : Option Change → Option MapRest
 map_rest None = None
 map_rest (Some change) = Some (record { gone = gone_of change.change; next_instance = change.next_instance })
 
+-- the handle that is forgotten
+abbrev pub forgets_of : Option HandleNote → Option HandleKey
+forgets_of None = None
+forgets_of (Some note) = to_forget note.key note.state
+
 abbrev pub rest_of : Update → Rest
-rest_of update = record { session = session_rest update.session; kept = update.kept; map = map_rest update.change; ends_lock = update.ends_lock; recovers = update.recovers; leaves = update.leaves }
+rest_of update = record { forgets = forgets_of update.note; session = session_rest update.session; kept = update.kept; map = map_rest update.change; ends_lock = update.ends_lock; recovers = update.recovers; leaves = update.leaves }
+
+-- nothing is known of it any more
+abbrev pub without_handle : MasterState → Option HandleKey → MasterState
+without_handle s key = record s { handles = without_key s.handles key }
 
 abbrev pub with_session_rest : MasterState → Option SessionUpdate → MasterState
 with_session_rest s (Some (Prolongs client)) = record s { sessions = with_session s.sessions client (prolonged (s.clock + s.sessions.lease)) }
 with_session_rest s (Some (Ends client principal parting)) =
-    record s { sessions = with_session s.sessions client ended; rights = of_rights.ended client (ending_by parting) s.rights }
+    record s { handles = without_client s.handles client; sessions = with_session s.sessions client ended; rights = of_rights.ended client (ending_by parting) s.rights }
 with_session_rest s (Some (Answers client)) = record s { sessions = with_session s.sessions client (answered s.sessions.lease s.clock) }
 with_session_rest s _ = s
 
@@ -154,7 +169,7 @@ left s None = s
 left s (Some number) = record s { gate = record s.gate { waiting = of_gate.without number s.gate.waiting } }
 
 abbrev pub with_rest : MasterState → Rest → MasterState
-with_rest s rest = left (recovered (without_lock (with_map (with_kept (with_session_rest s rest.session) rest.kept) rest.map) rest.ends_lock) rest.recovers) rest.leaves
+with_rest s rest = left (recovered (without_lock (with_map (with_kept (with_session_rest (without_handle s rest.forgets) rest.session) rest.kept) rest.map) rest.ends_lock) rest.recovers) rest.leaves
 
 -- all of it
 abbrev pub done : MasterState → Update → MasterState

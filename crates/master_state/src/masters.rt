@@ -120,7 +120,7 @@ impl Master {
         self.tables.queue().rights()
     }
 
-    /// The handles that were opened, shown or closed in this epoch.
+    /// The handles that were opened in this epoch or shown, and are open; and those that were shown, and closed then.
     pub fn handles(&self) -> &Handles
         ensures { result.now ≡ self.now.handles }
     {

@@ -4,7 +4,7 @@ ghost use Rattle.master_state.specs.NameSpace.{name_space, caller};
 ghost use Rattle.master_state.specs.Lookups.{is_of_cell, new_handle, open_present, plain_open, opened_answer, opened_note};
 
 use crate::masters::Master;
-use master_parts::{HandleNote, OpenHandle, delay_of};
+use master_parts::{OpenHandle, OpenNote, delay_of};
 use names_cell::Name;
 use node_core::{Fault, Node};
 use std::alloc::AllocError;
@@ -83,7 +83,7 @@ impl Master {
     pub fn opened(
         &self,
         opened: Result<Handle, Fault>,
-    ) -> Result<(Option<HandleNote>, CallResult), AllocError>
+    ) -> Result<(Option<OpenNote>, CallResult), AllocError>
         ensures note { IfOk result (λ told. told.0 ≡ opened_note (name_space self.now) opened) }
         ensures answer { IfOk result (λ told. told.1 ≡ opened_answer (name_space self.now) opened) }
     {
@@ -94,7 +94,7 @@ impl Master {
     }
 
     // A new handle is open. Its check digits are made here.
-    fn given(&self, handle: Handle) -> Result<(Option<HandleNote>, CallResult), AllocError>
+    fn given(&self, handle: Handle) -> Result<(Option<OpenNote>, CallResult), AllocError>
         ensures note { IfOk result (λ told. told.0 ≡ opened_note (name_space self.now) (Ok handle)) }
         ensures answer { IfOk result (λ told. told.1 ≡ opened_answer (name_space self.now) (Ok handle)) }
     {

@@ -97,7 +97,7 @@ impl Master {
     {
         let epoch = handle.epoch.get();
         match state {
-            Some(HandleState::Open(_)) => epoch <= self.epoch,
+            Some(HandleState::Open(noted)) => epoch == noted.epoch(),
             Some(HandleState::Closed) => false,
             None => epoch < self.epoch,
         }

@@ -5,7 +5,7 @@ ghost use Rattle.std.specs.BTreeMap.{is_at};
 ghost use Rattle.std.specs.Ordering.{nat_cmp};
 ghost use Rattle.collections.specs.Tables.{with_former};
 ghost use Rattle.lock_core.specs.Locks.{with_lock};
-ghost use Rattle.master_state.specs.Updates.{with_note, BeginsNew, with_begun, with_put, with_node, with_locks, grown, without_begun, without_note, without_node, without_locks, undone, session_rest, map_rest, rest_of, with_session_rest, with_kept_put, with_kept, with_map, with_rest};
+ghost use Rattle.master_state.specs.Updates.{with_standing, BeginsNew, with_begun, with_put, with_node, with_locks, grown, without_begun, without_note, without_node, without_locks, undone, session_rest, map_rest, forgets_of, rest_of, without_handle, with_session_rest, with_kept_put, with_kept, with_map, with_rest};
 
 use crate::masters::Master;
 use crate::partings::ending_by;
@@ -96,6 +96,8 @@ pub struct MapRest {
 /// What is left of an update for after the commit. It takes no memory.
 #[derive(Drop)]
 pub struct Rest {
+    /// The handle of which nothing is known any more.
+    pub forgets: Option<HandleKey>,
     pub session: Option<SessionUpdate>,
     pub kept: Items<KeptPut>,
     pub map: Option<MapRest>,
@@ -143,8 +145,10 @@ pub fn grow(master: &mut Master, update: Update) -> Result<Grown, AllocError>
         recovers,
         leaves,
     } = update;
+    let forgets = forgets_of(&note);
     let (begun, session) = begin_session(master, session)?;
     let rest = Rest {
+        forgets,
         session,
         kept,
         map: None,
@@ -193,6 +197,7 @@ pub fn finish(master: &mut Master, rest: Rest)
     ensures { master.new ≡ with_rest master.old rest }
 {
     let Rest {
+        forgets,
         session,
         kept,
         map,
@@ -200,6 +205,7 @@ pub fn finish(master: &mut Master, rest: Rest)
         recovers,
         leaves,
     } = rest;
+    forget(master, forgets);
     finish_session(master, session);
     keep(master, kept);
     finish_map(master, map);
@@ -220,6 +226,25 @@ pub fn settle_note(master: &mut Master, key: &HandleKey, former: Option<HandleSt
     ensures { master.new ≡ master.old }
 {
     master.tables.settle_handle(key, former);
+}
+
+// The handle that a note forgets.
+fn forgets_of(note: &Option<HandleNote>) -> Option<HandleKey>
+    ensures { result ≡ forgets_of note.now }
+{
+    match note {
+        None => None,
+        Some(note) => note.forgets(),
+    }
+}
+
+// Nothing is known of it any more.
+fn forget(master: &mut Master, key: Option<HandleKey>)
+    ensures { master.new ≡ without_handle master.old key }
+{
+    if let Some(key) = key {
+        master.tables.forget_handle(&key);
+    }
 }
 
 // A session that begins; any other update is left for the rest.
@@ -315,7 +340,7 @@ fn grow_parts(
     change: Option<Change>,
     locks: Items<LockPut>,
 ) -> Result<GrownParts, AllocError>
-    ensures ok { OnOk result (master.new ≡ with_locks (with_node (with_note master.old note) change) locks) }
+    ensures ok { OnOk result (master.new ≡ with_locks (with_node (with_standing master.old note) change) locks) }
     ensures back { IfOk result (λ begun. without_note (without_node (without_locks master.new begun.locks) begun.map.node) begun.map.note ≡ master.old) }
     ensures rest { IfOk result (λ begun. begun.map.rest ≡ map_rest change) }
     ensures err { OnErr result (master.new ≡ master.old) }
@@ -403,7 +428,7 @@ fn grow_map(
     note: Option<HandleNote>,
     change: Option<Change>,
 ) -> Result<GrownMap, AllocError>
-    ensures ok { OnOk result (master.new ≡ with_node (with_note master.old note) change) }
+    ensures ok { OnOk result (master.new ≡ with_node (with_standing master.old note) change) }
     ensures back { IfOk result (λ begun. without_note (without_node master.new begun.node) begun.note ≡ master.old) }
     ensures rest { IfOk result (λ begun. begun.rest ≡ map_rest change) }
     ensures err { OnErr result (master.new ≡ master.old) }
@@ -422,14 +447,29 @@ fn put_note(
     master: &mut Master,
     note: Option<HandleNote>,
 ) -> Result<Option<(HandleKey, Option<HandleState>)>, AllocError>
-    ensures ok { OnOk result (master.new ≡ with_note master.old note) }
+    ensures ok { OnOk result (master.new ≡ with_standing master.old note) }
     ensures back { IfOk result (λ former. without_note master.new former ≡ master.old) }
     ensures err { OnErr result (master.new ≡ master.old) }
 {
     match note {
         None => Ok(None),
-        Some(note) => {
-            let HandleNote { key, state } = note;
+        Some(note) => put_standing(master, note),
+    }
+}
+
+// A handle that is to be forgotten stands until the rest is done.
+fn put_standing(
+    master: &mut Master,
+    note: HandleNote,
+) -> Result<Option<(HandleKey, Option<HandleState>)>, AllocError>
+    ensures ok { OnOk result (master.new ≡ with_standing master.old (Some note)) }
+    ensures back { IfOk result (λ former. without_note master.new former ≡ master.old) }
+    ensures err { OnErr result (master.new ≡ master.old) }
+{
+    let HandleNote { key, state } = note;
+    match state {
+        None => Ok(None),
+        Some(state) => {
             let HandleKey { client, number } = key;
             let former = master.tables.put_handle(key, state)?;
             Ok(Some((HandleKey { client, number }, former)))
@@ -517,6 +557,7 @@ fn grown_of(begun: Option<ClientNumber>, parts: GrownParts, rest: Rest) -> Grown
         locks,
     } = parts;
     let Rest {
+        forgets,
         session,
         kept,
         ends_lock,
@@ -532,6 +573,7 @@ fn grown_of(begun: Option<ClientNumber>, parts: GrownParts, rest: Rest) -> Grown
             locks,
         },
         rest: Rest {
+            forgets,
             session,
             kept,
             map,

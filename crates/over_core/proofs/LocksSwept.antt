@@ -43,6 +43,7 @@ use Rattle.lock_core.specs.declared.turns.Turn.{Turn}
 use Rattle.lock_core.specs.State.{LockState, nobody_holds}
 use Rattle.lock_core.specs.Turns.{is_nobody, is_of_client, reopened, concerns, time_left}
 use Rattle.lock_core.specs.Locks.{LockTable, lock_at, with_lock, is_due, due}
+use Rattle.master_parts.specs.OpenHandles.{without_client}
 use Rattle.master_state.specs.declared.updates.LockPut.{LockPut}
 use Rattle.master_parts.specs.declared.pending.Task.{Task}
 use Rattle.master_state.specs.State.{MasterState}
@@ -340,7 +341,7 @@ module _ (parting : Parting) (cell : List ℕ) (rows : Rows) (s : MasterState) (
 
   -- ---- the locks
 
-  locks_kept : AreLocksKept ended_rows (record (with_locks s puts) { sessions = new_sessions })
+  locks_kept : AreLocksKept ended_rows (record (with_locks s puts) { handles = without_client s.handles client; sessions = new_sessions })
   locks_kept =
       let before = puts_kept cell rows s puts k.sound_rows k.sessions k.locks_in_order k.locks are_puts apart k.nodes in
       record {
@@ -379,7 +380,7 @@ module _ (parting : Parting) (cell : List ℕ) (rows : Rows) (s : MasterState) (
   names_then : IsStrictlySortedBy (slice_cmp nat_cmp) (keys_of ended_rows.nodes)
   names_then = names_stay cell rows s puts k are_puts apart
 
-  ended_kept_beside : IsKept cell ended_rows (record (with_locks s puts) { sessions = new_sessions })
+  ended_kept_beside : IsKept cell ended_rows (record (with_locks s puts) { handles = without_client s.handles client; sessions = new_sessions })
   ended_kept_beside = record {
     name = k.name;
     secret = k.secret;
@@ -415,7 +416,7 @@ module _ (parting : Parting) (cell : List ℕ) (rows : Rows) (s : MasterState) (
       let P : Rows → Type 0 = λ r. IsKept cell r (told (with_locks (parted parting s client) puts) replies) in
       subst P (sym ended_is)
       (told_kept cell ended_rows replies (with_locks (parted parting s client) puts) none
-      (ended_kept cell ended_rows (record (with_locks s puts) { sessions = new_sessions }) client (ending_by parting) ended_kept_beside))
+      (ended_kept cell ended_rows (record (with_locks s puts) { handles = without_client s.handles client; sessions = new_sessions }) client (ending_by parting) ended_kept_beside))
 
   pub without_session_kept : (own : List Reply) → AreTo (λ q. outstanding (with_locks (parted parting s client) puts) q ≡ 0) own → IsKept cell (changed_rows rows (parting_edits parting s client session.principal)) (without_session parting s client own)
   without_session_kept own waits =

@@ -14,6 +14,7 @@ use Rattle.gate_core.specs.declared.pending.Waiting.{Waiting}
 use Rattle.gate_core.specs.Gate.{is_free}
 use Rattle.master_state.specs.declared.updates.Change.{Change}
 use Rattle.master_parts.specs.declared.handles.HandleNote.{HandleNote}
+use Rattle.master_parts.specs.OpenHandles.{without_client}
 use Rattle.master_parts.specs.declared.pending.WaitingRequest.{WaitingRequest}
 use Rattle.master_parts.specs.declared.pending.Orphan.{Orphan}
 use Rattle.master_parts.specs.declared.pending.Task.{Task}
@@ -127,9 +128,10 @@ mapped s change = record s { nodes = changed s.nodes change.change; next_instanc
 abbrev pub told : MasterState → List Reply → MasterState
 told s replies = with_kept s (kept_puts replies)
 
--- the session has ended, and holds no right any more
+-- the session has ended, holds no right any more, and the handles that it had open are forgotten
 abbrev pub parted : Parting → MasterState → ℕ → MasterState
-parted parting s client = record s { sessions = with_session s.sessions client of_session.ended; rights = of_rights.ended client (ending_by parting) s.rights }
+parted parting s client =
+    record s { handles = without_client s.handles client; sessions = with_session s.sessions client of_session.ended; rights = of_rights.ended client (ending_by parting) s.rights }
 
 -- and no lock; its client is answered, where it has asked for that, and who waited for a lock that it held
 abbrev pub without_session : Parting → MasterState → ℕ → List Reply → MasterState

@@ -7,7 +7,7 @@ ghost use Rattle.std.specs.VecDeque.{deque_capacity};
 ghost use Rattle.rights_core.specs.Holds.{with_number, without_all, told};
 ghost use Rattle.rights_core.specs.Rights.{unacked_number, with_entry};
 
-use crate::cache_rights::CacheRight;
+use crate::cache_rights::HeldRight;
 use collections::Table;
 use names_cell::Name;
 use std::alloc::{AllocError, Global};
@@ -83,7 +83,7 @@ impl Recalls {
         &self,
         alloc: Global,
         client: u64,
-        rights: &Table<u64, CacheRight>,
+        rights: &Table<u64, HeldRight>,
     ) -> Result<Table<u64, Name>, AllocError>
         ensures { IfOk result (λ unacked. unacked ≡ fold (told client rights.now) [] self.now.numbers.items) }
     {
@@ -97,7 +97,7 @@ impl Recalls {
     }
 
     // The rights of so many of the first numbers end.
-    pub(crate) fn end_first(&mut self, rights: &mut Table<u64, CacheRight>, count: u64)
+    pub(crate) fn end_first(&mut self, rights: &mut Table<u64, HeldRight>, count: u64)
         ensures rights { rights.new ≡ without_all rights.old (take count self.old.numbers.items) }
         ensures numbers { self.new.numbers.items ≡ drop count self.old.numbers.items }
         ensures capacity { deque_capacity self.new.numbers ≡ deque_capacity self.old.numbers }
@@ -113,11 +113,11 @@ impl Recalls {
 }
 
 // The invalidation of a right that was asked back, where it is this client's, and the right's name.
-fn note(unacked: &mut Table<u64, Name>, right: &CacheRight, client: u64) -> Result<(), AllocError>
+fn note(unacked: &mut Table<u64, Name>, right: &HeldRight, client: u64) -> Result<(), AllocError>
     ensures ok { OnOk result (unacked.new ≡ with_entry unacked.old (unacked_number client right.now) right.now.name) }
 {
     if let Some(number) = right.unacked_number(client) {
-        unacked.put(number, right.name.clone()?)?;
+        unacked.put(number, right.name().clone()?)?;
     }
     Ok(())
 }

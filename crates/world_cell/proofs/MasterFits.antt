@@ -30,7 +30,10 @@ use Rattle.session_core.specs.Session as of_session
 use Rattle.session_core.specs.Sessions.{with_session, with_new, issued_by}
 use Rattle.master_state.specs.declared.updates.Change.{Change}
 use Rattle.master_state.specs.declared.updates.LockPut.{LockPut}
+use Rattle.master_parts.specs.declared.handles.HandleKey.{HandleKey}
+use Rattle.master_parts.specs.declared.handles.HandleState.{HandleState}
 use Rattle.master_parts.specs.declared.handles.HandleNote.{HandleNote}
+use Rattle.master_parts.specs.OpenHandles.{without_client}
 use Rattle.master_parts.specs.declared.pending.WaitingRequest.{WaitingRequest}
 use Rattle.master_parts.specs.declared.pending.Orphan.{Orphan}
 use Rattle.master_parts.specs.declared.pending.Task.{Task}
@@ -142,6 +145,10 @@ fits_stays xs ys s h =
 -- other rights
 right_fits : (sent : List Message) (s : MasterState) (rights : List CacheRight) → FitsMessages sent s → FitsMessages sent (record s { rights = rights })
 right_fits sent s rights h = record { queue = h.queue; kept = h.kept; replies = h.replies; answers = h.answers; turns = h.turns }
+
+-- nor what is known of handles
+known_fits : (sent : List Message) (s : MasterState) (handles : List (HandleKey × HandleState)) → FitsMessages sent s → FitsMessages sent (record s { handles = handles })
+known_fits sent s handles h = record { queue = h.queue; kept = h.kept; replies = h.replies; answers = h.answers; turns = h.turns }
 
 -- ---- the queue
 
@@ -630,7 +637,9 @@ module _ (sent : List Message) (s : MasterState) (front : List (Waiting Task)) (
           let r : MasterState = rest s front back in
           let t : MasterState = parted parting r asked.client in
           let puts = lapses_puts s (lapses_of parting s asked.client) in
-          let over = right_fits sent (record r { sessions = with_session r.sessions asked.client of_session.ended }) (of_rights.ended asked.client (ending_by parting) s.rights) (expired_fits sent r call_left asked.client) in
+          let over =
+          known_fits sent (record r { sessions = with_session r.sessions asked.client of_session.ended; rights = of_rights.ended asked.client (ending_by parting) s.rights }) (without_client s.handles asked.client)
+          (right_fits sent (record r { sessions = with_session r.sessions asked.client of_session.ended }) (of_rights.ended asked.client (ending_by parting) s.rights) (expired_fits sent r call_left asked.client)) in
           answered_by_fits sent (with_locks t puts) (locks_fit sent t over puts) asked.client reply its_reply none_left
 
 pub sweep_fits : (sent : List Message) (s : MasterState) (c : SweepCase s) → FitsMessages sent s → FitsMessages sent (swept_by s c).0
@@ -640,7 +649,9 @@ sweep_fits sent s (Expires client session due) h =
     let t = parted partings.Expiry s client in
     let puts = lapses_puts s (lapses_of partings.Expiry s client) in
     let replies = lapses_replies s (lapses_of partings.Expiry s client) in
-    let ended = right_fits sent (record s { sessions = with_session s.sessions client of_session.ended }) (of_rights.ended client endings.Expiry s.rights) (expired_fits sent s h client) in
+    let ended =
+    known_fits sent (record s { sessions = with_session s.sessions client of_session.ended; rights = of_rights.ended client endings.Expiry s.rights }) (without_client s.handles client)
+    (right_fits sent (record s { sessions = with_session s.sessions client of_session.ended }) (of_rights.ended client endings.Expiry s.rights) (expired_fits sent s h client)) in
     told_fits sent (with_locks t puts) replies (locks_fit sent t ended puts)
     (all_late sent s (with_locks t puts) replies h refl refl (λ q none. none) (lapses_late s (lapses_of partings.Expiry s client)))
 sweep_fits sent s (Reopens instance due) h =

@@ -1,7 +1,6 @@
 -- To each client, and of each name, what a message that the master takes is.
 use Rattle.std.proofs.Common.{◌≡◌, ℕ, ◌+◌, Bool, true, false, cond, List, [], ◌∷◌, ◌++◌, map, Option, Some, None, inl, inr, arith, refl, sym, ap, ◌∙◌, subst}
 use Rattle.std.specs.Prelude.{◌⊎◌, ◌==◌, ◌&&◌, ◌||◌, not, nat_le, ◌≤◌}
-use Rattle.std.specs.BTreeMap.{insert_entry}
 use Rattle.std.proofs.lemmas.Bool.Decides.{nat_tests}
 use Rattle.coherence.specs.Slice as one
 use Rattle.coherence.specs.Slice.{IsIn, Event, Receive, KeepReceipts, Acknowledge, GiveBack, Reached, Leads}
@@ -27,7 +26,7 @@ use Rattle.master_parts.specs.declared.handles.HandleNote.{HandleNote}
 use Rattle.master_parts.specs.declared.pending.Task.{Task}
 use Rattle.master_parts.specs.declared.pending.Task.TheVariants as tasks
 use Rattle.master_parts.specs.declared.pending.Work.TheVariants as works
-use Rattle.master_parts.specs.Keys.{handle_order}
+use Rattle.master_parts.specs.OpenHandles.{with_state}
 use Rattle.master_state.specs.State.{MasterState}
 use Rattle.master_state.specs.Lookups.{session_of, kept_of, noted, acknowledgement, repeated_reply, is_spent}
 use Rattle.master_state.specs.Updates.{with_note}
@@ -261,11 +260,11 @@ pub record IsHeardOf (w : WorldState) (s : MasterState) : Type 0 where
 module _ (c : ℕ) (x : List ℕ) (w : WorldState) (s : MasterState) (knows : IsKnown w s) (heard_of : IsHeardOf w s) where
   replies : (note : Option HandleNote) (client number : ℕ) (result : CallResult) → Comes c x w s (replied (with_note s note) client number result).0 (replied (with_note s note) client number result).1.outs
   replies None client number result = call_replied c x w s s.handles client number result
-  replies (Some note) client number result = call_replied c x w s (insert_entry handle_order s.handles note.key note.state) client number result
+  replies (Some note) client number result = call_replied c x w s (with_state s.handles note.key note.state) client number result
 
   queues : (note : Option HandleNote) (message : CallMessage) (touched : Option TouchedNames) → s.recovering ≡ false → Comes c x w s (waits (with_note s note) message touched).0 []
   queues None message touched serving = call_waits c x w s knows s.handles message touched serving
-  queues (Some note) message touched serving = call_waits c x w s knows (insert_entry handle_order s.handles note.key note.state) message touched serving
+  queues (Some note) message touched serving = call_waits c x w s knows (with_state s.handles note.key note.state) message touched serving
 
   cachable_here : (note : Option HandleNote) (client : ℕ) (name : List ℕ) → is_cachable (with_note s note) client name ≡ is_cachable s client name
   cachable_here None client name = refl
@@ -291,7 +290,7 @@ module _ (c : ℕ) (x : List ℕ) (w : WorldState) (s : MasterState) (knows : Is
 
       by_note : (o : Option HandleNote) → IsGranting w s message.client message.number message answer name → Comes c x w s (granting (with_note s o) message.client message.number answer name).0 (granting (with_note s o) message.client message.number answer name).1.outs
       by_note None g = call_granted w s knows s.handles message.client message.number message answer name g c x
-      by_note (Some put) g = call_granted w s knows (insert_entry handle_order s.handles put.key put.state) message.client message.number message answer name g c x
+      by_note (Some put) g = call_granted w s knows (with_state s.handles put.key put.state) message.client message.number message answer name g c x
 
   repeats : (client : ℕ) (kept : LastCall Reply) (o : Option Reply) → kept_of s client ≡ Some kept → kept.reply ≡ o → Comes c x w s s (repeated_reply o).outs
   repeats client kept None is replied_so = comes_unseen c x w s s [] refl refl refl refl refl refl refl refl

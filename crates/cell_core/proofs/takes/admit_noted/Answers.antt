@@ -1,13 +1,11 @@
-use Rattle.std.proofs.Common.{rules, Some, refl, sym, ap, ◌∙◌}
+use Rattle.std.proofs.Common.{◌≡◌, Some, sym, subst}
+use Rattle.std.specs.Prelude.{IfOk}
+use Rattle.master_parts.specs.declared.handles.HandleNote.{HandleNote}
+use Rattle.master_state.specs.Updates.{with_note}
 use Rattle.cell_core.specs.Step.{admit_step}
-use Rattle.cell_core.proofs.Notes.{noted}
 use Rattle.cell_core.proofs.takes.admit_noted.Goals as goal
 
-pub returns-in-Ok-clause-ok : goal.returns-in-Ok-clause-ok
-returns-in-Ok-clause-ok g c =
-    sym (ap (λ s. admit_step s c.args.message.now c.args.touched c.args.told c.args.answer) (noted _ c.args.master.now c.put_handle.new.self (Some c.args.note) c.args.note c.master.view_is refl c.in_ok-former.ensures.ok))
-    ∙ c.in-Ok.ensures.ok
-    ∙ ap (λ s. (s, g.A.Answers.answer c.in-Ok.taken)) (sym c.settle_note.ensures)
-
-pub returns-in-Err-clause-err : goal.returns-in-Err-clause-err
-returns-in-Err-clause-err g c = search rules
+pub returns-clause-ok : goal.returns-clause-ok
+returns-clause-ok g c =
+    let P : HandleNote → Type 0 = λ note. IfOk c.admit_known.result (λ taken. admit_step (with_note c.args.master.now (Some note)) c.args.message.now c.args.touched c.args.told c.args.answer ≡ (c.admit_known.new.master, g.A.Answers.answer taken)) in
+    subst P (sym c.parts-key.ensures) c.admit_known.ensures.ok

@@ -11,4 +11,4 @@ pub invariant_of-self : goal.invariant_of-self
 invariant_of-self c =
     let P : List (HandleKey × HandleState) → Type 0 = λ l. IsStrictlySortedBy handle_order (keys_of l) in
     let sorted : P c.self.inside.handles = search rules in
-    by_end c.self.inside.nodes c.self.inside.handles c.self.inside.queue c.self.inside.sessions c.expire.new.self c.self.inside.candidates c.wake_held.new.candidates c.args.client sorted c.expire.ensures c.wake_held.ensures.own c.wake_held.ensures.leads c.wake_held.ensures.kept c.self.invariant
+    by_end c.self.inside.nodes c.self.inside.handles c.forget_client.new.self c.self.inside.queue c.self.inside.sessions c.expire.new.self c.self.inside.candidates c.wake_held.new.candidates c.args.client sorted c.forget_client.ensures c.expire.ensures c.wake_held.ensures.own c.wake_held.ensures.leads c.wake_held.ensures.kept c.self.invariant
