@@ -25,7 +25,6 @@ pub use Rattle.lock_core.specs.Counted
 pub use Rattle.master_state.specs.Replies
 pub mod Step
 pub mod Names
-pub mod Asking
 pub mod Cases
 pub mod Ephemerals
 pub mod Effect

@@ -55,15 +55,15 @@ impl MemoryMaster {
     {
         let master = &mut self.master;
         let touched = TouchedNames::WithParent(idle.name.clone()?);
-        let asks = touched.to_ask(master)?;
+        let names = touched.names(master.alloc)?;
         match queue_idle(master, &touched, idle) {
             Ok(()) => {
-                ask(master, asks);
+                ask(master, names);
                 master.tables.pass(touched.name());
                 Ok(())
             }
             Err(error) => {
-                drop(asks);
+                drop(names);
                 Err(error)
             }
         }

@@ -413,14 +413,14 @@ fn wait_quietly(
     let Some(touched) = touched else {
         return queue_call(master, message, Items::new(master.alloc));
     };
-    let asks = touched.to_ask(master)?;
+    let names = touched.names(master.alloc)?;
     match queue_touching(master, message, &touched) {
         Ok(()) => {
-            ask(master, asks);
+            ask(master, names);
             Ok(())
         }
         Err(error) => {
-            drop(asks);
+            drop(names);
             Err(error)
         }
     }

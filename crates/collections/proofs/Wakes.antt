@@ -7,6 +7,7 @@ use Rattle.std.specs.BTreeMap.{is_at}
 use Rattle.std.specs.BTreeMap.Range.{IsLeBy}
 use Rattle.std.proofs.lemmas.Bool.Decides.{nat_tests}
 use Rattle.std.proofs.lemmas.List.Elements.{All-head, All-tail}
+use Rattle.collections.proofs.Keys.{at_itself}
 use Rattle.collections.specs.Timers.{TimerState, by_moment, never, has_key, has_moment, wakes, has_come}
 
 -- ---- keys and moments
@@ -84,6 +85,21 @@ of_view view now k m same h = ap (λ t. wakes t k m) same ∙ h
 pub kept_with : (lost : Bool) (soon : List ℕ) (later later' : List (ℕ × ℕ)) (now : TimerState) (found : ℕ × ℕ) → record { soon = soon; later = later; lost = lost } ≡ now → MomentUpdates found true later later' → (k m : ℕ) → wakes now k m ≡ true → wakes (record { soon = soon; later = later'; lost = lost }) k m ≡ true
 kept_with lost soon later later' now found same h k m old =
     both lost k m soon soon later later' (λ e. e) (moment_stays found k m later later' h) (of_view (record { soon = soon; later = later; lost = lost }) now k m same old)
+
+pub kept_with_key : (lost : Bool) (soon soon' : List ℕ) (later : List (ℕ × ℕ)) (now : TimerState) (key : ℕ) → record { soon = soon; later = later; lost = lost } ≡ now → KeyUpdates key true soon soon' → (k m : ℕ) → wakes now k m ≡ true → wakes (record { soon = soon'; later = later; lost = lost }) k m ≡ true
+kept_with_key lost soon soon' later now key same h k m old =
+    both lost k m soon soon' later later (key_stays key k soon soon' h) (λ e. e) (of_view (record { soon = soon; later = later; lost = lost }) now k m same old)
+
+shown : (lost late a b : Bool) → a ≡ true → (lost || (late || (a || b))) ≡ true
+shown true late a b h = refl
+shown false true a b h = refl
+shown false false true b h = refl
+shown false false false b h = absurd (cc)
+
+-- a key to look at is looked at from each moment on
+pub woken_now : (lost : Bool) (soon soon' : List ℕ) (later : List (ℕ × ℕ)) (key : ℕ) → KeyUpdates key true soon soon' → (m : ℕ) → wakes (record { soon = soon'; later = later; lost = lost }) key m ≡ true
+woken_now lost soon soon' later key h m =
+    shown lost (nat_le never m) (has_key soon' key) (has_moment later key m) (h key ∙ ap (λ b. cond b true (has_key soon key)) (at_itself key))
 
 pub kept_without_moment : (lost : Bool) (soon : List ℕ) (later later' : List (ℕ × ℕ)) (now : TimerState) (key moment : ℕ) → record { soon = soon; later = later; lost = lost } ≡ now → MomentUpdates (moment, key) false later later' → (k m : ℕ) → nat_eq k key ≡ false → wakes now k m ≡ true → wakes (record { soon = soon; later = later'; lost = lost }) k m ≡ true
 kept_without_moment lost soon later later' now key moment same h k m differs old =

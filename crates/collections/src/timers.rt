@@ -49,6 +49,28 @@ impl Timers {
         if moment == u64::MAX {
             return;
         }
+        if moment == 0 {
+            self.set_soon(key);
+        } else {
+            self.set_later(key, moment);
+        }
+    }
+
+    // A key may be due now.
+    fn set_soon(&mut self, key: u64)
+        ensures own { (m : ℕ) → wakes self.new key m ≡ true }
+        ensures kept { (k m : ℕ) → wakes self.old k m ≡ true → wakes self.new k m ≡ true }
+    {
+        match self.soon.insert(key) {
+            Ok(_) => {}
+            Err(_) => self.lost = true,
+        }
+    }
+
+    fn set_later(&mut self, key: u64, moment: u64)
+        ensures own { wakes self.new key moment ≡ true }
+        ensures kept { (k m : ℕ) → wakes self.old k m ≡ true → wakes self.new k m ≡ true }
+    {
         match self.later.insert((moment, key)) {
             Ok(_) => {}
             Err(_) => self.lost = true,
@@ -71,7 +93,9 @@ impl Timers {
     pub fn forget(&mut self, key: u64, moment: u64)
         ensures { (k m : ℕ) → nat_eq k key ≡ false → wakes self.old k m ≡ true → wakes self.new k m ≡ true }
     {
-        self.later.remove(&(moment, key));
+        if self.later.remove(&(moment, key)) {
+            return;
+        }
         self.soon.remove(&key);
     }
 

@@ -1,5 +1,5 @@
 //! The changes that wait, together with the rights that hold them up.
-ghost use Rattle.std.specs.Prelude.{◌≡◌, ℕ, ◌==◌, ◌&&◌, ◌||◌, not, false, List, [], Err, find, IfErr, OnOk, OnErr};
+ghost use Rattle.std.specs.Prelude.{◌≡◌, ℕ, ◌==◌, ◌&&◌, ◌||◌, not, false, List, [], Err, find, fold, IfErr, OnOk, OnErr};
 ghost use Rattle.std.specs.List.{list_any, list_all};
 ghost use Rattle.std.specs.Str.{bytes_eq};
 ghost use Rattle.std.specs.Option.{option_copied};
@@ -15,7 +15,7 @@ use crate::leads::Leads;
 use crate::pending::{Pending, all_free};
 use collections::Table;
 use names_cell::Name;
-use node_core::Fault;
+use node_core::{Fault, Issues};
 use rights_core::{Ending, Grant, Rights};
 use std::alloc::{AllocError, Global};
 use std::marker::Model;
@@ -106,13 +106,12 @@ impl<T> Queue<T> {
         self.rights.grant(client, name)
     }
 
-    /// Asks back the rights that are to be asked back for a name, by the table that `Rights::to_ask` made. Takes no
-    /// memory.
-    pub fn mark(&mut self, name: &Name, asked: &Table<u64, u64>)
-        requires { asked.now ≡ clients_to_ask name.now self.old.rights }
-        ensures { self.new ≡ record self.old { rights = asked_back name.now self.old.rights } }
+    /// Asks each client for a name that holds it and wasn't asked for it yet, as `Rights::ask_back` does. Takes no memory.
+    pub fn ask_back<I: Issues>(&mut self, name: &Name, issues: &mut I)
+        ensures asked { self.new ≡ record self.old { rights = asked_back name.now self.old.rights } }
+        ensures issued { issues.new ≡ fold I.issued issues.old (clients_to_ask name.now self.old.rights) }
     {
-        self.rights.mark(name, asked);
+        self.rights.ask_back(name, issues);
     }
 
     /// Ends the rights of a client that this ends, as `Rights::end` does. It never fails: where memory is wanting the next

@@ -27,7 +27,6 @@ use crate::tasks::Tasks;
 use crate::walks::{
     add_parent, candidates_of, forget_node, lose_node, note_node, wake_held, wake_open, wake_tidied,
 };
-use collections::Table;
 use event_core::BoxedEvent;
 use gate_core::{Pending, Queue};
 use names_cell::{Name, Principal};
@@ -380,13 +379,6 @@ impl Tables {
         self.sessions.tell(client, event);
     }
 
-    /// Each client of a table was issued the invalidations up to its number. Takes no memory.
-    pub fn issue_all(&mut self, asked: &Table<u64, u64>)
-        ensures { self.new ≡ record self.old { sessions = issued_by asked.now self.old.sessions } }
-    {
-        self.sessions.issue_all(asked);
-    }
-
     /// A moment, in milliseconds: which sessions may be due by then is found out.
     pub fn note_moment(&mut self, now: u64)
         ensures { self.new ≡ self.old }
@@ -450,12 +442,12 @@ impl Tables {
         self.queue.grant(client, name)
     }
 
-    /// Asks back the rights that are to be asked back for a name, by the table that `Rights::to_ask` made. Takes no memory.
-    pub fn mark(&mut self, name: &Name, asked: &Table<u64, u64>)
-        requires { asked.now ≡ clients_to_ask name.now self.old.queue.rights }
-        ensures { self.new ≡ record self.old { queue = record self.old.queue { rights = asked_back name.now self.old.queue.rights } } }
+    /// Asks each client for a name that holds it and wasn't asked for it yet: its session was issued one invalidation more.
+    /// It walks once over the clients that hold the name, and takes no memory that it can't do without.
+    pub fn ask_back(&mut self, name: &Name)
+        ensures { self.new ≡ record self.old { sessions = issued_by (clients_to_ask name.now self.old.queue.rights) self.old.sessions; queue = record self.old.queue { rights = asked_back name.now self.old.queue.rights } } }
     {
-        self.queue.mark(name, asked);
+        self.queue.ask_back(name, &mut self.sessions);
     }
 
     /// Ends the rights of a client that this ends. Takes no memory that it can't do without.

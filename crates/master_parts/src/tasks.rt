@@ -1,5 +1,5 @@
 //! The changes that wait, among which the deletion of a node is found.
-ghost use Rattle.std.specs.Prelude.{◌≡◌, ◌+◌, ◌-◌, true, false, ℕ, [], cond, Err, IfErr, OnOk, OnErr};
+ghost use Rattle.std.specs.Prelude.{◌≡◌, ◌+◌, ◌-◌, true, false, ℕ, [], cond, fold, Err, IfErr, OnOk, OnErr};
 ghost use Rattle.std.specs.List.{list_any};
 ghost use Rattle.collections.specs.Results.{Gives};
 ghost use Rattle.rights_core.specs.Rights.{grant_answer, is_new, granted, clients_to_ask, asked_back, ended};
@@ -13,7 +13,7 @@ use crate::walks::instance_tidied;
 use collections::Table;
 use gate_core::{Pending, Queue};
 use names_cell::Name;
-use node_core::Fault;
+use node_core::{Fault, Issues};
 use rights_core::{Ending, Grant};
 use std::alloc::Global;
 use std::marker::Model;
@@ -108,11 +108,11 @@ impl Tasks {
         self.queue.grant(client, name)
     }
 
-    pub(crate) fn mark(&mut self, name: &Name, asked: &Table<u64, u64>)
-        requires { asked.now ≡ clients_to_ask name.now self.old.rights }
-        ensures { self.new ≡ record self.old { rights = asked_back name.now self.old.rights } }
+    pub(crate) fn ask_back<I: Issues>(&mut self, name: &Name, issues: &mut I)
+        ensures asked { self.new ≡ record self.old { rights = asked_back name.now self.old.rights } }
+        ensures issued { issues.new ≡ fold I.issued issues.old (clients_to_ask name.now self.old.rights) }
     {
-        self.queue.mark(name, asked);
+        self.queue.ask_back(name, issues);
     }
 
     pub(crate) fn end(&mut self, client: u64, ending: Ending)

@@ -5,6 +5,7 @@ mod access;
 mod answers;
 mod events;
 mod faults;
+mod issues;
 mod kinds;
 mod laws;
 mod lines;
@@ -21,6 +22,7 @@ pub use access::permitted;
 pub use answers::Answer;
 pub use events::Event;
 pub use faults::NodeFault;
+pub use issues::Issues;
 pub use kinds::{Kind, Life, LockMode, Right};
 pub use laws::{
     after_changes_one_name, after_keeps_names_in_order, gone_node_is_absent,

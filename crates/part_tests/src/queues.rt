@@ -1,6 +1,6 @@
 //! The changes that wait beside the rights that hold them up: at each step the change that is ready is the one that a walk
 //! finds.
-use crate::rights::name;
+use crate::rights::{Last, name};
 use collections::Items;
 use gate_core::{Pending, Queue};
 use names_cell::Name;
@@ -36,10 +36,9 @@ fn push(queue: &mut Queue<u64>, alloc: Global, first: u64, second: u64) -> Resul
     Ok(())
 }
 
-fn ask_back(queue: &mut Queue<u64>, name: &Name) -> Result<(), Fail> {
-    let asked = queue.rights().to_ask(name)?;
-    queue.mark(name, &asked);
-    Ok(())
+fn ask_back(queue: &mut Queue<u64>, name: &Name) {
+    let mut last = Last { number: 0 };
+    queue.ask_back(name, &mut last);
 }
 
 fn grant(queue: &mut Queue<u64>, client: u64, name: &Name) -> Result<(), Fail> {
@@ -51,7 +50,7 @@ fn does(queue: &mut Queue<u64>, alloc: Global, step: Step) -> Result<(), Fail> {
     match step {
         Step::Grant(client, number) => return grant(queue, client, &name(alloc, number)?),
         Step::Push(first, second) => return push(queue, alloc, first, second),
-        Step::AskBack(number) => return ask_back(queue, &name(alloc, number)?),
+        Step::AskBack(number) => ask_back(queue, &name(alloc, number)?),
         Step::Acknowledge(client, upto) => queue.end(client, Ending::Acknowledgement(upto)),
         Step::Expire(client) => queue.end(client, Ending::Expiry),
         Step::Take(number) => drop(queue.take(number)),

@@ -2,7 +2,7 @@
 use collections::Items;
 use gate_core::{Gate, Pending};
 use names_cell::Name;
-use node_core::Fault;
+use node_core::{Fault, Issues};
 use rights_core::{Grant, Rights};
 use std::alloc::Global;
 use std::process::Abort;
@@ -13,11 +13,8 @@ use std::test::Fail;
 enum Step {
     /// A client asks for a right on a name.
     Grant(u64, u64),
-    /// So many clients are asked for a name.
+    /// Clients are asked for a name, the last one by the invalidation of this number; 0 where nobody is.
     AskBack(u64),
-    /// A client is asked for one name and then for another, by tables that were made before: the numbers of the two
-    /// invalidations.
-    AskBoth(u64, u64, u64),
     /// A client has so many invalidations still to acknowledge.
     Unacked(u64),
     /// A client acknowledges up to this number, and so many rights end.
@@ -34,7 +31,7 @@ enum Step {
 enum Answer {
     Right(Grant),
     Count(usize),
-    Numbers(Option<u64>, Option<u64>),
+    Number(u64),
     Totals([u64; 4]),
 }
 
@@ -44,21 +41,26 @@ pub(crate) fn name(alloc: Global, number: u64) -> Result<Name, Fail> {
     Ok(Name::parse(alloc, &text)?)
 }
 
-// The numbers of the invalidations by which a client is asked for one name and then for another.
-fn asked_both(
-    rights: &mut Rights,
-    client: u64,
-    first: &Name,
-    second: &Name,
-) -> Result<Answer, Fail> {
-    let asked = rights.to_ask(first)?;
-    let mut asked_next = rights.to_ask(second)?;
-    rights.mark(first, &asked);
-    rights.renumber(&mut asked_next);
-    Ok(Answer::Numbers(
-        asked.get(&client).copied(),
-        asked_next.get(&client).copied(),
-    ))
+/// The number that was issued last, or 0.
+#[derive(Drop)]
+pub(crate) struct Last {
+    pub number: u64,
+}
+
+impl Issues for Last {
+    ghost use Rattle.part_tests.specs.declared.rights.Last.{Last};
+
+    ghost issued = { λ last entry. record { number = entry.1 } };
+
+    fn issue_through(&mut self, _client: u64, number: u64) {
+        self.number = number;
+    }
+}
+
+fn ask_back(rights: &mut Rights, name: &Name) -> u64 {
+    let mut last = Last { number: 0 };
+    rights.ask_back(name, &mut last);
+    last.number
 }
 
 fn totals(rights: &Rights) -> Answer {
@@ -74,12 +76,7 @@ fn totals(rights: &Rights) -> Answer {
 fn does(rights: &mut Rights, alloc: Global, step: Step) -> Result<Answer, Fail> {
     Ok(match step {
         Step::Grant(client, number) => Answer::Right(rights.grant(client, &name(alloc, number)?)?),
-        Step::AskBack(number) => {
-            Answer::Count(rights.ask_back(&name(alloc, number)?)?.as_map().len())
-        }
-        Step::AskBoth(client, first, second) => {
-            asked_both(rights, client, &name(alloc, first)?, &name(alloc, second)?)?
-        }
+        Step::AskBack(number) => Answer::Number(ask_back(rights, &name(alloc, number)?)),
         Step::Unacked(client) => Answer::Count(rights.unacked(client)?.as_map().len()),
         Step::Acknowledge(client, upto) => Answer::Count(rights.acknowledge(client, upto)?.len()),
         Step::Expire(client) => Answer::Count(rights.expire(client)?.len()),
@@ -107,8 +104,9 @@ const STEPS: &[(Step, Answer)] = &[
     (Step::Grant(1, 2), Answer::Right(Grant::Granted(3))),
     (Step::HeldOn(1), Answer::Count(2)),
     (Step::Unacked(1), Answer::Count(0)),
-    (Step::AskBack(1), Answer::Count(2)),
-    (Step::AskBack(1), Answer::Count(0)),
+    (Step::AskBack(1), Answer::Number(1)),
+    (Step::Unacked(2), Answer::Count(1)),
+    (Step::AskBack(1), Answer::Number(0)),
     (Step::Grant(1, 1), Answer::Right(Grant::Already(1))),
     (Step::Unacked(1), Answer::Count(1)),
     (Step::Acknowledge(1, 0), Answer::Count(0)),
@@ -116,7 +114,7 @@ const STEPS: &[(Step, Answer)] = &[
     (Step::Acknowledge(1, 1), Answer::Count(0)),
     (Step::HeldOn(1), Answer::Count(1)),
     (Step::Grant(1, 1), Answer::Right(Grant::Granted(4))),
-    (Step::AskBack(1), Answer::Count(1)),
+    (Step::AskBack(1), Answer::Number(2)),
     (Step::Acknowledge(1, 1), Answer::Count(0)),
     (Step::Expire(2), Answer::Count(1)),
     (Step::Expire(2), Answer::Count(0)),
@@ -125,8 +123,9 @@ const STEPS: &[(Step, Answer)] = &[
     (Step::Totals, Answer::Totals([4, 1, 2, 1])),
     (Step::Grant(3, 3), Answer::Right(Grant::Granted(5))),
     (Step::Grant(3, 4), Answer::Right(Grant::Granted(6))),
-    (Step::AskBoth(3, 3, 4), Answer::Numbers(Some(1), Some(2))),
-    (Step::Unacked(3), Answer::Count(1)),
+    (Step::AskBack(3), Answer::Number(1)),
+    (Step::AskBack(4), Answer::Number(2)),
+    (Step::Unacked(3), Answer::Count(2)),
 ];
 
 // So many clients are granted a name.
