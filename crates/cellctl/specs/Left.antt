@@ -46,10 +46,22 @@ module _ {D : Type 0} {g : disk.Ghosts D} where
     pub led : Leads first last
     pub left : IsClean (view store) → (db : Trees) → recovers store db → IsLeft last.may_leave db
 
+  -- the store was taken over, and nothing was done
+  abbrev pub IsGivenBack : Settled → Held (FileStore D g) → FileStore D g → Type 0
+  IsGivenBack settings conn store = IsLeftOpen settings (file_state conn) (λ first last. last ≡ first) store
+
+  -- the store wasn't taken over; or it is that of another cell, and nothing was done
+  abbrev pub IsUntaken : Settled → Held (FileStore D g) → Unclosed D g → Type 0
+  IsUntaken settings conn (unclosed.Unopened error left) = ⊥
+  IsUntaken settings conn (unclosed.Refused fault store) = IsNotTaken settings conn fault store
+  IsUntaken settings conn (unclosed.Other store) = IsGivenBack settings conn store
+  IsUntaken settings conn (unclosed.Open status error store) = ⊥
+
   -- over a connection
   abbrev pub LeavesOver : Settled → Held (FileStore D g) → (ℕ → Store → Store → Type 0) → Known → Known → Unclosed D g → Type 0
   LeavesOver settings conn Leads before after (unclosed.Unopened error left) = ⊥
   LeavesOver settings conn Leads before after (unclosed.Refused fault store) = IsNotTaken settings conn fault store × (after ≡ before)
+  LeavesOver settings conn Leads before after (unclosed.Other store) = IsGivenBack settings conn store × (after ≡ before)
   LeavesOver settings conn Leads before after (unclosed.Open status error store) = IsLeftOpen settings (file_state conn) (Leads status) store
 
   -- over the files of a path, which held this

@@ -1,180 +1,116 @@
-//! What is seen to before a store is taken over: a file that isn't there is made for its owner alone, and of one that is there it
-//! is seen whose it is.
-ghost use Rattle.std.specs.Prelude.{IfErr};
-ghost use Rattle.cellctl.specs.Exits.{IsExit, IsShut};
+//! What is seen to as a store is taken over: a file that isn't there is made for its owner alone, and of the rows it is seen whose they
+//! are.
+ghost use Rattle.std.specs.Prelude.{◌≡◌, IfOk, IfErr};
+ghost use Rattle.sqlite_store.specs.FileStore.{view, recovers};
+ghost use Rattle.sqlite_trees.specs.View.{IsClean};
+ghost use Rattle.sqlite.specs.Files.{file_state};
+ghost use Rattle.rows_sql.specs.Keeping.{IsLeft};
+ghost use Rattle.cellctl.specs.Left.{IsUntaken};
+ghost use Rattle.cellctl.specs.Taken.{IsAdopted};
 
 use crate::findings::tell_other_cell;
-use crate::looks::{FoundRow, content_of, seen_in};
+use crate::runs::Unclosed;
 use crate::settings::Chosen;
-use crate::stores::remove_empty;
 use crate::texts::{KNOWN_SECRET, OTHER_PRINCIPALS};
-use sqlite::{Alter, Connection};
-use sqlite_disk::Unknown;
+use names_cell::Name;
+use rows_cell::Rows;
+use rows_sql::SqlRecords;
+use sqlite::{Connection, FileStore};
+use sqlite_disk::Disk;
+use std::alloc::Global;
 use std::fs::OpenOptions;
 use std::os::unix::fs::OpenOptionsExt;
 
 /// What a file of a store lets others do: nothing.
 const OWN: u32 = 0o600;
 
-/// Makes the file of a new store, which its owner alone may read and write, and answers whether it did. Where that can't be done,
-/// opening the store says why.
-pub(crate) fn make_file(rt: &HostRuntime, path: &str) -> bool {
+/// Makes the file of a new store, which its owner alone may read and write. Where that can't be done, opening the store says why.
+pub(crate) fn make_file(rt: &HostRuntime, path: &str) {
     let mut options = OpenOptions::new();
     options.write(true).create_new(true).mode(OWN);
-    match options.open(rt, path) {
-        Ok(file) => {
-            drop(file);
-            true
-        }
-        Err(_) => false,
+    if let Ok(file) = options.open(rt, path) {
+        drop(file);
     }
 }
 
-/// Makes the file of a new store, and warns where it will have the secret that everybody knows.
-pub(crate) fn make_warned(rt: &HostRuntime, chosen: &Chosen, path: &str) {
-    let is_made = make_file(rt, path);
-    warn_of_secret(rt, path, is_made && has_known_secret(chosen));
+/// Takes the store of a connection over. That of another cell is refused, and nothing is done over it: the words of it go to the
+/// standard error. With `warns`, so do those of a secret that everybody knows, and of principals that aren't those of the settings.
+pub(crate) fn take_over<D: Disk + Drop>(
+    rt: &HostRuntime,
+    chosen: &Chosen,
+    path: &str,
+    conn: Connection<FileStore<D>>,
+    warns: bool,
+) -> Result<SqlRecords<FileStore<D>>, Unclosed<D>>
+    ensures ok { IfOk result (λ records. IsAdopted chosen.now.settings (file_state conn) records) }
+    ensures err { IfErr result (λ unclosed. IsUntaken chosen.now.settings conn unclosed) }
+{
+    let records = match SqlRecords::adopt(rt.alloc(), conn, &chosen.settings) {
+        Ok(records) => records,
+        Err((fault, store)) => return Err(Unclosed::Refused(fault, store)),
+    };
+    if is_ours(rt, chosen, path, records.first_rows(), warns) {
+        return Ok(records);
+    }
+    Err(Unclosed::Other(given_back(records)))
 }
 
-fn has_known_secret(chosen: &Chosen) -> bool {
-    let secret = chosen.settings.secret().as_bytes();
-    secret.iter().all(|byte| *byte == 0)
+// The store of records over which nothing was done.
+fn given_back<D: Disk + Drop>(records: SqlRecords<FileStore<D>>) -> FileStore<D>
+    ensures sure { IsClean (view result) → records.doubt ≡ 0 }
+    ensures left { IsClean (view result) → (db : _) → recovers result db → IsLeft records.may_leave db }
+{
+    records.release().into_store()
 }
 
-fn warn_of_secret(rt: &HostRuntime, path: &str, is_known: bool) {
-    if is_known {
+// Whether rows are those of the cell of the settings. If they aren't, it is told.
+fn is_ours(
+    rt: &HostRuntime,
+    chosen: &Chosen,
+    path: &str,
+    rows: Option<&Rows>,
+    warns: bool,
+) -> bool {
+    let Some(rows) = rows else {
+        return true;
+    };
+    let cell = chosen.settings.cell();
+    let theirs = rows.cell.as_str();
+    if theirs != cell.as_str() {
+        let _ = tell_other_cell(rt, cell, path, theirs);
+        return false;
+    }
+    if warns {
+        warn_of_secret(rt, path, rows);
+        warn_of_principals(rt, chosen, path, rows);
+    }
+    true
+}
+
+fn warn_of_secret(rt: &HostRuntime, path: &str, rows: &Rows) {
+    let secret = rows.secret.as_bytes();
+    if secret.iter().all(|byte| *byte == 0) {
         let _ = eprintln!(rt; "cellctl: warning: the store {path}: {KNOWN_SECRET}");
     }
 }
 
-/// Looks at the store in a file that is there, which is left as it is. That of another cell is refused: the words of it go to the
-/// standard error, and the answer is the exit status. Of a secret that everybody knows, and of principals that aren't those of the
-/// settings, it warns.
-pub(crate) fn admit(rt: &HostRuntime, chosen: &Chosen, path: &str, log: &str) -> Result<(), u8>
-    ensures exit { IfErr result IsExit }
-    ensures shut { IfErr result IsShut }
-{
-    admit_as(rt, chosen, path, log, true)
-}
-
-/// The same of a store whose frames are served: it warns of nothing.
-pub(crate) fn admit_served(
-    rt: &HostRuntime,
-    chosen: &Chosen,
-    path: &str,
-    log: &str,
-) -> Result<(), u8>
-    ensures exit { IfErr result IsExit }
-    ensures shut { IfErr result IsShut }
-{
-    admit_as(rt, chosen, path, log, false)
-}
-
-fn admit_as(rt: &HostRuntime, chosen: &Chosen, path: &str, log: &str, warns: bool) -> Result<(), u8>
-    ensures exit { IfErr result IsExit }
-    ensures shut { IfErr result IsShut }
-{
-    match Connection::open_from(rt, path, false, Unknown) {
-        Ok(mut conn) => {
-            let admitted = admit_open(rt, chosen, path, &mut conn, warns);
-            let store = conn.into_store();
-            if admitted.is_err() {
-                remove_empty(rt, log);
-            }
-            drop(store);
-            admitted
-        }
-        Err((_error, left)) => {
-            drop(left);
-            Ok(())
-        }
-    }
-}
-
-fn admit_open<S: Alter>(
-    rt: &HostRuntime,
-    chosen: &Chosen,
-    path: &str,
-    conn: &mut Connection<S>,
-    warns: bool,
-) -> Result<(), u8>
-    ensures exit { IfErr result IsExit }
-    ensures shut { IfErr result IsShut }
-{
-    if warns {
-        admit_warned(rt, chosen, path, conn)
-    } else {
-        admit_quietly(rt, chosen, path, conn)
-    }
-}
-
-fn admit_warned<S: Alter>(
-    rt: &HostRuntime,
-    chosen: &Chosen,
-    path: &str,
-    conn: &mut Connection<S>,
-) -> Result<(), u8>
-    ensures exit { IfErr result IsExit }
-    ensures shut { IfErr result IsShut }
-{
-    match seen_in(rt.alloc(), conn) {
-        Some(seen) => {
-            admit_seen(rt, chosen, path, &seen)?;
-            warn_of_secret(rt, path, seen.has_known_secret);
-            warn_of_principals(rt, chosen, path, conn);
-        }
-        None => {
-            let is_new = conn.schema().tables.len() == 0;
-            warn_of_secret(rt, path, is_new && has_known_secret(chosen));
-        }
-    }
-    Ok(())
-}
-
-fn admit_quietly<S: Alter>(
-    rt: &HostRuntime,
-    chosen: &Chosen,
-    path: &str,
-    conn: &mut Connection<S>,
-) -> Result<(), u8>
-    ensures exit { IfErr result IsExit }
-    ensures shut { IfErr result IsShut }
-{
-    match seen_in(rt.alloc(), conn) {
-        Some(seen) => admit_seen(rt, chosen, path, &seen),
-        None => Ok(()),
-    }
-}
-
-fn admit_seen(rt: &HostRuntime, chosen: &Chosen, path: &str, seen: &FoundRow) -> Result<(), u8>
-    ensures exit { IfErr result IsExit }
-    ensures shut { IfErr result IsShut }
-{
-    let cell = chosen.settings.cell();
-    let theirs = seen.cell.as_str();
-    if theirs == cell.as_str() {
-        return Ok(());
-    }
-    Err(tell_other_cell(rt, cell, path, theirs))
-}
-
 // Where there is no memory to compare them, nothing is said.
-fn warn_of_principals<S: Alter>(
-    rt: &HostRuntime,
-    chosen: &Chosen,
-    path: &str,
-    conn: &mut Connection<S>,
-) {
-    if !chosen.says_principals {
-        return;
+fn warn_of_principals(rt: &HostRuntime, chosen: &Chosen, path: &str, rows: &Rows) {
+    if chosen.says_principals && has_other_base(rt.alloc(), chosen, rows) {
+        let _ = eprintln!(rt; "cellctl: warning: the store {path}: {OTHER_PRINCIPALS}");
     }
+}
+
+fn has_other_base(alloc: Global, chosen: &Chosen, rows: &Rows) -> bool {
     let cell = chosen.settings.cell().as_str();
-    let Ok(name) = format!(in rt.alloc(); "/ls/{cell}/acl/base") else {
-        return;
+    let Ok(text) = format!(in alloc; "/ls/{cell}/acl/base") else {
+        return false;
     };
-    if let Some(content) = content_of(conn, name.as_str()) {
-        if content.as_slice() != chosen.settings.base().as_slice() {
-            let _ = eprintln!(rt; "cellctl: warning: the store {path}: {OTHER_PRINCIPALS}");
-        }
+    let Ok(name) = Name::parse(alloc, text.as_str()) else {
+        return false;
+    };
+    match rows.nodes.get(&name) {
+        Some(stored) => stored.node.content.as_slice() != chosen.settings.base().as_slice(),
+        None => false,
     }
 }

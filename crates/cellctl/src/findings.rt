@@ -2,7 +2,7 @@
 ghost use Rattle.cellctl.specs.Exits.{IsExit, IsShut};
 
 use crate::check::has_journal;
-use crate::looks::{Foreign, FoundRow, foreign_in, open_bytes, seen_in};
+use crate::looks::{Foreign, cell_in, foreign_in, open_bytes};
 use crate::texts::{FOREIGN, OTHER_CELL, Trouble};
 use crate::troubles::{TroubleSubject, tell, trouble_of};
 use names_cell::Component;
@@ -122,7 +122,7 @@ fn found_in(alloc: Global, cell: &Component, database: &[u8], log: &[u8]) -> Fin
     match open_bytes(alloc, database, log) {
         Ok(mut conn) => match foreign_in(alloc, &conn) {
             Ok(Some(foreign)) => Finding::Foreign(foreign),
-            Ok(None) => whose(cell, seen_in(alloc, &mut conn)),
+            Ok(None) => whose(cell, cell_in(alloc, &mut conn)),
             Err(_) => Finding::Plain(Trouble::NoMemory),
         },
         Err(error) => Finding::Plain(content_trouble(database, &error)),
@@ -130,14 +130,10 @@ fn found_in(alloc: Global, cell: &Component, database: &[u8], log: &[u8]) -> Fin
 }
 
 // The tables are those of a store: it is another cell's, or a row breaks a rule.
-fn whose(cell: &Component, seen: Option<FoundRow>) -> Finding {
-    let Some(seen) = seen else {
+fn whose(cell: &Component, theirs: Option<String>) -> Finding {
+    let Some(theirs) = theirs else {
         return Finding::Plain(Trouble::DamagedRow);
     };
-    let FoundRow {
-        cell: theirs,
-        has_known_secret: _,
-    } = seen;
     if theirs.as_str() == cell.as_str() {
         return Finding::Plain(Trouble::DamagedRow);
     }

@@ -3,7 +3,7 @@ ghost use Rattle.std.specs.Prelude.{◌≡◌, IfOk, IsTrue};
 ghost use Rattle.sqlite_disk.specs.Memory.{memory_bytes, memory_is_usable};
 
 use rows_sql::version_of;
-use sqlite::{Alter, Connection, Error, ErrorCode, FileStore, Files, Options, params};
+use sqlite::{Alter, Connection, Error, ErrorCode, FileStore, Files, Options};
 use sqlite_disk::{Disk, Memory};
 use sqlite_schema::schema::{Column, Schema, Table};
 use std::alloc::{AllocError, Global};
@@ -48,15 +48,6 @@ const TABLES: &[(&[u8], &[&[u8]])] = &[
     (b"children", &[b"parent", b"child"]),
 ];
 
-/// What the row of the cell says of a store.
-#[derive(Drop)]
-pub(crate) struct FoundRow {
-    /// The cell's name.
-    pub(crate) cell: String,
-    /// Whether its secret is the one that everybody knows.
-    pub(crate) has_known_secret: bool,
-}
-
 /// What in a database is no store's.
 #[derive(Drop)]
 pub(crate) enum Foreign {
@@ -70,18 +61,13 @@ pub(crate) enum Foreign {
     Otherwise,
 }
 
-/// What the row of the cell says, where the database is a store.
-pub(crate) fn seen_in<S: Alter>(alloc: Global, conn: &mut Connection<S>) -> Option<FoundRow> {
+/// The name of the cell, where the database is a store.
+pub(crate) fn cell_in<S: Alter>(alloc: Global, conn: &mut Connection<S>) -> Option<String> {
     if !is_store(alloc, conn) {
         return None;
     }
-    let row = conn.query_row("SELECT cell, secret FROM meta", &[]).ok()?;
-    let cell: String = row.get(0).ok()?;
-    let secret: Vec<u8> = row.get(1).ok()?;
-    Some(FoundRow {
-        cell,
-        has_known_secret: secret.iter().all(|byte| *byte == 0),
-    })
+    let row = conn.query_row("SELECT cell FROM meta", &[]).ok()?;
+    row.get(0).ok()
 }
 
 fn is_store<S: Alter>(alloc: Global, conn: &Connection<S>) -> bool {
@@ -89,14 +75,6 @@ fn is_store<S: Alter>(alloc: Global, conn: &Connection<S>) -> bool {
         Ok(version) => version.is_some(),
         Err(_) => false,
     }
-}
-
-/// The content of a node, where there is one of this name.
-pub(crate) fn content_of<S: Alter>(conn: &mut Connection<S>, name: &str) -> Option<Vec<u8>> {
-    let row = conn
-        .query_row("SELECT content FROM nodes WHERE name = ?1", params![name])
-        .ok()?;
-    row.get(0).ok()
 }
 
 /// What in a database is no store's; nothing where its tables are those of one.

@@ -14,6 +14,8 @@ ghost use Rattle.cellctl.specs.Led.{ScriptLeads, LedOn};
 ghost use Rattle.cellctl.specs.Left.{LeavesOver, LeavesAt};
 ghost use Rattle.cellctl.specs.Taken.{IsAdopted, IsTakenFrom};
 
+use crate::admission::take_over;
+use crate::settings::Chosen;
 use rows_cell::{Settings, StoreFault};
 use rows_sql::{OrderedStore, SqlRecords};
 use scripts::script_on;
@@ -39,6 +41,8 @@ pub(crate) enum Unclosed<D: Disk> {
     Unopened(Error, Option<Leftover<D>>),
     /// The store isn't taken over.
     Refused(StoreFault, FileStore<D>),
+    /// It is that of another cell, which was told.
+    Other(FileStore<D>),
     /// What was to be done over it ended with this status, and it can't be closed.
     Open(u8, Error, FileStore<D>),
 }
@@ -47,40 +51,41 @@ pub(crate) enum Unclosed<D: Disk> {
 /// says, of what the files held. `S` stands for that, and no code can read it; so this is said of all contents.
 pub(crate) fn run_path<S: Start, I: Read + Drop, W: Write, E: Write + Drop>(
     rt: &HostRuntime,
-    settings: &Settings,
+    chosen: &Chosen,
     path: &str,
     start: S,
     script: Script<I, E>,
     writer: &mut W,
 ) -> Result<(u8, Files<FileFrom<S>>), Unclosed<FileFrom<S>>>
-    ensures closed { IfOk result (λ r. AreClean ⟦<FileFrom<S> as Disk>⟧ r.1.log r.1.db → RanAt ⟦<FileFrom<S> as Disk>⟧ settings.now (image_at S.Start) (I.remaining script.reader) r.0 r.1 (W.contents writer.old) (W.contents writer.new)) }
+    ensures closed { IfOk result (λ r. AreClean ⟦<FileFrom<S> as Disk>⟧ r.1.log r.1.db → RanAt ⟦<FileFrom<S> as Disk>⟧ chosen.now.settings (image_at S.Start) (I.remaining script.reader) r.0 r.1 (W.contents writer.old) (W.contents writer.new)) }
     // And whatever the disk did: it was run, over what the files are taken over as.
-    ensures ran { IfOk result (λ r. LedOn (IsTakenFrom settings.now (image_at S.Start)) (ScriptLeads (terms_of settings.now) (I.remaining script.reader) (W.contents writer.old) (W.contents writer.new) r.0)) }
-    ensures left { IfErr result (LeavesAt settings.now (image_at S.Start) (ScriptLeads (terms_of settings.now) (I.remaining script.reader) (W.contents writer.old) (W.contents writer.new)) (W.contents writer.old) (W.contents writer.new)) }
+    ensures ran { IfOk result (λ r. LedOn (IsTakenFrom chosen.now.settings (image_at S.Start)) (ScriptLeads (terms_of chosen.now.settings) (I.remaining script.reader) (W.contents writer.old) (W.contents writer.new) r.0)) }
+    ensures left { IfErr result (LeavesAt chosen.now.settings (image_at S.Start) (ScriptLeads (terms_of chosen.now.settings) (I.remaining script.reader) (W.contents writer.old) (W.contents writer.new)) (W.contents writer.old) (W.contents writer.new)) }
     ensures status { IfOk result (λ r. IsStatus r.0) }
 {
     match Connection::open_from(rt, path, false, start) {
-        Ok(conn) => run_files(rt.alloc(), settings, conn, script, writer),
+        Ok(conn) => run_files(rt, chosen, path, conn, script, writer),
         Err((error, left)) => Err(Unclosed::Unopened(error, left)),
     }
 }
 
-/// Runs a script over the store of a connection, and closes it, whatever its status: so its rows stand in the database
-/// file alone, and the log may be removed.
+/// Runs a script over the store of a connection, if it is that of the cell of the settings, and closes it, whatever its status:
+/// so its rows stand in the database file alone, and the log may be removed.
 pub(crate) fn run_files<D: Disk + Drop, I: Read + Drop, W: Write, E: Write + Drop>(
-    alloc: Global,
-    settings: &Settings,
+    rt: &HostRuntime,
+    chosen: &Chosen,
+    path: &str,
     conn: Connection<FileStore<D>>,
     script: Script<I, E>,
     writer: &mut W,
 ) -> Result<(u8, Files<D>), Unclosed<D>>
     // Where nobody else wrote the files, and the disk gave back what was written: it led from the rows that they had to
     // those that they have, and the laws of runs hold of it.
-    ensures closed { IfOk result (λ r. AreClean D.Disk r.1.log r.1.db → RanOver D.Disk settings.now (file_state conn) (I.remaining script.reader) r.0 r.1 (W.contents writer.old) (W.contents writer.new)) }
+    ensures closed { IfOk result (λ r. AreClean D.Disk r.1.log r.1.db → RanOver D.Disk chosen.now.settings (file_state conn) (I.remaining script.reader) r.0 r.1 (W.contents writer.old) (W.contents writer.new)) }
     // And whatever the disk did: it was run, over what the connection is taken over as.
-    ensures ran { IfOk result (λ r. LedOn (IsAdopted settings.now (file_state conn)) (ScriptLeads (terms_of settings.now) (I.remaining script.reader) (W.contents writer.old) (W.contents writer.new) r.0)) }
+    ensures ran { IfOk result (λ r. LedOn (IsAdopted chosen.now.settings (file_state conn)) (ScriptLeads (terms_of chosen.now.settings) (I.remaining script.reader) (W.contents writer.old) (W.contents writer.new) r.0)) }
     // Else it is said what a crash leaves.
-    ensures left { IfErr result (LeavesOver settings.now conn (ScriptLeads (terms_of settings.now) (I.remaining script.reader) (W.contents writer.old) (W.contents writer.new)) (W.contents writer.old) (W.contents writer.new)) }
+    ensures left { IfErr result (LeavesOver chosen.now.settings conn (ScriptLeads (terms_of chosen.now.settings) (I.remaining script.reader) (W.contents writer.old) (W.contents writer.new)) (W.contents writer.old) (W.contents writer.new)) }
     ensures status { IfOk result (λ r. IsStatus r.0) }
 {
     let Script {
@@ -88,12 +93,12 @@ pub(crate) fn run_files<D: Disk + Drop, I: Read + Drop, W: Write, E: Write + Dro
         errors,
         is_traced,
     } = script;
-    let records = match SqlRecords::adopt(alloc, conn, settings) {
+    let records = match take_over(rt, chosen, path, conn, true) {
         Ok(records) => records,
-        Err((fault, store)) => return Err(Unclosed::Refused(fault, store)),
+        Err(unclosed) => return Err(unclosed),
     };
-    let mut world = World::new(alloc, records, settings);
-    let status = script_on(alloc, &mut world, reader, writer, errors, is_traced);
+    let mut world = World::new(rt.alloc(), records, &chosen.settings);
+    let status = script_on(rt.alloc(), &mut world, reader, writer, errors, is_traced);
     match world.close().close() {
         Ok(files) => Ok((status, files)),
         Err((error, store)) => Err(Unclosed::Open(status, error, store)),

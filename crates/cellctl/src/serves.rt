@@ -10,14 +10,13 @@ ghost use Rattle.cellctl.specs.Led.{served_status, group_terms, EndsServing, Fra
 ghost use Rattle.cellctl.specs.Left.{LeavesOver, LeavesAt};
 ghost use Rattle.cellctl.specs.Taken.{IsAdopted, IsTakenFrom};
 
-use crate::admission::{admit_served, make_file};
+use crate::admission::{make_file, take_over};
 use crate::runs::Unclosed;
 use crate::settings::{Chosen, settings};
 use crate::stores::{left_open, tell_unfound};
 use anyhow::{Context, Result};
 use hosting::{GroupLimits, GroupStop, GroupTerms, HostedMaster, StreamStop, serve_groups};
 use rows_cell::{Records, Settings};
-use rows_sql::SqlRecords;
 use sqlite::{Connection, FileStore, Files};
 use sqlite_disk::{Disk, Start};
 use sqlite_std_file::FileFrom;
@@ -76,35 +75,14 @@ fn serve_at<S: Start, I: Read + Drop, W: Write>(
     ensures none { OnErr result (W.contents writer.new ≡ W.contents writer.old) }
 {
     match fs::canonicalize(rt, path) {
-        Ok(real) => serve_there(rt, chosen, real.as_str(), start, limits, reader, writer),
+        Ok(real) => serve_real(rt, chosen, real.as_str(), start, limits, reader, writer),
         Err(error) => match error.kind() {
             io::ErrorKind::NotFound => {
-                let _ = make_file(rt, path);
+                make_file(rt, path);
                 serve_real(rt, chosen, path, start, limits, reader, writer)
             }
             kind => Ok(tell_unfound(rt, path, kind)),
         },
-    }
-}
-
-// Looks whose the store is, before it is taken over.
-fn serve_there<S: Start, I: Read + Drop, W: Write>(
-    rt: &HostRuntime,
-    chosen: &Chosen,
-    path: &str,
-    start: S,
-    limits: GroupLimits,
-    reader: I,
-    writer: &mut W,
-) -> Result<u8>
-    ensures exit { IfOk result IsExit }
-    ensures served { IfOk result (λ status. EndsFrames (IsTakenFrom chosen.now.settings (image_at S.Start)) (group_terms limits chosen.now.settings) (I.remaining reader) status (W.contents writer.old) (W.contents writer.new)) }
-    ensures none { OnErr result (W.contents writer.new ≡ W.contents writer.old) }
-{
-    let log = format!(in rt.alloc(); "{path}-wal").context("naming the log")?;
-    match admit_served(rt, chosen, path, log.as_str()) {
-        Ok(()) => serve_real(rt, chosen, path, start, limits, reader, writer),
-        Err(status) => Ok(status),
     }
 }
 
@@ -128,7 +106,7 @@ fn serve_real<S: Start, I: Read + Drop, W: Write>(
         errors: rt.stderr(),
         limits,
     };
-    match serve_file(rt, &chosen.settings, path, start, frames, writer) {
+    match serve_file(rt, chosen, path, start, frames, writer) {
         Ok((status, files)) => {
             let _ = fs::remove_file(rt, log.as_str());
             drop(files);
@@ -142,47 +120,54 @@ fn serve_real<S: Start, I: Read + Drop, W: Write>(
 /// `serve_store` says, of what the files held. `S` stands for that, as in `run_path`.
 fn serve_file<S: Start, I: Read + Drop, W: Write, E: Write + Drop>(
     rt: &HostRuntime,
-    settings: &Settings,
+    chosen: &Chosen,
     path: &str,
     start: S,
     frames: Frames<I, E>,
     writer: &mut W,
 ) -> Result<(u8, Files<FileFrom<S>>), Unclosed<FileFrom<S>>>
-    ensures closed { IfOk result (λ r. AreClean ⟦<FileFrom<S> as Disk>⟧ r.1.log r.1.db → ServedAt ⟦<FileFrom<S> as Disk>⟧ settings.now frames.limits (image_at S.Start) (I.remaining frames.reader) r.0 r.1 (W.contents writer.old) (W.contents writer.new)) }
+    ensures closed { IfOk result (λ r. AreClean ⟦<FileFrom<S> as Disk>⟧ r.1.log r.1.db → ServedAt ⟦<FileFrom<S> as Disk>⟧ chosen.now.settings frames.limits (image_at S.Start) (I.remaining frames.reader) r.0 r.1 (W.contents writer.old) (W.contents writer.new)) }
     // And whatever the disk did: they were served.
-    ensures served { IfOk result (λ r. LedOn (IsTakenFrom settings.now (image_at S.Start)) (FramesLead (group_terms frames.limits settings.now) (I.remaining frames.reader) (W.contents writer.old) (W.contents writer.new) r.0)) }
-    ensures left { IfErr result (LeavesAt settings.now (image_at S.Start) (FramesLead (group_terms frames.limits settings.now) (I.remaining frames.reader) (W.contents writer.old) (W.contents writer.new)) (W.contents writer.old) (W.contents writer.new)) }
+    ensures served { IfOk result (λ r. LedOn (IsTakenFrom chosen.now.settings (image_at S.Start)) (FramesLead (group_terms frames.limits chosen.now.settings) (I.remaining frames.reader) (W.contents writer.old) (W.contents writer.new) r.0)) }
+    ensures left { IfErr result (LeavesAt chosen.now.settings (image_at S.Start) (FramesLead (group_terms frames.limits chosen.now.settings) (I.remaining frames.reader) (W.contents writer.old) (W.contents writer.new)) (W.contents writer.old) (W.contents writer.new)) }
     ensures status { IfOk result (λ r. IsExit r.0) }
 {
     match Connection::open_from(rt, path, false, start) {
-        Ok(conn) => serve_store(rt.alloc(), settings, conn, frames, writer),
+        Ok(conn) => serve_store(rt, chosen, path, conn, frames, writer),
         Err((error, left)) => Err(Unclosed::Unopened(error, left)),
     }
 }
 
-/// Takes the store of a connection over, answers all frames, gives the status after the last one, and closes the store, whatever
-/// that is: so its rows stand in the database file alone.
+/// Takes the store of a connection over, if it is that of the cell of the settings, answers all frames, gives the status after the
+/// last one, and closes the store, whatever that is: so its rows stand in the database file alone.
 fn serve_store<D: Disk + Drop, I: Read + Drop, W: Write, E: Write + Drop>(
-    alloc: Global,
-    settings: &Settings,
+    rt: &HostRuntime,
+    chosen: &Chosen,
+    path: &str,
     conn: Connection<FileStore<D>>,
     frames: Frames<I, E>,
     writer: &mut W,
 ) -> Result<(u8, Files<D>), Unclosed<D>>
     // Where nobody else wrote the files, and the disk gave back what was written: the frames led from the rows that they had
     // to those that they have.
-    ensures closed { IfOk result (λ r. AreClean D.Disk r.1.log r.1.db → ServedOver D.Disk settings.now frames.limits (file_state conn) (I.remaining frames.reader) r.0 r.1 (W.contents writer.old) (W.contents writer.new)) }
+    ensures closed { IfOk result (λ r. AreClean D.Disk r.1.log r.1.db → ServedOver D.Disk chosen.now.settings frames.limits (file_state conn) (I.remaining frames.reader) r.0 r.1 (W.contents writer.old) (W.contents writer.new)) }
     // And whatever the disk did: they were served.
-    ensures served { IfOk result (λ r. LedOn (IsAdopted settings.now (file_state conn)) (FramesLead (group_terms frames.limits settings.now) (I.remaining frames.reader) (W.contents writer.old) (W.contents writer.new) r.0)) }
+    ensures served { IfOk result (λ r. LedOn (IsAdopted chosen.now.settings (file_state conn)) (FramesLead (group_terms frames.limits chosen.now.settings) (I.remaining frames.reader) (W.contents writer.old) (W.contents writer.new) r.0)) }
     // Else it is said what a crash leaves.
-    ensures left { IfErr result (LeavesOver settings.now conn (FramesLead (group_terms frames.limits settings.now) (I.remaining frames.reader) (W.contents writer.old) (W.contents writer.new)) (W.contents writer.old) (W.contents writer.new)) }
+    ensures left { IfErr result (LeavesOver chosen.now.settings conn (FramesLead (group_terms frames.limits chosen.now.settings) (I.remaining frames.reader) (W.contents writer.old) (W.contents writer.new)) (W.contents writer.old) (W.contents writer.new)) }
     ensures status { IfOk result (λ r. IsExit r.0) }
 {
-    let records = match SqlRecords::adopt(alloc, conn, settings) {
+    let records = match take_over(rt, chosen, path, conn, false) {
         Ok(records) => records,
-        Err((fault, store)) => return Err(Unclosed::Refused(fault, store)),
+        Err(unclosed) => return Err(unclosed),
     };
-    let (seat, status) = serve_seat(alloc, settings, HostedMaster::Down(records), frames, writer);
+    let (seat, status) = serve_seat(
+        rt.alloc(),
+        &chosen.settings,
+        HostedMaster::Down(records),
+        frames,
+        writer,
+    );
     match seat.close().close() {
         Ok(files) => Ok((status, files)),
         Err((error, store)) => Err(Unclosed::Open(status, error, store)),

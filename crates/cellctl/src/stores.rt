@@ -7,7 +7,7 @@ ghost use Rattle.cellctl.specs.Exits.{IsExit, IsShut};
 ghost use Rattle.cellctl.specs.Led.{EndsScript};
 ghost use Rattle.cellctl.specs.Taken.{IsTakenFrom};
 
-use crate::admission::{admit, make_warned};
+use crate::admission::make_file;
 use crate::bad_lines::tell_bad;
 use crate::exits::tell_unwritten;
 use crate::findings::{find, find_unopened, tell_finding};
@@ -153,10 +153,10 @@ fn run_at<S: Start, I: Read + Drop, W: Write>(
     ensures none { OnErr result (W.contents writer.new ≡ W.contents writer.old) }
 {
     match fs::canonicalize(rt, path) {
-        Ok(real) => run_there(rt, chosen, real.as_str(), start, script, writer),
+        Ok(real) => Ok(run_closing(rt, chosen, real.as_str(), start, script, writer)),
         Err(error) => match error.kind() {
             io::ErrorKind::NotFound => {
-                make_warned(rt, chosen, path);
+                make_file(rt, path);
                 Ok(run_closing(rt, chosen, path, start, script, writer))
             }
             kind => Ok(tell_unfound(rt, path, kind)),
@@ -170,26 +170,6 @@ pub(crate) fn tell_unfound(rt: &HostRuntime, path: &str, kind: io::ErrorKind) ->
     ensures shut { IsShut result }
 {
     tell(rt, TroubleSubject::Store, path, trouble_of(kind))
-}
-
-// Looks whose the store is, before it is run over.
-fn run_there<S: Start, I: Read + Drop, W: Write>(
-    rt: &HostRuntime,
-    chosen: &Chosen,
-    path: &str,
-    start: S,
-    script: Script<I, Stderr>,
-    writer: &mut W,
-) -> Result<u8>
-    ensures exit { IfOk result IsExit }
-    ensures ran { IfOk result (λ status. EndsScript (IsTakenFrom chosen.now.settings (image_at S.Start)) (terms_of chosen.now.settings) (I.remaining script.reader) status (W.contents writer.old) (W.contents writer.new)) }
-    ensures none { OnErr result (W.contents writer.new ≡ W.contents writer.old) }
-{
-    let log = format!(in rt.alloc(); "{path}-wal").context("naming the log")?;
-    match admit(rt, chosen, path, log.as_str()) {
-        Ok(()) => Ok(run_closing(rt, chosen, path, start, script, writer)),
-        Err(status) => Ok(status),
-    }
 }
 
 // After the run the log is removed: the database file alone has the rows.
@@ -207,7 +187,7 @@ fn run_closing<S: Start, I: Read + Drop, W: Write>(
     let Ok(log) = format!(in rt.alloc(); "{path}-wal") else {
         return 4;
     };
-    match run_path(rt, &chosen.settings, path, start, script, writer) {
+    match run_path(rt, chosen, path, start, script, writer) {
         Ok((status, files)) => {
             let _ = fs::remove_file(rt, log.as_str());
             drop(files);
@@ -243,6 +223,11 @@ pub(crate) fn left_open<D: Disk + Drop>(
             drop(store);
             tell_refused(rt, chosen, path, fault)
         }
+        Unclosed::Other(store) => {
+            remove_empty(rt, log);
+            drop(store);
+            3
+        }
         Unclosed::Open(status, error, store) => {
             drop(store);
             let _ = eprintln!(rt; "cellctl: closing the store {path}: {error}");
@@ -251,8 +236,8 @@ pub(crate) fn left_open<D: Disk + Drop>(
     }
 }
 
-/// Removes a log that holds no page.
-pub(crate) fn remove_empty(rt: &HostRuntime, path: &str) {
+// Removes a log that holds no page.
+fn remove_empty(rt: &HostRuntime, path: &str) {
     if let Ok(found) = fs::symlink_metadata(rt, path) {
         if found.is_file() && found.len() < FIRST_PAGE_AT {
             let _ = fs::remove_file(rt, path);

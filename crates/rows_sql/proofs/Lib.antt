@@ -54,3 +54,4 @@ pub mod Adoptions
 pub mod StoreCases
 pub mod Closings
 pub mod Carryings
+pub mod NextKnown

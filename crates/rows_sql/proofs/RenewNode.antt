@@ -148,6 +148,7 @@ node_renewed t node name i k l g a read write change content texts named names n
     let c : Counted = record { instance = ni.0; kind = nk.0; life = nl.0; content = ng.0; acl = na.0 } in
     let counts : Counts node c = record { instance = ni.2; kind = nk.2; life = nl.2; content = ng.2; acl = na.2 } in
     record {
+      inside = r.inside;
       store = λ store. (rows_renewed t node c old new store count r.ran).1.store;
       says = λ store rows said.
           let done = rows_renewed t node c old new store count r.ran in

@@ -22,6 +22,7 @@ pub mod Creation
 pub mod Carrying
 pub mod Found
 pub mod Verdicts
+pub mod Known
 pub mod Keeping
 pub mod Orders
 pub mod Standing

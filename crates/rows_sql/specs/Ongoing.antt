@@ -42,6 +42,10 @@ pub record RanCounted (sql : List ℕ) (params : Row) (count : ℕ) (old new : S
   pub ran : Executes sql params old new (Ok count)
   pub shown : Shows old new new.now old.committed true
 
+-- a statement was refused: if that didn't end the transaction, nothing was changed
+abbrev pub IsSpared : State → State → Type 0
+IsSpared old new = IsTrue new.in_transaction → new.now ≡ old.now
+
 -- whatever rows the tables said, they say the changed ones
 abbrev pub SaysChanged : List Edit → Trees → Trees → Type 0
 SaysChanged change old new = (rows : Rows) → Says (tables_of old) rows → Says (tables_of new) (changed_rows rows change)
@@ -66,6 +70,7 @@ MayCommit change old db = IsStore old.now → SaysChanged change old.now.trees d
 
 -- the node was put, which is there; or there is none of this name, and the tables say what they said
 pub record Renews (name : List ℕ) (node : Node) (is_there : Bool) (old new : State) : Type 0 where
+  pub inside : IsTrue old.in_transaction
   pub store : IsStore old.now → IsStore new.now
   pub says : IsStore old.now → (rows : Rows) → Says (tables_of old.now.trees) rows
       → MatchBool is_there (Says (tables_of new.now.trees) (edited rows (PutNode name node))) ((stored_node rows.nodes name ≡ None) × Says (tables_of new.now.trees) rows)

@@ -7,6 +7,7 @@ mod carrying;
 mod closing;
 mod files;
 mod history;
+mod knowing;
 mod laws;
 mod orders;
 mod reading;

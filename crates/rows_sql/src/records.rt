@@ -1,5 +1,5 @@
 //! The rows of a cell in a SQL database.
-ghost use Rattle.std.specs.Prelude.{◌≡◌, ◌≤◌, ◌∷◌, [], IfOk, IfErr, IsTrue};
+ghost use Rattle.std.specs.Prelude.{◌≡◌, ◌≤◌, ◌∷◌, [], IfOk, IfErr, IfSome, IsTrue};
 ghost use Rattle.sqlite_trees.specs.View.{doubt, IsClean};
 ghost use Rattle.sqlite.specs.State.{HasCleanDisk};
 ghost use Rattle.sqlite.specs.Held.{state};
@@ -12,6 +12,7 @@ ghost use Rattle.rows_sql.specs.Adopting.{Adopts, ComesBack, IsOther, IsFull};
 
 use crate::adoption::{last_committed, take_over};
 use crate::history::StoreLog;
+use crate::knowing::{needed, next_after};
 use crate::orders::OrderedStore;
 use crate::steps::{goes_on, is_committed, load_sound};
 use collections::Items;
@@ -40,6 +41,7 @@ pub struct SqlRecords<S: Alter> {
     refusals: u64,
     is_shut: bool,
     first: Option<Rows>,
+    next: Option<u64>,
     past: StoreLog<StoreHistory, Items<Edit>>,
 }
 
@@ -51,6 +53,7 @@ impl<S: Alter> Model for SqlRecords<S> {
     ghost use Rattle.rows_cell.specs.declared.tables.Rows.{Rows as Held};
     ghost use Rattle.rows_cell.specs.Stores.{Store};
     ghost use Rattle.rows_sql.specs.Keeping.{stood, Keeps};
+    ghost use Rattle.rows_sql.specs.Known.{HasNext};
 
     ghost Value = { Store };
 
@@ -62,7 +65,7 @@ impl<S: Alter> Model for SqlRecords<S> {
       doubt = doubt (state S.Store s.conn).is_clean;
     } };
 
-    ghost invariant = { λ s. Keeps (state S.Store s.conn) s.is_shut (stood s.past.items).rows (stood s.past.items).left × (s.refusals ≤ number_limit) × ((rows : Held) → s.first ≡ Some rows → rows ≡ (stood s.past.items).rows) };
+    ghost invariant = { λ s. Keeps (state S.Store s.conn) s.is_shut (stood s.past.items).rows (stood s.past.items).left × (s.refusals ≤ number_limit) × ((rows : Held) → s.first ≡ Some rows → rows ≡ (stood s.past.items).rows) × HasNext (stood s.past.items).rows s.next };
 }
 
 impl<S: Alter + Drop> Drop for SqlRecords<S> {
@@ -74,6 +77,7 @@ impl<S: Alter + Drop> Drop for SqlRecords<S> {
             refusals: _,
             is_shut: _,
             first: _,
+            next: _,
             past: _,
         } = self;
     }
@@ -100,6 +104,13 @@ fn rows_in(note: StoreHistory) -> Option<Rows>
 }
 
 impl<S: Alter> SqlRecords<S> {
+    /// The rows that were read as the database was taken over, until they are loaded or changed.
+    pub fn first_rows(&self) -> Option<&Rows>
+        ensures { IfSome result (λ rows. rows.now ≡ self.now.rows) }
+    {
+        self.first.as_ref()
+    }
+
     // Gives rows that were read before, where a cell may have them.
     fn give(&self, rows: Rows) -> Result<Rows, StoreFault>
         requires { rows ≡ self.now.rows }
@@ -133,6 +144,7 @@ impl<S: Alter> Records for SqlRecords<S> {
         match load_sound(self.alloc, &mut self.conn, &self.cell) {
             Ok(rows) => {
                 let none = Items::new(self.alloc);
+                self.next = Some(rows.next_instance);
                 let note = StoreHistory::Read(rows);
                 self.past = noted(&self.past, &note, &none);
                 drop(none);
@@ -159,12 +171,15 @@ impl<S: Alter> Records for SqlRecords<S> {
             return Err(StoreFault::Refused);
         }
         self.first = None;
-        if !is_committed(&mut self.conn, change) {
+        let edits = change.as_slice();
+        if !is_committed(&mut self.conn, needed(edits, self.next)) {
+            self.next = None;
             self.past = noted(&self.past, &StoreHistory::Tried, change);
             self.is_shut = !goes_on(self.alloc, &mut self.conn);
             self.refusals += 1;
             return Err(StoreFault::Refused);
         }
+        self.next = next_after(edits, self.next);
         self.past = noted(&self.past, &StoreHistory::Done, change);
         Ok(())
     }
@@ -207,6 +222,7 @@ impl<S: OrderedStore + Drop> SqlRecords<S> {
         match take_over(alloc, &mut conn, settings) {
             Ok(rows) => {
                 let none = Items::new(alloc);
+                let next = Some(rows.next_instance);
                 let note = StoreHistory::Adopted(rows);
                 let past = noted(&StoreLog::new(), &note, &none);
                 Ok(SqlRecords {
@@ -216,6 +232,7 @@ impl<S: OrderedStore + Drop> SqlRecords<S> {
                     refusals: 0,
                     is_shut: false,
                     first: rows_in(note),
+                    next,
                     past,
                 })
             }
@@ -241,6 +258,7 @@ impl<S: Alter> SqlRecords<S> {
             refusals: _,
             is_shut: _,
             first: _,
+            next: _,
             past: _,
         } = self;
         conn

@@ -13,7 +13,6 @@ ghost use Rattle.rows_sql.specs.Keeping.{GoesOn};
 use crate::reading::{can_read, load_said};
 use crate::schema::is_ours;
 use crate::writing::commit_all;
-use collections::Items;
 use names_cell::Component;
 use rows_cell::{Edit, Rows, StoreFault, is_sound};
 use sqlite::{Alter, Connection};
@@ -63,12 +62,12 @@ pub(crate) fn goes_on<S: Alter>(alloc: Global, conn: &mut Connection<S>) -> bool
 }
 
 /// Commits a change: whether it was done.
-pub(crate) fn is_committed<S: Alter>(conn: &mut Connection<S>, change: &Items<Edit>) -> bool
+pub(crate) fn is_committed<S: Alter>(conn: &mut Connection<S>, change: &[Edit]) -> bool
     requires { conn.old.in_transaction ≡ false }
     ensures ended { conn.new.in_transaction ≡ false }
     ensures done { HasCleanDisk (state S.Store conn.new) → IsTrue result → Committed change.now (state S.Store conn.old) (state S.Store conn.new) }
     ensures kept { HasCleanDisk (state S.Store conn.new) → result ≡ false → KeepsCommit (state S.Store conn.old) (state S.Store conn.new) }
     ensures survives { Survives (state S.Store conn.old) (state S.Store conn.new) (MayCommit change.now (state S.Store conn.old)) }
 {
-    commit_all(conn, change.as_slice()).is_ok()
+    commit_all(conn, change).is_ok()
 }

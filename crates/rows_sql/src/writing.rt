@@ -7,5 +7,6 @@ mod edits;
 mod values;
 
 pub use carrying::carry_over;
+pub(crate) use changes::any_sets_next;
 pub use changes::commit_all;
 pub use creation::make_store;

@@ -38,7 +38,8 @@ fn sets_next(edit: &Edit) -> bool
     matches!(edit, Edit::NextInstance(_))
 }
 
-fn any_sets_next(edits: &[Edit]) -> bool
+/// Whether one of the edits says a next instance.
+pub(crate) fn any_sets_next(edits: &[Edit]) -> bool
     ensures { result ≡ list_any sets_next edits.now }
 {
     edits.iter().any(|edit| sets_next(edit))

@@ -1,10 +1,11 @@
-//! The eight edits, in a transaction: each is one statement, but a put of a node that isn't there, which is two.
-ghost use Rattle.std.specs.Prelude.{◌≡◌, ◌∷◌, [], OnOk, IfOk};
+//! The eight edits, in a transaction: each is one statement. A put of a node is one of two: which is tried first is read off the
+//! node, and if that finds the row otherwise, the other one is made.
+ghost use Rattle.std.specs.Prelude.{◌≡◌, ◌∷◌, [], OnOk, OnErr, IfOk, IsTrue};
 ghost use Rattle.sqlite.specs.Values.{bound};
 ghost use Rattle.sqlite.specs.State.{HasCleanDisk, KeepsCommit, Survives};
 ghost use Rattle.sqlite.specs.Held.{state};
 ghost use Rattle.rows_cell.specs.declared.tables.Edit.TheVariants.{Epoch, NextInstance, PutNode, LockGeneration, RemoveNode, PutSession, PutLock, RemoveLock};
-ghost use Rattle.rows_sql.specs.Ongoing.{RanInside, RanCounted, Changed, Renews};
+ghost use Rattle.rows_sql.specs.Ongoing.{RanInside, RanCounted, Changed, Renews, IsSpared};
 
 use crate::writing::values::{kind_as, life_as, live_as, mode_as, number};
 use names_cell::Name;
@@ -21,6 +22,7 @@ pub(crate) fn run<S: Alter>(
 ) -> Result<(), Error>
     ensures same { tx.new.conn.ghost_name ≡ tx.old.conn.ghost_name }
     ensures ok { HasCleanDisk (state S.Store tx.new.conn.now) → OnOk result (RanInside sql.now (bound params.now) (state S.Store tx.old.conn.now) (state S.Store tx.new.conn.now)) }
+    ensures err { HasCleanDisk (state S.Store tx.new.conn.now) → OnErr result (IsSpared (state S.Store tx.old.conn.now) (state S.Store tx.new.conn.now)) }
     ensures kept { HasCleanDisk (state S.Store tx.new.conn.now) → KeepsCommit (state S.Store tx.old.conn.now) (state S.Store tx.new.conn.now) }
     ensures survives { Survives (state S.Store tx.old.conn.now) (state S.Store tx.new.conn.now) (λ _. ⊥) }
 {
@@ -82,6 +84,39 @@ pub(crate) fn put_node<S: Alter>(
     ensures kept { HasCleanDisk (state S.Store tx.new.conn.now) → KeepsCommit (state S.Store tx.old.conn.now) (state S.Store tx.new.conn.now) }
     ensures survives { Survives (state S.Store tx.old.conn.now) (state S.Store tx.new.conn.now) (λ _. ⊥) }
 {
+    if is_untouched(node) {
+        return put_first(tx, name, node);
+    }
+    put_again(tx, name, node)
+}
+
+// Whether its generations are those of a new node: each later put of it raises one of them.
+fn is_untouched(node: &Node) -> bool {
+    node.content_generation <= 1 && node.acl_generation <= 1
+}
+
+// Puts a node that is most likely new. An INSERT that is refused changes nothing, so if there is a row of this name after all,
+// it is put as one that is there.
+fn put_first<S: Alter>(tx: &mut Transaction<'_, S>, name: &Name, node: &Node) -> Result<(), Error>
+    ensures same { tx.new.conn.ghost_name ≡ tx.old.conn.ghost_name }
+    ensures ok { HasCleanDisk (state S.Store tx.new.conn.now) → OnOk result (Changed (PutNode name.now node.now ∷ []) (state S.Store tx.old.conn.now) (state S.Store tx.new.conn.now)) }
+    ensures kept { HasCleanDisk (state S.Store tx.new.conn.now) → KeepsCommit (state S.Store tx.old.conn.now) (state S.Store tx.new.conn.now) }
+    ensures survives { Survives (state S.Store tx.old.conn.now) (state S.Store tx.new.conn.now) (λ _. ⊥) }
+{
+    match add_node(tx, name, node) {
+        Ok(()) => Ok(()),
+        Err(_error) => put_again(tx, name, node),
+    }
+}
+
+// Puts a node that is most likely there.
+fn put_again<S: Alter>(tx: &mut Transaction<'_, S>, name: &Name, node: &Node) -> Result<(), Error>
+    ensures same { tx.new.conn.ghost_name ≡ tx.old.conn.ghost_name }
+    ensures ok { HasCleanDisk (state S.Store tx.new.conn.now) → OnOk result (Changed (PutNode name.now node.now ∷ []) (state S.Store tx.old.conn.now) (state S.Store tx.new.conn.now)) }
+    ensures inside { HasCleanDisk (state S.Store tx.new.conn.now) → OnOk result (IsTrue (state S.Store tx.old.conn.now).in_transaction) }
+    ensures kept { HasCleanDisk (state S.Store tx.new.conn.now) → KeepsCommit (state S.Store tx.old.conn.now) (state S.Store tx.new.conn.now) }
+    ensures survives { Survives (state S.Store tx.old.conn.now) (state S.Store tx.new.conn.now) (λ _. ⊥) }
+{
     if renew_entry(tx, name, node)? {
         return Ok(());
     }
@@ -125,6 +160,7 @@ fn renew_entry<S: Alter>(
 fn add_node<S: Alter>(tx: &mut Transaction<'_, S>, name: &Name, node: &Node) -> Result<(), Error>
     ensures same { tx.new.conn.ghost_name ≡ tx.old.conn.ghost_name }
     ensures ok { HasCleanDisk (state S.Store tx.new.conn.now) → OnOk result (Changed (PutNode name.now node.now ∷ []) (state S.Store tx.old.conn.now) (state S.Store tx.new.conn.now)) }
+    ensures err { HasCleanDisk (state S.Store tx.new.conn.now) → OnErr result (IsSpared (state S.Store tx.old.conn.now) (state S.Store tx.new.conn.now)) }
     ensures kept { HasCleanDisk (state S.Store tx.new.conn.now) → KeepsCommit (state S.Store tx.old.conn.now) (state S.Store tx.new.conn.now) }
     ensures survives { Survives (state S.Store tx.old.conn.now) (state S.Store tx.new.conn.now) (λ _. ⊥) }
 {

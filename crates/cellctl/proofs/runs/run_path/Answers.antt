@@ -12,20 +12,20 @@ use Rattle.cellctl.proofs.runs.run_path.Goals as goal
 
 pub returns-in-Ok-clause-closed : goal.returns-in-Ok-clause-closed
 returns-in-Ok-clause-closed g c =
-    closed_from c.args.settings.now (image_at g.S.Start) c.in-Ok.conn
-    (ScriptLeadsSurely (terms_of c.args.settings.now) (g.I.Read.remaining c.args.script.reader) (g.W.Write.contents c.args.writer.now) (g.W.Write.contents c.run_files.new.writer)) c.run_files.result
+    closed_from c.args.chosen.now.settings (image_at g.S.Start) c.in-Ok.conn
+    (ScriptLeadsSurely (terms_of c.args.chosen.now.settings) (g.I.Read.remaining c.args.script.reader) (g.W.Write.contents c.args.writer.now) (g.W.Write.contents c.run_files.new.writer)) c.run_files.result
     c.in-Ok.ensures.found c.run_files.ensures.closed
 
 pub returns-in-Ok-clause-ran : goal.returns-in-Ok-clause-ran
 returns-in-Ok-clause-ran g c =
-    ok_led_at c.args.settings.now (file_state c.in-Ok.conn) (image_at g.S.Start)
-    (ScriptLeads (terms_of c.args.settings.now) (g.I.Read.remaining c.args.script.reader) (g.W.Write.contents c.args.writer.now) (g.W.Write.contents c.run_files.new.writer)) c.run_files.result
+    ok_led_at c.args.chosen.now.settings (file_state c.in-Ok.conn) (image_at g.S.Start)
+    (ScriptLeads (terms_of c.args.chosen.now.settings) (g.I.Read.remaining c.args.script.reader) (g.W.Write.contents c.args.writer.now) (g.W.Write.contents c.run_files.new.writer)) c.run_files.result
     c.in-Ok.ensures.found c.run_files.ensures.ran
 
 pub returns-in-Ok-clause-left : goal.returns-in-Ok-clause-left
 returns-in-Ok-clause-left g c =
-    left_at c.args.settings.now (image_at g.S.Start) c.in-Ok.conn
-    (ScriptLeads (terms_of c.args.settings.now) (g.I.Read.remaining c.args.script.reader) (g.W.Write.contents c.args.writer.now) (g.W.Write.contents c.run_files.new.writer))
+    left_at c.args.chosen.now.settings (image_at g.S.Start) c.in-Ok.conn
+    (ScriptLeads (terms_of c.args.chosen.now.settings) (g.I.Read.remaining c.args.script.reader) (g.W.Write.contents c.args.writer.now) (g.W.Write.contents c.run_files.new.writer))
     (g.W.Write.contents c.args.writer.now) (g.W.Write.contents c.run_files.new.writer) c.run_files.result c.in-Ok.ensures.found c.run_files.ensures.left
 
 abbrev image : List ℕ → List ℕ → Image

@@ -12,20 +12,20 @@ use Rattle.cellctl.proofs.serves.serve_file.Goals as goal
 
 pub returns-in-Ok-clause-closed : goal.returns-in-Ok-clause-closed
 returns-in-Ok-clause-closed g c =
-    closed_from c.args.settings.now (image_at g.S.Start) c.in-Ok.conn
-    (FramesLead (record { master = terms_of c.args.settings.now; limits = c.args.frames.limits }) (g.I.Read.remaining c.args.frames.reader) (g.W.Write.contents c.args.writer.now) (g.W.Write.contents c.serve_store.new.writer)) c.serve_store.result
+    closed_from c.args.chosen.now.settings (image_at g.S.Start) c.in-Ok.conn
+    (FramesLead (record { master = terms_of c.args.chosen.now.settings; limits = c.args.frames.limits }) (g.I.Read.remaining c.args.frames.reader) (g.W.Write.contents c.args.writer.now) (g.W.Write.contents c.serve_store.new.writer)) c.serve_store.result
     c.in-Ok.ensures.found c.serve_store.ensures.closed
 
 pub returns-in-Ok-clause-served : goal.returns-in-Ok-clause-served
 returns-in-Ok-clause-served g c =
-    ok_led_at c.args.settings.now (file_state c.in-Ok.conn) (image_at g.S.Start)
-    (FramesLead (record { master = terms_of c.args.settings.now; limits = c.args.frames.limits }) (g.I.Read.remaining c.args.frames.reader) (g.W.Write.contents c.args.writer.now) (g.W.Write.contents c.serve_store.new.writer)) c.serve_store.result
+    ok_led_at c.args.chosen.now.settings (file_state c.in-Ok.conn) (image_at g.S.Start)
+    (FramesLead (record { master = terms_of c.args.chosen.now.settings; limits = c.args.frames.limits }) (g.I.Read.remaining c.args.frames.reader) (g.W.Write.contents c.args.writer.now) (g.W.Write.contents c.serve_store.new.writer)) c.serve_store.result
     c.in-Ok.ensures.found c.serve_store.ensures.served
 
 pub returns-in-Ok-clause-left : goal.returns-in-Ok-clause-left
 returns-in-Ok-clause-left g c =
-    left_at c.args.settings.now (image_at g.S.Start) c.in-Ok.conn
-    (FramesLead (record { master = terms_of c.args.settings.now; limits = c.args.frames.limits }) (g.I.Read.remaining c.args.frames.reader) (g.W.Write.contents c.args.writer.now) (g.W.Write.contents c.serve_store.new.writer))
+    left_at c.args.chosen.now.settings (image_at g.S.Start) c.in-Ok.conn
+    (FramesLead (record { master = terms_of c.args.chosen.now.settings; limits = c.args.frames.limits }) (g.I.Read.remaining c.args.frames.reader) (g.W.Write.contents c.args.writer.now) (g.W.Write.contents c.serve_store.new.writer))
     (g.W.Write.contents c.args.writer.now) (g.W.Write.contents c.serve_store.new.writer) c.serve_store.result c.in-Ok.ensures.found c.serve_store.ensures.left
 
 abbrev image : List ℕ → List ℕ → Image

@@ -6,6 +6,7 @@ use Rattle.rows_cell.specs.declared.records.StoreFault.{StoreFault}
 use Rattle.rows_sql.specs.Keeping.{Stood, stood, Keeps}
 use Rattle.rows_sql.specs.Adopting.{Adopts}
 use Rattle.rows_sql.proofs.Keepings.{some_is}
+use Rattle.rows_sql.proofs.NextKnown.{next_known}
 use Rattle.rows_sql.proofs.Adoptions.{keeps_taken, adopts, not_other, is_other, is_full}
 use Rattle.rows_sql.proofs.records.SqlRecords.adopt.Goals as goal
 
@@ -14,7 +15,7 @@ invariant_of-result g c =
     let new = c.take_over.new.conn in
     let kept = keeps_taken g.S.Store c.args.settings.now c.in-Ok-last_committed.conn new c.in-Ok-take_over.rows c.in-Ok-take_over.ensures.ok (λ db o m. g.met.S.Store.settled new.store db o m) in
     let is : (stood c.noted-past.result.items).rows ≡ c.in-Ok-take_over.rows = ap (λ (t : Stood). t.rows) c.noted-past.ensures in
-    (subst (λ (t : Stood). Keeps (state g.S.Store new) false t.rows t.left) (sym c.noted-past.ensures) kept, omega arith, λ rows some. some_is rows c.in-Ok-take_over.rows (sym some ∙ c.rows_in.ensures) ∙ sym is)
+    (subst (λ (t : Stood). Keeps (state g.S.Store new) false t.rows t.left) (sym c.noted-past.ensures) kept, omega arith, λ rows some. some_is rows c.in-Ok-take_over.rows (sym some ∙ c.rows_in.ensures) ∙ sym is, next_known _ c.in-Ok-take_over.rows is)
 
 pub returns-in-Ok-take_over-clause-rows : goal.returns-in-Ok-take_over-clause-rows
 returns-in-Ok-take_over-clause-rows g c clean =

@@ -3,7 +3,7 @@ use Rattle.rows_sql.specs.Creation.{StaysInside}
 use Rattle.rows_sql.proofs.WriteSteps.{ok_then}
 use Rattle.rows_sql.proofs.Creates.{stays_then, clean_before}
 use Rattle.rows_sql.proofs.NodeSteps.{node_put_anew}
-use Rattle.rows_sql.proofs.writing.edits.put_node.Goals as goal
+use Rattle.rows_sql.proofs.writing.edits.put_again.Goals as goal
 
 pub returns-clause-ok : goal.returns-clause-ok
 returns-clause-ok g c clean =
