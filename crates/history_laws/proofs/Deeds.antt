@@ -20,8 +20,8 @@ use Rattle.master_parts.specs.declared.pending.Taken.{Taken}
 use Rattle.master_state.specs.State.{MasterState}
 use Rattle.cell_core.specs.Step.{take_step}
 use Rattle.over_core.specs.declared.swept.Swept.{Swept}
-use Rattle.over_core.specs.Sweep.{sweep_step, sweep_edits, beats_step}
-use Rattle.over_core.specs.Up.{up_step, up_edits}
+use Rattle.over_core.specs.Sweep.{sweep_step, sweep_edits, sweep_frees, beats_step}
+use Rattle.over_core.specs.Up.{up_step, up_edits, up_commit}
 use Rattle.client_core.specs.declared.parts.asks.Ask.{Ask}
 use Rattle.client_core.specs.declared.parts.asks.AskOutcome.{AskOutcome}
 use Rattle.client_core.specs.declared.parts.asks.Outcome.{Outcome}
@@ -40,22 +40,25 @@ use Rattle.world_steps.specs.declared.steps.Step.TheVariants as steps
 use Rattle.world_steps.specs.declared.steps.Commit.TheVariants.{Kept}
 use Rattle.world_steps.specs.Members.{Clients, each_member, at_up, new_member, stepped}
 use Rattle.world_steps.specs.Messages.{request_at, out_at}
-use Rattle.world_steps.specs.World.{WorldState, world_step, world_up, came_up, member_of, asked, asked_by, ends_ask, beaten, beaten_by, ends_beat, gave, gave_by, given_to, took, world_take, swept, world_sweep, without_quiet, answered, world_beats, world_down, without_master, cut_sweep, world_cut_sweep, cut_up, world_cut_up, is_of_commit, IsAt, IsAtUp, store_in}
+use Rattle.world_steps.specs.World.{WorldState, world_step, world_up, came_up, member_of, asked, asked_by, ends_ask, beaten, beaten_by, ends_beat, gave, gave_by, given_to, took, world_take, swept, world_sweep, without_quiet, answered, world_beats, world_down, without_master, cut_sweep, world_cut_sweep, cut_up, world_cut_up, is_of_commit, IsAt, IsAtUp, store_in, step_edits, step_frees, came_up_edits}
 use Rattle.world_steps.specs.Made.{IsTyped}
 use Rattle.world_cell.proofs.MembersFound.{member_at}
 use Rattle.world_cell.proofs.WorldCases.{step_takes, step_gives, step_sweeps, step_beats}
-use Rattle.history_laws.specs.Parts.{Parts, ComesUpBy, FallsComingUpBy, TakesBy, SweepsBy, FallsSweepingBy, AnswersBeatBy, GoesBy, BeginsBy, AsksBy, BeatsBy, HearsBy, sent_by, ended_by, sent_as, with_client}
+use Rattle.history_laws.specs.Parts.{Parts, Deed, ComesUp, FallsComingUp, Takes, Sweeps, FallsSweeping, AnswersBeat, Goes, Asks, Beats, Hears, ComesUpBy, FallsComingUpBy, TakesBy, SweepsBy, FallsSweepingBy, AnswersBeatBy, GoesBy, BeginsBy, AsksBy, BeatsBy, HearsBy, sent_by, ended_by, sent_as, with_client}
 use Rattle.history_laws.specs.Histories.{Clocks, Entry, KeepFair, AreMoments}
+use Rattle.history_laws.specs.Crashes.{deed_edits, deed_frees}
 use Rattle.history_laws.proofs.Entries.{EachIs, each_so, each_both, each_moved, each_set, each_put, each_found_in, each_apart}
 use Rattle.history_laws.proofs.Ticking.{IsTimely, IsTimelyWorld, Led, LedFrom, IsMastersClock, FairFrom, Reach, Ticks, at_once, alone_by, beside_by}
 use Rattle.history_laws.proofs.Mirrored.{Mirrors, client_at, found_client, clients_stay, stepped_clients, put_clients, view}
 
--- a step is made, after which the world holds what the parts do, at the same moment
-pub record Follows (w : WorldState) (entries : List Entry) (now : Clocks) (new : Parts) (printed : List Line) : Type 0 where
+-- a step is made, which commits what the deed does, and after which the world holds what the parts do, at the same moment
+pub record Follows (w : WorldState) (p : Parts) (deed : Deed) (entries : List Entry) (now : Clocks) (new : Parts) (printed : List Line) : Type 0 where
   pub step : Step
   pub behind : WorldState
   pub is_step : world_step w step ≡ Ok (behind, printed)
   pub typed : IsTyped w step
+  pub frees : step_frees w step ≡ deed_frees p now.master deed
+  pub edits : step_edits w step ≡ deed_edits p now.master deed
   pub at : (leave : List Rows) → IsAt step (view w leave) (view w leave)
   pub mirrors : Mirrors new behind
   pub timely : IsTimelyWorld behind entries now
@@ -104,7 +107,7 @@ module _ (w : WorldState) (entries : List Entry) (now : Clocks) (timely : IsTime
     fair = fair_is w.master s up timely.fair;
   }
 
-  goes_alone : (rows : Rows) → IsTimelyWorld (record w { rows = rows; master = None }) entries now
+  pub goes_alone : (rows : Rows) → IsTimelyWorld (record w { rows = rows; master = None }) entries now
   goes_alone rows = record {
     early = timely.early;
     master = tt;
@@ -140,12 +143,14 @@ module _ (w : WorldState) (entries : List Entry) (now : Clocks) (timely : IsTime
         let is : t.request ≡ request = cc in
         rw (sym is) t.numbered
 
-    pub takes : (at : ℕ) (new : Parts) (printed : List Line) → TakesBy p now.master at new printed → Follows w entries now new printed
+    pub takes : (at : ℕ) (new : Parts) (printed : List Line) → TakesBy p now.master at new printed → Follows w p (Takes at) entries now new printed
     takes at new printed t = record {
       step = steps.Take at;
       behind = record w { master = Some t.next; messages = w.messages ++ map ToClient t.taken.outs };
       is_step = takes_step at new printed t;
       typed = takes_typed at new printed t;
+      frees = refl;
+      edits = refl;
       at = λ leave. refl;
       mirrors = subst (λ q. Mirrors q (record w { master = Some t.next; messages = w.messages ++ map ToClient t.taken.outs })) (sym t.left)
           (record { cell = same.cell; rows = same.rows; master = refl; clients = same.clients; messages = ap (λ told. told ++ map ToClient t.taken.outs) same.messages; terms = same.terms });
@@ -159,12 +164,25 @@ module _ (w : WorldState) (entries : List Entry) (now : Clocks) (timely : IsTime
     edits_at : (master : MasterState) → p.master ≡ Some master → changed_rows w.rows (sweep_edits master w.clock) ≡ changed_rows p.rows (sweep_edits master now.master)
     edits_at master up = ap (λ rows. changed_rows rows (sweep_edits master w.clock)) same.rows ∙ ap (λ clock. changed_rows p.rows (sweep_edits master clock)) (clock_is master (master_is master up))
 
-    pub sweeps : (new : Parts) (printed : List Line) → SweepsBy p now.master new printed → Follows w entries now new printed
+    -- what a sweep commits, and whether a change leaves the gate by it
+    sweeps_at : (master : MasterState) → p.master ≡ Some master → step_edits w steps.Sweep ≡ deed_edits p now.master Sweeps
+    sweeps_at master up =
+        ap (λ m. option_map_or (λ s. sweep_edits s w.clock) m []) (master_is master up) ∙ ap (λ clock. sweep_edits master clock) (clock_is master (master_is master up))
+        ∙ ap (λ m. option_map_or (λ s. sweep_edits s now.master) m []) (sym up)
+
+    frees_at : (master : MasterState) → p.master ≡ Some master → step_frees w steps.Sweep ≡ deed_frees p now.master Sweeps
+    frees_at master up =
+        ap (λ m. option_map_or (λ s. sweep_frees s w.clock) m false) (master_is master up) ∙ ap (λ clock. sweep_frees master clock) (clock_is master (master_is master up))
+        ∙ ap (λ m. option_map_or (λ s. sweep_frees s now.master) m false) (sym up)
+
+    pub sweeps : (new : Parts) (printed : List Line) → SweepsBy p now.master new printed → Follows w p Sweeps entries now new printed
     sweeps new printed t = record {
       step = steps.Sweep;
       behind = record w { rows = changed_rows w.rows (sweep_edits t.master w.clock); master = Some t.next; messages = w.messages ++ map ToClient t.swept.outs };
       is_step = step_sweeps w ∙ ap without_quiet (swept_at t.master t.next t.swept t.up t.step) ∙ ap (λ ls. Ok (record w { rows = changed_rows w.rows (sweep_edits t.master w.clock); master = Some t.next; messages = w.messages ++ map ToClient t.swept.outs }, ls)) (sym t.prints);
       typed = tt;
+      frees = frees_at t.master t.up;
+      edits = sweeps_at t.master t.up;
       at = λ leave. refl;
       mirrors = subst (λ q. Mirrors q (record w { rows = changed_rows w.rows (sweep_edits t.master w.clock); master = Some t.next; messages = w.messages ++ map ToClient t.swept.outs })) (sym t.left)
           (record { cell = same.cell; rows = edits_at t.master t.up; master = refl; clients = same.clients; messages = ap (λ told. told ++ map ToClient t.swept.outs) same.messages; terms = same.terms });
@@ -175,24 +193,28 @@ module _ (w : WorldState) (entries : List Entry) (now : Clocks) (timely : IsTime
     unfolding world_step
     step_cuts = refl
 
-    pub falls_sweeping : (new : Parts) (printed : List Line) → FallsSweepingBy p now.master new printed → Follows w entries now new printed
+    pub falls_sweeping : (new : Parts) (printed : List Line) → FallsSweepingBy p now.master new printed → Follows w p FallsSweeping entries now new printed
     falls_sweeping new printed t = record {
       step = steps.CutSweep Kept;
       behind = record w { rows = changed_rows w.rows (sweep_edits t.master w.clock); master = None };
       is_step = step_cuts ∙ ap (cut_sweep w) (swept_at t.master t.next t.swept t.up t.step) ∙ ap (λ ls. Ok (record w { rows = changed_rows w.rows (sweep_edits t.master w.clock); master = None }, ls)) (sym t.prints);
       typed = tt;
+      frees = frees_at t.master t.up;
+      edits = sweeps_at t.master t.up;
       at = λ leave. refl;
       mirrors = subst (λ q. Mirrors q (record w { rows = changed_rows w.rows (sweep_edits t.master w.clock); master = None })) (sym t.left)
           (record { cell = same.cell; rows = edits_at t.master t.up; master = refl; clients = same.clients; messages = same.messages; terms = same.terms });
       timely = goes_alone (changed_rows w.rows (sweep_edits t.master w.clock));
     }
 
-    pub answers_beat : (new : Parts) (printed : List Line) → AnswersBeatBy p now.master new printed → Follows w entries now new printed
+    pub answers_beat : (new : Parts) (printed : List Line) → AnswersBeatBy p now.master new printed → Follows w p AnswersBeat entries now new printed
     answers_beat new printed t = record {
       step = steps.Beats;
       behind = record w { master = Some t.next; messages = w.messages ++ map ToClient t.swept.outs };
       is_step = step_beats w ∙ ap (world_beats w) (master_is t.master t.up) ∙ ap (λ clock. answered w (beats_step t.master clock)) (clock_is t.master (master_is t.master t.up)) ∙ ap (answered w) t.step ∙ ap (λ ls. Ok (record w { master = Some t.next; messages = w.messages ++ map ToClient t.swept.outs }, ls)) (sym t.prints);
       typed = tt;
+      frees = refl;
+      edits = refl;
       at = λ leave. refl;
       mirrors = subst (λ q. Mirrors q (record w { master = Some t.next; messages = w.messages ++ map ToClient t.swept.outs })) (sym t.left)
           (record { cell = same.cell; rows = same.rows; master = refl; clients = same.clients; messages = ap (λ told. told ++ map ToClient t.swept.outs) same.messages; terms = same.terms });
@@ -203,12 +225,14 @@ module _ (w : WorldState) (entries : List Entry) (now : Clocks) (timely : IsTime
     unfolding world_step
     step_downs = refl
 
-    pub goes : (new : Parts) (printed : List Line) → GoesBy p new printed → Follows w entries now new printed
+    pub goes : (new : Parts) (printed : List Line) → GoesBy p new printed → Follows w p Goes entries now new printed
     goes new printed t = record {
       step = steps.Down;
       behind = record w { master = None };
       is_step = step_downs ∙ ap (world_down w) (master_is t.master t.up) ∙ ap (λ ls. Ok (record w { master = None }, ls)) (sym t.prints);
       typed = tt;
+      frees = refl;
+      edits = refl;
       at = λ leave. refl;
       mirrors = subst (λ q. Mirrors q (record w { master = None })) (sym t.left)
           (record { cell = same.cell; rows = same.rows; master = refl; clients = same.clients; messages = same.messages; terms = same.terms });
@@ -239,7 +263,7 @@ module _ (w : WorldState) (entries : List Entry) (now : Clocks) (timely : IsTime
     beats_so n member next told (Some request) = refl
     beats_so n member next told None = ap (λ ms. (record w { clients = stepped w.clients n member next; messages = ms }, told)) (sym (append-nil w.messages))
 
-    pub asks : (n : ℕ) (ask : Ask) (new : Parts) (printed : List Line) → AsksBy p (now.client n) n ask new printed → Follows w entries now new printed
+    pub asks : (n : ℕ) (ask : Ask) (new : Parts) (printed : List Line) → AsksBy p (now.client n) n ask new printed → Follows w p (Asks n ask) entries now new printed
     asks n ask new printed t =
         let found = found_of n t.client t.there in
         let member = found.0 in
@@ -251,6 +275,8 @@ module _ (w : WorldState) (entries : List Entry) (now : Clocks) (timely : IsTime
           is_step = step_asks n ask ∙ ap (λ o. option_map_or (λ m. asked w n m (ask_step m.client m.clock ask)) o (Err faults.NoSession)) found.1
               ∙ ap (asked w n member) stepped_so ∙ ap (λ end. Ok end) (ends_so n member t.next t.asked.lines t.asked.outcome) ∙ ap (λ ls. Ok (after, ls)) (sym t.prints);
           typed = tt;
+          frees = refl;
+          edits = refl;
           at = λ leave. refl;
           mirrors = subst (λ q. Mirrors q after) (sym t.left) (record {
             cell = same.cell;
@@ -263,7 +289,7 @@ module _ (w : WorldState) (entries : List Entry) (now : Clocks) (timely : IsTime
           timely = steps_on n member t.next (w.messages ++ sent_by t.asked.outcome) found.1;
         }
 
-    pub beats : (n : ℕ) (new : Parts) (printed : List Line) → BeatsBy p (now.client n) n new printed → Follows w entries now new printed
+    pub beats : (n : ℕ) (new : Parts) (printed : List Line) → BeatsBy p (now.client n) n new printed → Follows w p (Beats n) entries now new printed
     beats n new printed t =
         let found = found_of n t.client t.there in
         let member = found.0 in
@@ -275,6 +301,8 @@ module _ (w : WorldState) (entries : List Entry) (now : Clocks) (timely : IsTime
           is_step = step_beaten n ∙ ap (λ o. option_map_or (λ m. beaten w n m (beat_step m.client m.clock)) o (Err faults.NoSession)) found.1
               ∙ ap (beaten w n member) stepped_so ∙ ap (λ end. Ok end) (beats_so n member t.next t.beaten.lines t.beaten.request) ∙ ap (λ ls. Ok (after, ls)) (sym t.prints);
           typed = tt;
+          frees = refl;
+          edits = refl;
           at = λ leave. refl;
           mirrors = subst (λ q. Mirrors q after) (sym t.left) (record {
             cell = same.cell;
@@ -287,7 +315,7 @@ module _ (w : WorldState) (entries : List Entry) (now : Clocks) (timely : IsTime
           timely = steps_on n member t.next (w.messages ++ sent_as t.beaten.request) found.1;
         }
 
-    pub hears : (at : ℕ) (new : Parts) (printed : List Line) → HearsBy p now.client at new printed → Follows w entries now new printed
+    pub hears : (at : ℕ) (new : Parts) (printed : List Line) → HearsBy p now.client at new printed → Follows w p (Hears at) entries now new printed
     hears at new printed t =
         let n : ℕ = out_client t.out in
         let found = found_of n t.client t.there in
@@ -301,6 +329,8 @@ module _ (w : WorldState) (entries : List Entry) (now : Clocks) (timely : IsTime
               ∙ ap (λ o. option_map_or (λ m. gave w n m (give_step m.client m.clock t.out)) o (Err faults.NoSession)) found.1
               ∙ ap (gave w n member) stepped_so ∙ ap (λ ls. Ok (after, ls)) (sym t.prints);
           typed = tt;
+          frees = refl;
+          edits = refl;
           at = λ leave. refl;
           mirrors = subst (λ q. Mirrors q after) (sym t.left) (record {
             cell = same.cell;
@@ -333,6 +363,10 @@ module _ (w : WorldState) (entries : List Entry) (now : Clocks) (timely : IsTime
     up_is : (master : MasterState) → up_step p.cell p.rows p.terms now.master ≡ Ok master → up_step w.cell w.rows w.terms now.master ≡ Ok master
     up_is master step = rw (same.cell, same.rows, same.terms) step
 
+    -- what it commits
+    ups_at : (master : MasterState) → p.master ≡ None → up_step p.cell p.rows p.terms now.master ≡ Ok master → came_up_edits w now.master w.master ≡ up_edits p.rows
+    ups_at master none step = ap (came_up_edits w now.master) (none_is none) ∙ ap (λ r. up_commit r w.rows) (up_is master step) ∙ ap up_edits same.rows
+
     up_rows : changed_rows w.rows (up_edits w.rows) ≡ changed_rows p.rows (up_edits p.rows)
     up_rows = ap (λ rows. changed_rows rows (up_edits rows)) same.rows
 
@@ -341,7 +375,7 @@ module _ (w : WorldState) (entries : List Entry) (now : Clocks) (timely : IsTime
         let at = h.clock in
         record { clock = at; led = record { from = now; least = omega (arith, at); before = omega arith; moves = at_once now; fair = fair } }
 
-    pub comes_up : AreMoments now → KeepFair now entries → (new : Parts) (printed : List Line) → ComesUpBy p now.master new printed → Follows w entries now new printed
+    pub comes_up : AreMoments now → KeepFair now entries → (new : Parts) (printed : List Line) → ComesUpBy p now.master new printed → Follows w p ComesUp entries now new printed
     comes_up moments fair new printed t =
         let after : WorldState = record w { rows = changed_rows w.rows (up_edits w.rows); master = Some t.master; clock = now.master; clients = each_member (λ number. at_up now.master) w.clients } in
         record {
@@ -349,6 +383,8 @@ module _ (w : WorldState) (entries : List Entry) (now : Clocks) (timely : IsTime
           behind = after;
           is_step = step_ups ∙ ap (world_up w now.master) (none_is t.none) ∙ ap (came_up w now.master) (up_is t.master t.step) ∙ ap (λ ls. Ok (after, ls)) (sym t.prints);
           typed = rw same.rows t.ordered;
+          frees = refl;
+          edits = ups_at t.master t.none t.step;
           at = λ leave. read_as_is now.master w.master leave (none_is t.none);
           mirrors = subst (λ q. Mirrors q after) (sym t.left) (record {
             cell = same.cell;
@@ -367,7 +403,7 @@ module _ (w : WorldState) (entries : List Entry) (now : Clocks) (timely : IsTime
           };
         }
 
-    pub falls_coming_up : (new : Parts) (printed : List Line) → FallsComingUpBy p now.master new printed → Follows w entries now new printed
+    pub falls_coming_up : (new : Parts) (printed : List Line) → FallsComingUpBy p now.master new printed → Follows w p FallsComingUp entries now new printed
     falls_coming_up new printed t =
         let after : WorldState = record w { rows = changed_rows w.rows (up_edits w.rows) } in
         record {
@@ -375,6 +411,8 @@ module _ (w : WorldState) (entries : List Entry) (now : Clocks) (timely : IsTime
           behind = after;
           is_step = step_cut_ups ∙ ap (world_cut_up w now.master Kept) (none_is t.none) ∙ ap (cut_up w Kept) (up_is t.master t.step) ∙ ap (λ ls. Ok (after, ls)) (sym t.prints);
           typed = tt;
+          frees = refl;
+          edits = ups_at t.master t.none t.step;
           at = λ leave. read_as_is now.master w.master leave (none_is t.none);
           mirrors = subst (λ q. Mirrors q after) (sym t.left)
               (record { cell = same.cell; rows = up_rows; master = same.master; clients = same.clients; messages = same.messages; terms = same.terms });

@@ -65,14 +65,14 @@ module _ (p : Parts) (w : WorldState) (leave : List Rows) (here : Clocks) (entry
   abbrev now : Clocks
   now = entry.clocks
 
-  alone : w.master ≡ None → Ticks w entries now
+  pub alone : w.master ≡ None → Ticks w entries now
   alone none = alone_on w here entry entries timely on fair.0 fair.2 none
 
   beside_by : (m : Option MasterState) → w.master ≡ m → begins_life entry.deed ≡ false → Ticks w entries now
   beside_by None none not = alone none
   beside_by (Some s) up not = beside_on w here entry entries timely on fair.0 fair.2 s up not
 
-  beside : begins_life entry.deed ≡ false → Ticks w entries now
+  pub beside : begins_life entry.deed ≡ false → Ticks w entries now
   beside not = beside_by w.master refl not
 
   module _ (ticks : Ticks w entries now) where
@@ -92,8 +92,8 @@ module _ (p : Parts) (w : WorldState) (leave : List Rows) (here : Clocks) (entry
     there_fits fits = run_fits (view w leave) (steps.Tick (ticks_by w ticks.gain ticks.step) ∷ []) [] (view there left_there) fits (view there left_there, [], [], tick_made, (refl, refl), refl) refl
 
     -- a tick, and the step
-    enters : (new : Parts) (printed : List Line) → Follows there entries now new printed → Enters w leave entries now new printed
-    enters new printed f = record {
+    enters : (deed : Deed) (new : Parts) (printed : List Line) → Follows there p deed entries now new printed → Enters w leave entries now new printed
+    enters deed new printed f = record {
       made = steps.Tick (ticks_by w ticks.gain ticks.step) ∷ f.step ∷ [];
       behind = f.behind;
       left = left_after (step_frees there f.step) (step_edits there f.step) left_there f.behind.rows;
@@ -139,39 +139,39 @@ module _ (p : Parts) (w : WorldState) (leave : List Rows) (here : Clocks) (entry
   enters_by : (deed : Deed) → entry.deed ≡ deed → (new : Parts) (printed : List Line) → Does p now deed new printed → Enters w leave entries now new printed
   enters_by ComesUp is new printed t =
       let ticks = alone (same.master ∙ t.none) in
-      enters ticks new printed (comes_up (there ticks) entries now ticks.timely p (there_mirrors ticks) fair.0 fair.2 new printed t)
+      enters ticks ComesUp new printed (comes_up (there ticks) entries now ticks.timely p (there_mirrors ticks) fair.0 fair.2 new printed t)
   enters_by FallsComingUp is new printed t =
       let ticks = alone (same.master ∙ t.none) in
-      enters ticks new printed (falls_coming_up (there ticks) entries now ticks.timely p (there_mirrors ticks) new printed t)
+      enters ticks FallsComingUp new printed (falls_coming_up (there ticks) entries now ticks.timely p (there_mirrors ticks) new printed t)
   enters_by (Takes at) is new printed t =
       let ticks = beside (ap begins_life is) in
-      enters ticks new printed (takes (there ticks) entries now ticks.timely p (there_mirrors ticks) at new printed t)
+      enters ticks (Takes at) new printed (takes (there ticks) entries now ticks.timely p (there_mirrors ticks) at new printed t)
   enters_by Sweeps is new printed t =
       let ticks = beside (ap begins_life is) in
-      enters ticks new printed (sweeps (there ticks) entries now ticks.timely p (there_mirrors ticks) new printed t)
+      enters ticks Sweeps new printed (sweeps (there ticks) entries now ticks.timely p (there_mirrors ticks) new printed t)
   enters_by FallsSweeping is new printed t =
       let ticks = beside (ap begins_life is) in
-      enters ticks new printed (falls_sweeping (there ticks) entries now ticks.timely p (there_mirrors ticks) new printed t)
+      enters ticks FallsSweeping new printed (falls_sweeping (there ticks) entries now ticks.timely p (there_mirrors ticks) new printed t)
   enters_by AnswersBeat is new printed t =
       let ticks = beside (ap begins_life is) in
-      enters ticks new printed (answers_beat (there ticks) entries now ticks.timely p (there_mirrors ticks) new printed t)
+      enters ticks AnswersBeat new printed (answers_beat (there ticks) entries now ticks.timely p (there_mirrors ticks) new printed t)
   enters_by Goes is new printed t =
       let ticks = beside (ap begins_life is) in
-      enters ticks new printed (goes (there ticks) entries now ticks.timely p (there_mirrors ticks) new printed t)
+      enters ticks Goes new printed (goes (there ticks) entries now ticks.timely p (there_mirrors ticks) new printed t)
   enters_by (Begins number principal) is new printed t = begins (beside (ap begins_life is)) number principal new printed t
   enters_by (Asks number ask) is new printed t =
       let ticks = beside (ap begins_life is) in
-      enters ticks new printed (asks (there ticks) entries now ticks.timely p (there_mirrors ticks) number ask new printed t)
+      enters ticks (Asks number ask) new printed (asks (there ticks) entries now ticks.timely p (there_mirrors ticks) number ask new printed t)
   enters_by (Beats number) is new printed t =
       let ticks = beside (ap begins_life is) in
-      enters ticks new printed (beats (there ticks) entries now ticks.timely p (there_mirrors ticks) number new printed t)
+      enters ticks (Beats number) new printed (beats (there ticks) entries now ticks.timely p (there_mirrors ticks) number new printed t)
   enters_by (Hears at) is new printed t =
       let ticks = beside (ap begins_life is) in
-      enters ticks new printed (hears (there ticks) entries now ticks.timely p (there_mirrors ticks) at new printed t)
+      enters ticks (Hears at) new printed (hears (there ticks) entries now ticks.timely p (there_mirrors ticks) at new printed t)
 
 -- ---- runs, one after the other
 
-run_append : (old mid new : WorldView) (first second : List Step) (printed told : List Line) → AnyRun old first printed mid → AnyRun mid second told new → AnyRun old (first ++ second) (printed ++ told) new
+pub run_append : (old mid new : WorldView) (first second : List Step) (printed told : List Line) → AnyRun old first printed mid → AnyRun mid second told new → AnyRun old (first ++ second) (printed ++ told) new
 run_append old mid new [] second printed told one two = rw (sym one.1, one.0) two
 run_append old mid new (step ∷ first) second printed told one two =
     (one.0, one.1, one.2 ++ told, one.3, run_append one.0 mid new first second one.2 told one.4 two, ap (λ l. l ++ told) one.5 ∙ append_assoc one.1 one.2 told)
@@ -179,14 +179,14 @@ run_append old mid new (step ∷ first) second printed told one two =
 -- ---- a history
 
 -- what the world holds, and its clocks
-holds_so : (p : Parts) (w : WorldState) (leave : List Rows) → Mirrors p w → HoldsParts (view w leave) p
+pub holds_so : (p : Parts) (w : WorldState) (leave : List Rows) → Mirrors p w → HoldsParts (view w leave) p
 holds_so p w leave same = record { rows = same.rows; master = same.master; clients = same.clients; messages = same.messages; undoubted = refl }
 
-masters_clock : (m : Option MasterState) (now : Clocks) (clock : ℕ) → IsMastersClock m now clock → (s : MasterState) → m ≡ Some s → clock ≡ now.master
+pub masters_clock : (m : Option MasterState) (now : Clocks) (clock : ℕ) → IsMastersClock m now clock → (s : MasterState) → m ≡ Some s → clock ≡ now.master
 masters_clock None now clock h s up = cc
 masters_clock (Some other) now clock h s up = h
 
-shows_clocks : (w : WorldState) (entries : List Entry) (now : Clocks) → IsTimelyWorld w entries now → ShowsClocks w now
+pub shows_clocks : (w : WorldState) (entries : List Entry) (now : Clocks) → IsTimelyWorld w entries now → ShowsClocks w now
 shows_clocks w entries now timely = record {
   master = λ s up. masters_clock w.master now w.clock timely.master s up;
   client = λ number member found. (each_found_in (IsTimely w.master entries now) w.clients number member timely.each found).clock;
@@ -231,17 +231,17 @@ history_on p w leave here (entry ∷ entries) printed end same timely on fair h 
     }
 
 -- from nothing on: clocks that show no moment yet
-abbrev no_clocks : Clocks
+abbrev pub no_clocks : Clocks
 no_clocks = record { master = 0; client = λ number. 0 }
 
-goes_on_from : (entries : List Entry) → GoOn no_clocks entries
+pub goes_on_from : (entries : List Entry) → GoOn no_clocks entries
 goes_on_from [] = tt
 goes_on_from (entry ∷ entries) = λ number. omega arith
 
-began : (cell : List ℕ) (rows : Rows) (terms : MasterTerms) (entries : List Entry) → IsTimelyWorld (new_world cell rows terms) entries no_clocks
+pub began : (cell : List ℕ) (rows : Rows) (terms : MasterTerms) (entries : List Entry) → IsTimelyWorld (new_world cell rows terms) entries no_clocks
 began cell rows terms entries = record { early = omega arith; master = tt; each = tt; fair = tt }
 
-began_mirrors : (cell : List ℕ) (rows : Rows) (terms : MasterTerms) → Mirrors (nothing_yet cell rows terms) (new_world cell rows terms)
+pub began_mirrors : (cell : List ℕ) (rows : Rows) (terms : MasterTerms) → Mirrors (nothing_yet cell rows terms) (new_world cell rows terms)
 began_mirrors cell rows terms = record { cell = refl; rows = refl; master = refl; clients = λ n. refl; messages = refl; terms = refl }
 
 whole : (cell : List ℕ) (rows : Rows) (terms : MasterTerms) (entries : List Entry) (printed : List Line) (end : Parts) → (h : History (nothing_yet cell rows terms) entries printed end) → AreFair entries → Mirrored (new_world cell rows terms) [] (nothing_yet cell rows terms) entries printed end h
@@ -269,7 +269,7 @@ was_asked cell rows terms entries printed end number client call range h fair th
 
 -- ---- the last entry of one
 
-last_on : (p : Parts) (w : WorldState) (leave : List Rows) (here : Clocks) (entries : List Entry) (last : Entry) (printed : List Line) (mid new : Parts) (told : List Line) → Mirrors p w → IsTimelyWorld w (entries ++ last ∷ []) here → GoOn here (entries ++ last ∷ []) → AreFair (entries ++ last ∷ []) → IsConsistent w → History p entries printed mid → Does mid last.clocks last.deed new told → ServesPresent (map_of new.rows) told
+pub last_on : (p : Parts) (w : WorldState) (leave : List Rows) (here : Clocks) (entries : List Entry) (last : Entry) (printed : List Line) (mid new : Parts) (told : List Line) → Mirrors p w → IsTimelyWorld w (entries ++ last ∷ []) here → GoOn here (entries ++ last ∷ []) → AreFair (entries ++ last ∷ []) → IsConsistent w → History p entries printed mid → Does mid last.clocks last.deed new told → ServesPresent (map_of new.rows) told
 last_on p w leave here [] last printed mid new told same timely on fair fits h does =
     let enters = enters_by p w leave here last [] same timely on fair last.deed refl new told (subst (λ q. Does q last.clocks last.deed new told) h.1 does) in
     subst (λ rows. ServesPresent (map_of rows) told) enters.mirrors.rows (enters.serves fits)
@@ -312,7 +312,7 @@ module _ (w : WorldState) (fits : IsConsistent w) (number : ℕ) (member : World
       (subst (λ (o : Option WorldClient). IsUnexpired (seen_as name o).lease_sent (seen_as name o).lease_span (seen_as name o).now) (sym found) shown) entry
       (subst (λ (o : Option WorldClient). (seen_as name o).entry ≡ Some entry) (sym found) a.2)).present
 
-answer_on : (p : Parts) (w : WorldState) (leave : List Rows) (here now : Clocks) (entries : List Entry) (printed : List Line) (end : Parts) (number : ℕ) (client : ClientState) (name : List ℕ) (entry : Option View) → Mirrors p w → IsTimelyWorld w (entries ++ record { clocks = now; deed = Goes } ∷ []) here → GoOn here (entries ++ record { clocks = now; deed = Goes } ∷ []) → AreFair (entries ++ record { clocks = now; deed = Goes } ∷ []) → IsConsistent w → History p entries printed end → end.clients number ≡ Some client → answer client.cache (now.client number) name ≡ Some entry → entry ≡ view_at (map_of end.rows) name
+pub answer_on : (p : Parts) (w : WorldState) (leave : List Rows) (here now : Clocks) (entries : List Entry) (printed : List Line) (end : Parts) (number : ℕ) (client : ClientState) (name : List ℕ) (entry : Option View) → Mirrors p w → IsTimelyWorld w (entries ++ record { clocks = now; deed = Goes } ∷ []) here → GoOn here (entries ++ record { clocks = now; deed = Goes } ∷ []) → AreFair (entries ++ record { clocks = now; deed = Goes } ∷ []) → IsConsistent w → History p entries printed end → end.clients number ≡ Some client → answer client.cache (now.client number) name ≡ Some entry → entry ≡ view_at (map_of end.rows) name
 answer_on p w leave here now [] printed end number client name entry same timely on fair fits h there is =
     let last : Entry = record { clocks = now; deed = Goes } in
     let ticks = beside p w leave here last [] same timely on fair refl in

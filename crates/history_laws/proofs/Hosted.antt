@@ -94,32 +94,36 @@ pub record HasCell (p : Parts) (cell : CellState) : Type 0 where
 pub placed_has : (p : Parts) (cell : CellState) (outs : List Out) → HasCell (placed p cell outs) cell
 placed_has p cell outs = record { master = refl; rows = refl }
 
-same_placed : (p : Parts) (cell : CellState) → HasCell p cell → placed p cell [] ≡ p
+pub same_placed : (p : Parts) (cell : CellState) → HasCell p cell → placed p cell [] ≡ p
 same_placed p cell has = ap (λ m. record p { rows = cell.store.rows; master = m; told = p.told ++ [] }) (sym has.master) ∙ ap (λ rows. record p { rows = rows; told = p.told ++ [] }) (sym has.rows) ∙ ap (λ told. record p { told = told }) (append-nil p.told)
 
+pub sweep_does : (p : Parts) (clocks : Clocks) (now : ℕ) (old new : CellState) (swept : Swept) → clocks.master ≡ now → HasCell p old → SweepsOnce now old swept new → Does p clocks Sweeps (placed p new swept.outs) swept.lines
+sweep_does p clocks now old new swept at has once = record {
+  master = old.master;
+  next = new.master;
+  swept = swept;
+  up = has.master;
+  step = rw at once.step;
+  left = ap (λ rows. record p { rows = rows; master = Some new.master; told = p.told ++ map ToClient swept.outs }) (once.committed.rows ∙ ap (λ rows. changed_rows rows (sweep_edits old.master now)) (sym has.rows) ∙ ap (λ t. changed_rows p.rows (sweep_edits old.master t)) (sym at));
+  prints = refl;
+}
+
 pub sweep_is : (p : Parts) (clocks : Clocks) (now : ℕ) (old new : CellState) (swept : Swept) → clocks.master ≡ now → HasCell p old → SweepsOnce now old swept new → AreDeeds p clocks swept.lines (placed p new swept.outs)
-sweep_is p clocks now old new swept at has once =
-    one_deed p (placed p new swept.outs) clocks Sweeps swept.lines (record {
-      master = old.master;
-      next = new.master;
-      swept = swept;
-      up = has.master;
-      step = rw at once.step;
-      left = ap (λ rows. record p { rows = rows; master = Some new.master; told = p.told ++ map ToClient swept.outs }) (once.committed.rows ∙ ap (λ rows. changed_rows rows (sweep_edits old.master now)) (sym has.rows) ∙ ap (λ t. changed_rows p.rows (sweep_edits old.master t)) (sym at));
-      prints = refl;
-    })
+sweep_is p clocks now old new swept at has once = one_deed p (placed p new swept.outs) clocks Sweeps swept.lines (sweep_does p clocks now old new swept at has once)
+
+pub beat_does : (p : Parts) (clocks : Clocks) (now : ℕ) (old new : CellState) (swept : Swept) → clocks.master ≡ now → HasCell p old → BeatsOnce now old swept new → Does p clocks AnswersBeat (placed p new swept.outs) swept.lines
+beat_does p clocks now old new swept at has once = record {
+  master = old.master;
+  next = new.master;
+  swept = swept;
+  up = has.master;
+  step = rw at once.step;
+  left = ap (λ rows. record p { rows = rows; master = Some new.master; told = p.told ++ map ToClient swept.outs }) (ap (λ (s : Store). s.rows) once.store ∙ sym has.rows);
+  prints = refl;
+}
 
 beat_is : (p : Parts) (clocks : Clocks) (now : ℕ) (old new : CellState) (swept : Swept) → clocks.master ≡ now → HasCell p old → BeatsOnce now old swept new → AreDeeds p clocks swept.lines (placed p new swept.outs)
-beat_is p clocks now old new swept at has once =
-    one_deed p (placed p new swept.outs) clocks AnswersBeat swept.lines (record {
-      master = old.master;
-      next = new.master;
-      swept = swept;
-      up = has.master;
-      step = rw at once.step;
-      left = ap (λ rows. record p { rows = rows; master = Some new.master; told = p.told ++ map ToClient swept.outs }) (ap (λ (s : Store). s.rows) once.store ∙ sym has.rows);
-      prints = refl;
-    })
+beat_is p clocks now old new swept at has once = one_deed p (placed p new swept.outs) clocks AnswersBeat swept.lines (beat_does p clocks now old new swept at has once)
 
 -- steps of one kind, each of which is a deed
 abbrev EachIsDeed : Clocks → (CellState → Swept → CellState → Type 0) → Type 0
@@ -135,20 +139,20 @@ steps_are clocks Once each p old new (swept ∷ rest) has h =
     (deeds_append p (placed p h.0 swept.outs) (placed (placed p h.0 swept.outs) new (swept_outs rest)) clocks swept.lines (swept_lines rest) first later)
 
 -- a refusal leaves the master and the rows
-abbrev LeavesCell : (CellState → Fault → CellState → Type 0) → Type 0
+abbrev pub LeavesCell : (CellState → Fault → CellState → Type 0) → Type 0
 LeavesCell Stops = (old : CellState) (fault : Fault) (new : CellState) → Stops old fault new → (new.master ≡ old.master) × (new.store.rows ≡ old.store.rows)
 
 rows_left : (now : ℕ) (old new : CellState) (fault : Fault) → ((sweep_step old.master now ≡ Err fault × new ≡ old) ⊎ IsHeldUp fault (sweep_frees old.master now) (sweep_edits old.master now) old.store new.store) → new.store.rows ≡ old.store.rows
 rows_left now old new fault (inl same) = ap (λ (c : CellState). c.store.rows) same.1
 rows_left now old new fault (inr refused) = refused.rows
 
-stop_leaves : (now : ℕ) → LeavesCell (StopsAt now)
+pub stop_leaves : (now : ℕ) → LeavesCell (StopsAt now)
 stop_leaves now old fault new stops = (stops.master, rows_left now old new fault stops.why)
 
 beat_leaves : (now : ℕ) → LeavesCell (BeatStops now)
 beat_leaves now old fault new stops = (ap (λ (c : CellState). c.master) stops.same, ap (λ (c : CellState). c.store.rows) stops.same)
 
-left_placed : (p : Parts) (mid new : CellState) (outs : List Out) → (new.master ≡ mid.master) × (new.store.rows ≡ mid.store.rows) → placed p new outs ≡ placed p mid outs
+pub left_placed : (p : Parts) (mid new : CellState) (outs : List Out) → (new.master ≡ mid.master) × (new.store.rows ≡ mid.store.rows) → placed p new outs ≡ placed p mid outs
 left_placed p mid new outs left = ap (λ m. record p { rows = new.store.rows; master = Some m; told = p.told ++ map ToClient outs }) left.0 ∙ ap (λ rows. record p { rows = rows; master = Some mid.master; told = p.told ++ map ToClient outs }) left.1
 
 ends_are : (clocks : Clocks) (Once : CellState → Swept → CellState → Type 0) (Stops : CellState → Fault → CellState → Type 0) → EachIsDeed clocks Once → LeavesCell Stops → (p : Parts) (old new : CellState) (sweeps : List Swept) (end : End) → HasCell p old → EndsBy Once Stops old sweeps end new → AreDeeds p clocks (swept_lines sweeps) (placed p new (swept_outs sweeps))
@@ -216,7 +220,7 @@ beats_later : (now : ℕ) (shut : Bool) (old new : CellState) (beats : Round) �
 beats_later now true old new beats h = ends_later (BeatsOnce now) (BeatStops now) (beat_later now) (beat_stop_later now) old new beats.sweeps beats.end h
 beats_later now false old new beats h = as_same old.store new.store (ap (λ (c : CellState). c.store) h.1)
 
-settles_later : (now : ℕ) (old new : CellState) (settled : Settled) → Settles now old settled new → IsLater old.store new.store
+pub settles_later : (now : ℕ) (old new : CellState) (settled : Settled) → Settles now old settled new → IsLater old.store new.store
 settles_later now old new settled h =
     later_on old.store h.mid.store new.store (ends_later (SweepsOnce now) (StopsAt now) (sweep_later now) (stop_later now) old h.mid settled.round.sweeps settled.round.end h.swept)
     (beats_later now (is_shut settled.round.end) h.mid new settled.beats h.answered)
@@ -227,7 +231,7 @@ settles_later now old new settled h =
 abbrev Is : Parts → Clocks → Hosted → FrameReply → Type 0
 Is p clocks new reply = AreDeeds p clocks (reply_lines reply) (behind_frame p new (reply_outs reply)) × IsHostedIn (behind_frame p new (reply_outs reply)) new
 
-has_cell : (p : Parts) (master : MasterState) (store : Store) → p.master ≡ Some master → p.rows ≡ store.rows → HasCell p (cell_of master store)
+pub has_cell : (p : Parts) (master : MasterState) (store : Store) → p.master ≡ Some master → p.rows ≡ store.rows → HasCell p (cell_of master store)
 has_cell p master store up rows = record { master = up; rows = rows }
 
 -- nothing changes
@@ -242,20 +246,22 @@ stays_in p old new outs in_it later = record { master = refl; rows = refl; cell 
 
 module _ (p : Parts) (clocks : Clocks) (now : ℕ) (at : clocks.master ≡ now) (store : Store) where
   -- it takes a message
+  pub take_does : (master next : MasterState) (message : Request) (taken : Taken) (place : ℕ) → HasCell p (cell_of master store) → request_at p.told place ≡ Some message → is_client_number (request_client message) ≡ true → take_step master now message ≡ Ok (next, taken) → Does p clocks (Takes place) (placed p (cell_of next store) taken.outs) taken.lines
+  take_does master next message taken place has told numbered step = record {
+    master = master;
+    request = message;
+    next = next;
+    taken = taken;
+    up = has.master;
+    was_told = told;
+    numbered = numbered;
+    step = rw at step;
+    left = ap (λ rows. record p { rows = rows; master = Some next; told = p.told ++ map ToClient taken.outs }) (sym has.rows);
+    prints = refl;
+  }
+
   pub take_is : (master next : MasterState) (message : Request) (taken : Taken) (place : ℕ) → HasCell p (cell_of master store) → request_at p.told place ≡ Some message → is_client_number (request_client message) ≡ true → take_step master now message ≡ Ok (next, taken) → AreDeeds p clocks taken.lines (placed p (cell_of next store) taken.outs)
-  take_is master next message taken place has told numbered step =
-      one_deed p (placed p (cell_of next store) taken.outs) clocks (Takes place) taken.lines (record {
-        master = master;
-        request = message;
-        next = next;
-        taken = taken;
-        up = has.master;
-        was_told = told;
-        numbered = numbered;
-        step = rw at step;
-        left = ap (λ rows. record p { rows = rows; master = Some next; told = p.told ++ map ToClient taken.outs }) (sym has.rows);
-        prints = refl;
-      })
+  take_is master next message taken place has told numbered step = one_deed p (placed p (cell_of next store) taken.outs) clocks (Takes place) taken.lines (take_does master next message taken place has told numbered step)
 
   answer_is : (master : MasterState) (message : Request) (place : ℕ) (after : CellState) (answered : Answered) → IsHostedIn p (with_master (cell_of master store)) → request_at p.told place ≡ Some message → is_client_number (request_client message) ≡ true → Answers now message (cell_of master store) answered after → Is p clocks (with_master after) (replies.Answered answered)
   answer_is master message place after (answers.Refused fault) in_it told numbered h =
@@ -279,18 +285,21 @@ module _ (p : Parts) (clocks : Clocks) (now : ℕ) (at : clocks.master ≡ now) 
   )
 
   -- a master comes up
-  up_is : (read : Store) (cell : CellState) → IsHostedIn p (without_master store) → AreInOrder p.rows → read ≡ store → up_step read.cell read.rows p.terms now ≡ Ok cell.master → IsCommitted (up_edits read.rows) read cell.store → AreDeeds p clocks (lines.Up cell.master.epoch ∷ []) (placed p cell [])
-  up_is read cell in_it ordered same came committed =
+  pub up_does : (read : Store) (cell : CellState) → IsHostedIn p (without_master store) → AreInOrder p.rows → read ≡ store → up_step read.cell read.rows p.terms now ≡ Ok cell.master → IsCommitted (up_edits read.rows) read cell.store → Does p clocks ComesUp (placed p cell []) (lines.Up cell.master.epoch ∷ [])
+  up_does read cell in_it ordered same came committed =
       let rows : cell.store.rows ≡ changed_rows p.rows (up_edits p.rows) = committed.rows ∙ ap (λ (s : Store). changed_rows s.rows (up_edits s.rows)) same ∙ ap (λ r. changed_rows r (up_edits r)) (sym in_it.rows) in
       let step : up_step p.cell p.rows p.terms clocks.master ≡ Ok cell.master = rw (in_it.cell, in_it.rows, at) (subst (λ (s : Store). up_step s.cell s.rows p.terms now ≡ Ok cell.master) same came) in
-      one_deed p (placed p cell []) clocks ComesUp (lines.Up cell.master.epoch ∷ []) (record {
+      record {
         master = cell.master;
         none = in_it.master;
         ordered = ordered;
         step = step;
         left = ap (λ r. record p { rows = r; master = Some cell.master; told = p.told ++ [] }) rows ∙ ap (λ told. record p { rows = changed_rows p.rows (up_edits p.rows); master = Some cell.master; told = told }) (append-nil p.told);
         prints = refl;
-      })
+      }
+
+  up_is : (read : Store) (cell : CellState) → IsHostedIn p (without_master store) → AreInOrder p.rows → read ≡ store → up_step read.cell read.rows p.terms now ≡ Ok cell.master → IsCommitted (up_edits read.rows) read cell.store → AreDeeds p clocks (lines.Up cell.master.epoch ∷ []) (placed p cell [])
+  up_is read cell in_it ordered same came committed = one_deed p (placed p cell []) clocks ComesUp (lines.Up cell.master.epoch ∷ []) (up_does read cell in_it ordered same came committed)
 
   came_is : (epoch : ℕ) (settled : Settled) (new : Hosted) → IsHostedIn p (without_master store) → AreInOrder p.rows → new.store.doubt ≡ 0 → CameUp p.terms now store epoch settled new → Is p clocks new (replies.Came epoch settled)
   came_is epoch settled new in_it ordered sure h =
@@ -326,7 +335,7 @@ module _ (p : Parts) (clocks : Clocks) (now : ℕ) (at : clocks.master ≡ now) 
   kept_down : (fault : Fault) (new : Store) → IsKeptDown p.terms now fault store new → new.doubt ≡ 0 → (new.rows ≡ store.rows) × (new.cell ≡ store.cell)
   kept_down fault new h sure = kept_by fault new h.read h.was_read sure h.why
 
-  down_so : (fault : Fault) (new : Store) → StaysDown p.terms now fault store new → new.doubt ≡ 0 → (new.rows ≡ store.rows) × (new.cell ≡ store.cell)
+  pub down_so : (fault : Fault) (new : Store) → StaysDown p.terms now fault store new → new.doubt ≡ 0 → (new.rows ≡ store.rows) × (new.cell ≡ store.cell)
   down_so fault new (inl late) sure = (ap (λ (s : Store). s.rows) late.2, ap (λ (s : Store). s.cell) late.2)
   down_so fault new (inr (early, inl unread)) sure = (unread.rows, unread.cell)
   down_so fault new (inr (early, inr kept)) sure = kept_down fault new kept sure

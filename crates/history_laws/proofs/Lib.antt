@@ -16,3 +16,5 @@ mod ComeUp
 mod WorldsUp
 mod HostsUp
 mod GoOn
+mod Crashes
+mod RefusedFrames

@@ -6,3 +6,5 @@ pub mod Hosted
 pub mod Lost
 pub mod Kept
 pub mod ComeUp
+pub mod Crashes
+pub mod RefusedFrames

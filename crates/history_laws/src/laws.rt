@@ -3,6 +3,8 @@ ghost use Rattle.history_laws.specs.Laws.{HistoriesAreRuns, HistoriesHold, Prefi
 ghost use Rattle.history_laws.specs.Hosted.{FramesAreDeeds, GroupsAreDeeds, BytesCarryMessages, TrailsAreDeeds};
 ghost use Rattle.history_laws.specs.Lost.{LostGroupsAreEnds, UnheardAreAsUntold};
 ghost use Rattle.history_laws.specs.Kept.{ViewsAnswerTheRows};
+ghost use Rattle.history_laws.specs.Crashes.{RefusedRowsMayStand, CrashedHistoriesAreRuns, CrashedHistoriesHold, CachesShowWhatCrashesLeave, CachesAnswerWhatCrashesLeave};
+ghost use Rattle.history_laws.specs.RefusedFrames.{FramesAreStoredDeeds};
 ghost use Rattle.history_laws.specs.Example.{TwoProgramsArePossible, NothingComesOfNobody};
 
 /// What a master and clients do that run apart, with messages that are lost, late or repeated, masters that go without a word
@@ -82,4 +84,39 @@ pub fn trails_are_deeds()
 /// see is what that client has.
 pub fn views_answer_the_rows()
     ensures { ViewsAnswerTheRows }
+{}
+
+/// Whatever a master would commit by a sweep, its store may refuse: the master stays up and goes on, and a crash may leave those rows
+/// all the same.
+pub fn refused_rows_may_stand()
+    ensures { RefusedRowsMayStand }
+{}
+
+/// Histories over a store that may refuse what it is to commit, with crashes between them, each of which leaves some of the rows that the
+/// store may leave, are what a world does in runs with such crashes between them.
+pub fn crashed_histories_are_runs()
+    ensures { CrashedHistoriesAreRuns }
+{}
+
+/// So all that holds of the runs of a world holds after each crash, whichever rows it left: also those of a commit that was refused, of a
+/// master that went on to serve.
+pub fn crashed_histories_hold()
+    ensures { CrashedHistoriesHold }
+{}
+
+/// Whatever a client serves from its cache is what the rows hold of that name at that moment, whatever the store refused, and whichever rows
+/// crashes left.
+pub fn caches_show_what_crashes_leave()
+    ensures { CachesShowWhatCrashesLeave }
+{}
+
+/// And so is whatever its cache would answer at any moment by the client's clock.
+pub fn caches_answer_what_crashes_leave()
+    ensures { CachesAnswerWhatCrashesLeave }
+{}
+
+/// What a hosted master does by a frame by itself are deeds over its store, also where the store refuses the commit, and the master stays:
+/// after it the parts' store is the host's, with all rows that a crash may leave then.
+pub fn frames_are_stored_deeds()
+    ensures { FramesAreStoredDeeds }
 {}
