@@ -15,15 +15,18 @@ use Rattle.rows_cell.specs.declared.tables.Rows.{Rows}
 use Rattle.rows_cell.specs.declared.tables.Edit.{Edit}
 use Rattle.rows_cell.specs.Rows.{changed_rows, map_of}
 use Rattle.rows_cell.specs.Stores.{Store, IsUnread, IsRefused, MayLeave}
+use Rattle.client_core.specs.State.{ClientState}
+use Rattle.client_core.specs.declared.parts.targets.Outstanding.{Outstanding}
 use Rattle.master_state.specs.State.{MasterState}
 use Rattle.cell_core.specs.Step.{is_past_end}
 use Rattle.over_core.specs.Sweep.{left_after, sweep_step, sweep_edits, sweep_frees, IsHeldUp, MayHoldUp, MayLeaveUp}
 use Rattle.over_core.specs.Up.{up_step, up_commit, next_epoch, master_by, StaysDown}
+use Rattle.world_steps.specs.declared.mail.Message.{Message}
 use Rattle.world_steps.specs.declared.steps.Step.{Step}
 use Rattle.world_steps.specs.declared.steps.Step.TheVariants as steps
 use Rattle.world_steps.specs.World.{WorldState, WorldView, opened, new_world, store_in, world_step, world_up, came_up, came_up_edits, world_sweep, swept, without_quiet, ticked, step_edits, step_frees, IsAt, IsAtUp, IsOutsideUp, IsStored}
 use Rattle.world_steps.specs.Made.{IsTyped, AnyStep}
-use Rattle.world_cell.specs.Consistent.{IsConsistent}
+use Rattle.world_cell.specs.Consistent.{IsConsistent, HasAsked, Holds}
 use Rattle.world_cell.specs.Crashes.{CrashedRuns}
 use Rattle.world_cell.specs.Runs.{AnyRun}
 use Rattle.world_cell.specs.Served.{ServesPresent}
@@ -31,6 +34,7 @@ use Rattle.world_cell.proofs.ClocksByRuns.{run_consistent}
 use Rattle.world_cell.proofs.ConsistentSteps.{new_holds}
 use Rattle.world_cell.proofs.CrashLaws.{crashes_hold}
 use Rattle.world_cell.proofs.CrashRuns.{IsSafeWorld, crashes_keep}
+use Rattle.world_cell.proofs.MembersFound.{member_at}
 use Rattle.world_cell.proofs.SureRuns.{run_sure}
 use Rattle.world_cell.proofs.WorldCases.{step_sweeps}
 use Rattle.history_laws.specs.Parts.{Parts, Deed, ComesUp, FallsComingUp, Takes, Sweeps, FallsSweeping, AnswersBeat, Goes, Begins, Asks, Beats, Hears}
@@ -38,7 +42,7 @@ use Rattle.history_laws.specs.Histories.{Clocks, Entry, Does, GoOn, AreFair}
 use Rattle.history_laws.specs.Crashes.{RefusedRowsMayStand, StoredParts, nothing_over, deed_edits, deed_frees, StoredDeed, Done, SweepRefused, UpRefused, DoneBy, SweepRefusedBy, UpRefusedBy, DoesStored, StoredEntry, StoredHistory, life_of, as_clocked}
 use Rattle.history_laws.specs.Crashes.{crashed_over, CrashedHistories, entries_then, HoldsStored, GoesAlongStored, IsBehindCrashes, CrashedHistoriesAreRuns, CrashedHistoriesHold, CachesShowWhatCrashesLeave, CachesAnswerWhatCrashesLeave}
 use Rattle.history_laws.proofs.Ticking.{IsTimelyWorld, Ticks, ticks_by}
-use Rattle.history_laws.proofs.Mirrored.{Mirrors, ticked_mirrors}
+use Rattle.history_laws.proofs.Mirrored.{Mirrors, found_client, ticked_mirrors}
 use Rattle.history_laws.proofs.Deeds.{Follows, goes_alone, takes, sweeps, falls_sweeping, answers_beat, goes, asks, beats, hears, comes_up, falls_coming_up, joined, joins_step, joins_mirrors, joins_ticks}
 use Rattle.history_laws.proofs.Histories.{alone, beside, run_append, masters_clock, shows_clocks, no_clocks, goes_on_from, began, began_mirrors, last_on, answer_on}
 
@@ -119,7 +123,7 @@ held_doubts : (now : ℕ) (s : MasterState) (fault : Fault) (old new : Store) �
 held_doubts now s fault old new (inl same) = subst (λ (t : Store). old.doubt ≤ t.doubt) (sym same.1) (omega arith)
 held_doubts now s fault old new (inr held) = held.doubted
 
-does_doubts : (o new : StoredParts) (clocks : Clocks) (deed : StoredDeed) (printed : List Line) → DoesStored o clocks deed new printed → o.store.doubt ≤ new.store.doubt
+pub does_doubts : (o new : StoredParts) (clocks : Clocks) (deed : StoredDeed) (printed : List Line) → DoesStored o clocks deed new printed → o.store.doubt ≤ new.store.doubt
 does_doubts o new clocks (Done deed) printed d = d.stands.doubted
 does_doubts o new clocks SweepRefused printed t =
     subst (λ (n : StoredParts). o.store.doubt ≤ n.store.doubt) (sym t.left) (held_doubts clocks.master t.master t.fault o.store t.store t.why)
@@ -140,7 +144,7 @@ crashes_doubt o (entries ∷ others) printed end h =
     let later : h.0.store.doubt ≤ end.store.doubt = crashes_doubt (crashed_over h.0 h.3) others h.2 end h.6 in
     omega (arith, first, later)
 
-none_before : (before after : ℕ) → before ≤ after → after ≡ 0 → before ≡ 0
+pub none_before : (before after : ℕ) → before ≤ after → after ≡ 0 → before ≡ 0
 none_before before after h none = omega (arith, h, none)
 
 -- ---- a sweep that is refused
@@ -716,3 +720,14 @@ crashed_answer store terms histories printed begun entries before here now numbe
     let all = leads_on store terms histories printed begun crashes entries rest before here fair sure h in
     let fits = fits_on store terms histories printed begun crashes entries rest before here h range sure all in
     answer_on here.parts all.later.behind [] all.later.at now [] [] here.parts number client name entry all.later.mirrors all.later.timely all.later.on all.later.fair fits (refl, refl) there is
+
+-- the call that a client waits for was told
+pub crashed_asked : (store : Store) (terms : MasterTerms) (histories : List (List StoredEntry)) (printed : List (List Line)) (begun : StoredParts) (entries : List StoredEntry) (told : List Line) (end : StoredParts) (number : ℕ) (client : ClientState) (call : Outstanding) → terms.lease ≤ longest_lease
+    → CrashedHistories (nothing_over store terms) histories printed begun → StoredHistory begun entries told end → AreFair (entries_then histories (map as_clocked entries)) → end.store.doubt ≡ 0 → end.parts.clients number ≡ Some client → client.outstanding ≡ Some call → HasAsked end.parts.told client call
+crashed_asked store terms histories printed begun entries told end number client call range crashes h fair sure there waits =
+    let on = leads_on store terms histories printed begun crashes entries [] told end (subst (λ (l : List Entry). AreFair (entries_then histories l)) (sym (append-nil (map as_clocked entries))) fair) sure h in
+    let fits = fits_on store terms histories printed begun crashes entries [] told end h range sure on in
+    let w : WorldState = on.later.behind in
+    let mine = found_client (member_at w.clients number) client (on.later.mirrors.clients number ∙ there) in
+    let held : Holds w.messages client = subst (λ (c : ClientState). Holds w.messages c) mine.2 (fits.holds number mine.0 mine.1) in
+    (subst (λ (sent : List Message). Holds sent client) on.later.mirrors.messages held).asked call waits

@@ -6,8 +6,6 @@ use Rattle.std.proofs.lemmas.Bool.Decides.{nat_tests}
 use Rattle.lease_core.specs.Lease.{IsMoment, longest_lease, LeaseTerms, IsUnexpired}
 use Rattle.cache_core.specs.Caches.{answer, entry_of, is_leased}
 use Rattle.client_core.specs.State.{ClientState, lease_of}
-use Rattle.client_core.specs.declared.parts.targets.Outstanding.{Outstanding}
-use Rattle.world_steps.specs.declared.mail.Message.{Message}
 use Rattle.node_core.specs.declared.views.View.{View}
 use Rattle.world_steps.specs.declared.members.WorldClient.{WorldClient}
 use Rattle.world_cell.specs.Slices.{lease_shown, client_of as seen_as}
@@ -26,7 +24,7 @@ use Rattle.world_steps.specs.World.{WorldState, WorldView, IsUndoubted, new_worl
 use Rattle.world_steps.specs.Made.{IsTyped, Does as StepDoes, AnyStep}
 use Rattle.world_cell.specs.Runs.{AnyRun, Run}
 use Rattle.world_cell.specs.Served.{ServesPresent}
-use Rattle.world_cell.specs.Consistent.{IsConsistent, HasAsked, Holds}
+use Rattle.world_cell.specs.Consistent.{IsConsistent}
 use Rattle.world_cell.specs.RunLaws.{HoldsOfRun}
 use Rattle.world_cell.proofs.ConsistentSteps.{new_holds}
 use Rattle.world_cell.proofs.LawsOfRuns.{runs_hold}
@@ -257,15 +255,6 @@ pub hold : HistoriesHold
 hold cell rows terms entries printed end range h fair =
     let is = are_runs cell rows terms entries printed end h fair in
     (is, runs_hold (new_view cell rows terms) (λ sure. new_holds cell rows terms range) is.steps printed is.new is.run is.holds.undoubted)
-
--- the call that a client waits for was told
-pub was_asked : (cell : List ℕ) (rows : Rows) (terms : MasterTerms) (entries : List Entry) (printed : List Line) (end : Parts) (number : ℕ) (client : ClientState) (call : Outstanding) → terms.lease ≤ longest_lease → History (nothing_yet cell rows terms) entries printed end → AreFair entries → end.clients number ≡ Some client → client.outstanding ≡ Some call → HasAsked end.told client call
-was_asked cell rows terms entries printed end number client call range h fair there waits =
-    let all = whole cell rows terms entries printed end h fair in
-    let fits = run_fits (view (new_world cell rows terms) []) all.made printed (view all.behind all.left) (new_holds cell rows terms range) all.run refl in
-    let mine = found_client (member_at all.behind.clients number) client (all.mirrors.clients number ∙ there) in
-    let held : Holds all.behind.messages client = subst (λ (c : ClientState). Holds all.behind.messages c) mine.2 (fits.holds number mine.0 mine.1) in
-    (subst (λ (sent : List Message). Holds sent client) all.mirrors.messages held).asked call waits
 
 -- ---- the last entry of one
 

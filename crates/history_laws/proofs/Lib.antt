@@ -18,3 +18,5 @@ mod HostsUp
 mod GoOn
 mod Crashes
 mod RefusedFrames
+mod Stored
+mod KeptCrashes

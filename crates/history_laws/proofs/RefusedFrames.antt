@@ -41,11 +41,9 @@ use Rattle.history_laws.specs.Hosted.{swept_lines, swept_outs, settled_outs, rep
 use Rattle.history_laws.specs.Crashes.{StoredParts, StoredDeed, Done, SweepRefused, UpRefused, DoesStored, StoredEntry, StoredHistory, deed_edits, deed_frees}
 use Rattle.history_laws.specs.RefusedFrames.{end_lines, settled_told, frame_told, stored_at, FramesAreStoredDeeds}
 use Rattle.history_laws.proofs.Hosted.{HasCell, placed, placed_has, placed_again, same_placed, left_placed, has_cell, sweep_does, beat_does, take_does, up_does, down_so, stop_leaves, settles_later, same_behind, frames_are}
+use Rattle.history_laws.proofs.Stored.{with_store, stood}
 
 -- ---- histories over a store, one after the other
-
-abbrev with_store : Parts → Store → StoredParts
-with_store p store = record { parts = p; store = store }
 
 stored_append : (old mid new : StoredParts) (first second : List StoredEntry) (printed told : List Line) → StoredHistory old first printed mid → StoredHistory mid second told new → StoredHistory old (first ++ second) (printed ++ told) new
 stored_append old mid new [] second printed told one two = rw (sym one.1, one.0) two
@@ -76,10 +74,6 @@ over_placed p cell outs = with_store (placed p cell outs) cell.store
 
 over_again : (p : Parts) (mid new : CellState) (a b : List Out) → over_placed (placed p mid a) new b ≡ over_placed p new (a ++ b)
 over_again p mid new a b = ap (λ (q : Parts). with_store q new.store) (placed_again p mid new a b)
-
--- where nothing is committed the store stays
-stood : (store : Store) → IsSwept false [] store store
-stood store = record { cell = refl; rows = refl; leave = refl; counted = refl; doubted = omega arith }
 
 nothing_done : (p : Parts) (clocks : Clocks) (old new : CellState) → HasCell p old → new ≡ old → AreOver (with_store p old.store) clocks [] (over_placed p new [])
 nothing_done p clocks old new has same =

@@ -8,3 +8,4 @@ pub mod Kept
 pub mod ComeUp
 pub mod Crashes
 pub mod RefusedFrames
+pub mod KeptCrashes

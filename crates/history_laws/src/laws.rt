@@ -5,6 +5,7 @@ ghost use Rattle.history_laws.specs.Lost.{LostGroupsAreEnds, UnheardAreAsUntold}
 ghost use Rattle.history_laws.specs.Kept.{ViewsAnswerTheRows};
 ghost use Rattle.history_laws.specs.Crashes.{RefusedRowsMayStand, CrashedHistoriesAreRuns, CrashedHistoriesHold, CachesShowWhatCrashesLeave, CachesAnswerWhatCrashesLeave};
 ghost use Rattle.history_laws.specs.RefusedFrames.{FramesAreStoredDeeds};
+ghost use Rattle.history_laws.specs.KeptCrashes.{ViewsAnswerWhatCrashesLeave};
 ghost use Rattle.history_laws.specs.Example.{TwoProgramsArePossible, NothingComesOfNobody};
 
 /// What a master and clients do that run apart, with messages that are lost, late or repeated, masters that go without a word
@@ -119,4 +120,10 @@ pub fn caches_answer_what_crashes_leave()
 /// after it the parts' store is the host's, with all rows that a crash may leave then.
 pub fn frames_are_stored_deeds()
     ensures { FramesAreStoredDeeds }
+{}
+
+/// Whatever the view of a client's cache that was published last would answer is what the rows hold then, also after crashes that left rows
+/// of a refused commit, and while its keeper is late.
+pub fn views_answer_what_crashes_leave()
+    ensures { ViewsAnswerWhatCrashesLeave }
 {}
