@@ -275,7 +275,7 @@ static void questions(void) {
     expect("a load", cell_server_rows_asked(block.at, block.count, &found) == CELL_SERVER_DONE && memcmp(&found, &load, sizeof found) == 0);
     block = block_of(1);
     put(&block, 7, 8);
-    put(&block, 8, 4);
+    put(&block, 10, 4);
     put(&block, 0, 1); /* the epoch */
     put(&block, 3, 8);
     put(&block, 1, 1); /* the next instance */
@@ -297,7 +297,11 @@ static void questions(void) {
     put(&block, 60, 8);
     put(&block, 7, 1); /* it goes */
     put_key(&block);
-    const struct cell_server_edit edits[8] = {
+    put(&block, 8, 1); /* a session goes */
+    put(&block, 3, 8);
+    put(&block, 9, 1); /* and these have ended */
+    put(&block, 4, 8);
+    const struct cell_server_edit edits[10] = {
         {.what = CELL_SERVER_EDIT_EPOCH, .number = 3},
         {.what = CELL_SERVER_EDIT_NEXT_INSTANCE, .number = 5},
         {.what = CELL_SERVER_EDIT_PUT_NODE, .kind = 1, .life = 1, .instance = 4, .content_generation = 5, .acl_generation = 6,
@@ -307,11 +311,13 @@ static void questions(void) {
         {.what = CELL_SERVER_EDIT_PUT_SESSION, .client = 1, .live = 1, .name_length = 3},
         {.what = CELL_SERVER_EDIT_PUT_LOCK, .instance = 4, .client = 1, .handle = 2, .state = 2, .delay = 60},
         {.what = CELL_SERVER_EDIT_REMOVE_LOCK, .instance = 4, .client = 1, .handle = 2},
+        {.what = CELL_SERVER_EDIT_REMOVE_SESSION, .client = 3},
+        {.what = CELL_SERVER_EDIT_ENDED_BELOW, .number = 4},
     };
-    const char *const texts[8] = {"", "", "/ls/c/dbaseownaclhi", "/ls/c/d", "/ls/c/d", "ann", "", ""};
-    struct cell_server_question commit = {.what = CELL_SERVER_COMMIT, .number = 7, .edits = 8, .edits_at = 14};
+    const char *const texts[10] = {"", "", "/ls/c/dbaseownaclhi", "/ls/c/d", "/ls/c/d", "ann", "", "", "", ""};
+    struct cell_server_question commit = {.what = CELL_SERVER_COMMIT, .number = 7, .edits = 10, .edits_at = 14};
     expect("a commit", cell_server_rows_asked(block.at, block.count, &found) == CELL_SERVER_DONE && memcmp(&found, &commit, sizeof found) == 0);
-    expect_edits(block, found.edits_at, edits, texts, 8);
+    expect_edits(block, found.edits_at, edits, texts, 10);
     expect("a commit that is cut", cell_server_rows_asked(block.at, block.count - 1, &found) == CELL_SERVER_CUT);
     expect("a commit and more", cell_server_rows_asked(block.at, block.count + 1, &found) == CELL_SERVER_EXTRA);
     block.at[1] = 2;
@@ -362,7 +368,7 @@ static void rows(void) {
     code = cell_server_rows_lock(&lock, room, sizeof room, &length);
     expect_bytes("a lock", code, room, length, wanted);
     put_bytes(&all, wanted);
-    struct cell_server_own own = {.number = 7, .epoch = 3, .next_instance = 5, .rows = 3, .length = all.count};
+    struct cell_server_own own = {.number = 7, .epoch = 3, .next_instance = 5, .ended_below = 9, .rows = 3, .length = all.count};
     struct bytes front = block_of(0);
     put(&front, 7, 8);
     put_text(&front, "c");
@@ -370,6 +376,7 @@ static void rows(void) {
     for (int i = 0; i < 32; i++) put(&front, (uint64_t)i, 1);
     put(&front, 3, 8);
     put(&front, 5, 8);
+    put(&front, 9, 8);
     put(&front, 3, 4);
     wanted = (struct bytes){{0}, 0};
     put(&wanted, front.count + all.count, 4);

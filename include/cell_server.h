@@ -259,6 +259,10 @@ struct cell_server_edit {
 #define CELL_SERVER_EDIT_PUT_SESSION 6u
 #define CELL_SERVER_EDIT_PUT_LOCK 7u
 #define CELL_SERVER_EDIT_REMOVE_LOCK 8u
+/* Of a session that has ended: nothing is recorded of it any more. */
+#define CELL_SERVER_EDIT_REMOVE_SESSION 9u
+/* A client number below the number that has no session gets none any more. */
+#define CELL_SERVER_EDIT_ENDED_BELOW 10u
 
 /* The edit at the front of these bytes: DONE, and its texts go into the room where they all fit, one after the other: the name, the three
  * ACL names, the content. The edits of a COMMIT are read from `edits_at` on, each after the `taken` of the one before; all of them are
@@ -273,6 +277,8 @@ struct cell_server_own {
     uint64_t epoch;
     /* The instance of the next node. */
     uint64_t next_instance;
+    /* A client number below it that has no session gets none any more. */
+    uint64_t ended_below;
     /* How many rows follow, and how many bytes they have together. */
     uint64_t rows;
     uint64_t length;

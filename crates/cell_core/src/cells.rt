@@ -6,7 +6,7 @@ ghost use Rattle.master_state.specs.Lookups.{noted};
 ghost use Rattle.master_state.specs.Notices.{with_tellings};
 ghost use Rattle.master_state.specs.Updates.{BeginsNew, grown, undone, rest_of, with_rest};
 
-use crate::stored::{locks_of, sessions_of};
+use crate::stored::{departed_of, locks_of, sessions_of};
 use collections::Items;
 use master_parts::{Nodes, SessionEvent, Tables};
 use master_state::{FormerParts, Grown, Master, Rest, Update, finish, grow, settle, undo};
@@ -46,12 +46,14 @@ impl MemoryMaster {
         let nodes = Nodes::of_map(alloc, rows.map(alloc)?)?;
         let locks = locks_of(alloc, &rows, now)?;
         let sessions = sessions_of(alloc, &rows, terms.lease, now)?;
+        let departed = departed_of(alloc, &rows)?;
         let recovering = !sessions.all_heard();
         let Rows {
             cell,
             secret,
             epoch,
             next_instance,
+            ended_below,
             ..
         } = rows;
         let master = Master {
@@ -63,6 +65,8 @@ impl MemoryMaster {
             limits: terms.limits,
             tables: Tables::of_parts(alloc, nodes, sessions),
             locks,
+            departed,
+            ended_below,
             recovering,
             clock: now,
             serving_from: now,

@@ -2,11 +2,13 @@
 ghost use Rattle.std.specs.Prelude.{◌≡◌, ◌≤◌, IfOk, OnOk};
 ghost use Rattle.lease_core.specs.Lease.{IsMoment, least_lease, longest_lease};
 ghost use Rattle.master_parts.specs.StoredSessions.{sessions_of};
+ghost use Rattle.master_state.specs.Departed.{departed_in, with_departed_row};
 ghost use Rattle.master_parts.specs.Locks.{locks_of, generations_of, with_row, holder_of};
 
 use lock_core::{Claim, Hold, Locks, Owner};
+use master_state::Departed;
 use node_core::{LockMode, NUMBER_LIMIT};
-use rows_cell::{LockKey, LockRow, LockState, Rows};
+use rows_cell::{LockKey, LockRow, LockState, Rows, SessionRow};
 use session_core::Sessions;
 use std::alloc::{AllocError, Global};
 use tags_cell::Reply;
@@ -80,4 +82,25 @@ pub(crate) fn sessions_of(
         sessions.recover(*client, session.principal.clone()?, session.live, now)?;
     }
     Ok(sessions)
+}
+
+// The clients of the rows whose sessions have ended, by their numbers.
+pub(crate) fn departed_of(alloc: Global, rows: &Rows) -> Result<Departed, AllocError>
+    ensures { IfOk result (λ departed. departed ≡ departed_in rows.now.sessions) }
+{
+    let mut departed = Departed::new(alloc);
+    for (client, session) in rows.sessions.as_map() {
+        note_row(&mut departed, *client, session)?;
+    }
+    Ok(departed)
+}
+
+fn note_row(departed: &mut Departed, client: u64, session: &SessionRow) -> Result<(), AllocError>
+    ensures { OnOk result (departed.new ≡ with_departed_row departed.old (client, session.now)) }
+{
+    if session.live {
+        return Ok(());
+    }
+    departed.note(client)?;
+    Ok(())
 }

@@ -250,6 +250,7 @@ pub(crate) fn show_master(sheet: &mut Sheet, master: &Master, names: &[Name]) {
     sheet.begin("epoch", 0);
     sheet.word(master.epoch);
     sheet.word(master.next_instance);
+    sheet.word(master.ended_below);
     sheet.word(u64::from(master.recovering));
     sheet.word(master.serving_from);
     sheet.block(master.name.as_str().as_bytes());

@@ -4,7 +4,7 @@ use Rattle.node_core.specs.declared.views.Mod.{Mod}
 use Rattle.node_core.specs.declared.views.Mod.TheVariants.{Put, Gone}
 use Rattle.gate_core.specs.Gate.{GateState, without}
 use Rattle.master_parts.specs.OpenHandles.{without_key, with_state, without_client}
-use Rattle.master_state.specs.Updates.{with_begun, with_put, with_node, with_standing, without_handle, forgets_of, grown, session_rest, map_rest, with_session_rest, with_kept, without_gone, with_map, without_lock, recovered, left, done}
+use Rattle.master_state.specs.Updates.{with_begun, with_put, with_node, with_standing, without_handle, retired, forgets_of, grown, session_rest, map_rest, with_session_rest, with_kept, without_gone, with_map, without_lock, recovered, left, done}
 use Rattle.master_state.specs.State.{MasterState}
 use Rattle.master_state.specs.Updates.{with_note}
 use Rattle.master_state.specs.Lookups.{noted}
@@ -34,7 +34,7 @@ begun : (s : MasterState) (o : Option SessionUpdate) → IsSame (with_begun s o)
 begun s None = itself s
 begun s (Some (Begins client principal)) = record { handles = refl; gate = refl; epoch = refl }
 begun s (Some (Prolongs client)) = itself s
-begun s (Some (Ends client principal parting)) = itself s
+begun s (Some (Ends client principal parting)) = record { handles = refl; gate = refl; epoch = refl }
 begun s (Some (Answers client)) = itself s
 
 put : (s : MasterState) (change : Mod) → IsSame (with_put s change) s
@@ -127,7 +127,7 @@ module _ (s : MasterState) (update : Update) where
   grown_master = grown s update
 
   abbrev bare_master : MasterState
-  bare_master = without_handle grown_master (forgets_of update.note)
+  bare_master = retired (without_handle grown_master (forgets_of update.note)) update.retires
 
   abbrev session_master : MasterState
   session_master = with_session_rest bare_master (session_rest update.session)

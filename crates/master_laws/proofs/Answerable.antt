@@ -32,6 +32,7 @@ use Rattle.session_core.specs.declared.records.Session.{Session}
 use Rattle.session_core.specs.Session.{beat_fault, live_beat_fault, beaten, keeping, processed_to, session_until}
 use Rattle.session_core.specs.Session as of_session
 use Rattle.session_core.specs.Sessions.{session_of, is_live, with_session, with_new}
+use Rattle.collections.proofs.OneKey.{lookup_removed, lookup_removed_apart}
 use Rattle.session_core.specs.Laws.{issued_at}
 use Rattle.session_core.proofs.OneClient.{own_session, other_session, lookup_put, lookup_put_apart}
 use Rattle.session_core.proofs.IssuedBy.{issued_to_each}
@@ -39,13 +40,14 @@ use Rattle.session_core.proofs.Keys.{same_key}
 use Rattle.master_parts.specs.OpenHandles.{without_client}
 use Rattle.master_parts.specs.declared.pending.Task.{Task}
 use Rattle.master_state.specs.State.{MasterState}
-use Rattle.master_state.specs.Lookups.{acknowledgement}
+use Rattle.master_state.specs.Lookups.{acknowledgement, IsUnused}
+use Rattle.master_state.specs.Updates.{retired}
 use Rattle.cell_core.specs.Step.{queued, parked, with_right, asking, asking_for}
 use Rattle.over_core.specs.Kept.{IsKept}
 use Rattle.over_core.proofs.EachSession.{other_key}
 use Rattle.over_core.proofs.KeptByTakes.{asked_kept}
 use Rattle.over_core.proofs.OwnedRights.{none_asked}
-use Rattle.over_core.proofs.SessionReads.{lives_in, reads_step, lives_new, reads_issued}
+use Rattle.over_core.proofs.SessionReads.{lives_in, reads_step, reads_gone, lives_new, reads_issued}
 
 -- how many invalidations a client was issued, and has acknowledged
 abbrev pub tally_in : Option (Session Reply) → Option Tally
@@ -366,7 +368,7 @@ ended_answerable cell rows s client ending all k h =
 
 -- ---- a session that begins
 
-pub begun_answerable : (cell : List ℕ) (rows : Rows) (s : MasterState) (client : ℕ) (principal : List ℕ) (timeout : ℕ) → session_of s.sessions client ≡ None → IsKept cell rows s → IsAnswerable [] s
+pub begun_answerable : (cell : List ℕ) (rows : Rows) (s : MasterState) (client : ℕ) (principal : List ℕ) (timeout : ℕ) → IsUnused s client → IsKept cell rows s → IsAnswerable [] s
     → IsAnswerable [] (record s { sessions = with_new s.sessions client (session_until principal true timeout) })
 begun_answerable cell rows s client principal timeout none k h =
     let fresh : Session Reply = session_until principal true timeout in
@@ -378,7 +380,7 @@ begun_answerable cell rows s client principal timeout none k h =
           (elim (is_at (nat_cmp other) client) as (λ b. is_at (nat_cmp other) client ≡ b → tally.acknowledged < number) [
             | true ↦ (λ at.
                 let same : other ≡ client = same_key other client at in
-                let nothing : asked_for client name s.rights ≡ None = none_asked client name s.rights (k.owned client none) in
+                let nothing : asked_for client name s.rights ≡ None = none_asked client name s.rights (k.owned client none.0 none.1) in
                 let own : asked_for client name s.rights ≡ Some number = subst (λ q. asked_for q name s.rights ≡ Some number) same is in
                 absurd (cc))
             | false ↦ (λ at. h.unacked other name number tally is (ap tally_in (sym (lookup_put_apart client other (other_key other client at) s.sessions.sessions fresh)) ∙ found))
@@ -394,3 +396,28 @@ begun_answerable cell rows s client principal timeout none k h =
             | false ↦ (λ at. h.within other tally (ap tally_in (sym (lookup_put_apart client other (other_key other client at) s.sessions.sessions fresh)) ∙ found))
           ]) refl;
     }
+
+-- ---- a session that goes
+
+module _ (s : MasterState) (client : ℕ) (session : Session Reply) (found : session_of s.sessions client ≡ Some session) (ended : session.live ≡ false) (order : IsStrictlySortedBy nat_cmp (keys_of s.sessions.sessions)) where
+  abbrev gone : MasterState
+  gone = retired s (Some client)
+
+  tally_there : (other : ℕ) (tally : Tally) → tally_of gone other ≡ Some tally → tally_of s other ≡ Some tally
+  tally_there other tally there =
+      (elim (is_at (nat_cmp other) client) as (λ b. is_at (nat_cmp other) client ≡ b → tally_of s other ≡ Some tally) [
+        | true ↦ (λ at.
+            let same : other ≡ client = same_key other client at in
+            let none : tally_of gone client ≡ None = ap tally_in (lookup_removed client s.sessions.sessions order) in
+            let own : tally_of gone client ≡ Some tally = subst (λ q. tally_of gone q ≡ Some tally) same there in
+            absurd (cc))
+        | false ↦ (λ at. ap tally_in (sym (lookup_removed_apart client other (other_key other client at) s.sessions.sessions)) ∙ there)
+      ]) refl
+
+  pub retired_answerable : IsAnswerable [] s → IsAnswerable [] gone
+  retired_answerable h = record {
+    live = λ other name held. reads_gone lives_in s.sessions client session order found ended other ∙ h.live other name held;
+    asked = h.asked;
+    unacked = λ other name number tally is there. h.unacked other name number tally is (tally_there other tally there);
+    within = λ other tally there. h.within other tally (tally_there other tally there);
+  }

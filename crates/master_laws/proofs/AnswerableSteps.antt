@@ -20,8 +20,11 @@ use Rattle.gate_core.specs.Gate.{touches, uncachable, pending_limit, push_answer
 use Rattle.session_core.specs.declared.records.LastCall.{LastCall}
 use Rattle.session_core.specs.declared.records.Parked.{Parked}
 use Rattle.session_core.specs.declared.records.Session.{Session}
-use Rattle.session_core.specs.Session.{prolonged, answered, unparked, keeping}
+use Rattle.session_core.specs.Session.{prolonged, answered, unparked, keeping, session_until}
+use Rattle.rights_core.specs.Rights as of_rights
+use Rattle.session_core.specs.Session as of_session
 use Rattle.session_core.specs.Sessions.{session_of, kept_of, is_live, with_session}
+use Rattle.master_parts.specs.OpenHandles.{without_client}
 use Rattle.lock_core.specs.declared.partings.Parting.{Parting}
 use Rattle.lock_core.specs.declared.partings.Parting.TheVariants as partings
 use Rattle.master_parts.specs.declared.handles.HandleNote.{HandleNote}
@@ -40,7 +43,7 @@ use Rattle.lock_core.specs.Turns.{reopened}
 use Rattle.master_state.specs.Lapses.{lapses_of, lapses_puts, lapses_replies}
 use Rattle.master_state.specs.Replies.{kept_puts, puts_of, replies_to, turn_replies}
 use Rattle.cell_core.specs.Outcomes.{left_put}
-use Rattle.master_state.specs.Updates.{with_note, with_kept, with_locks, without_lock}
+use Rattle.master_state.specs.Updates.{with_note, with_kept, with_locks, without_lock, retired}
 use Rattle.master_state.specs.declared.updates.KeptPut.{KeptPut}
 use Rattle.master_state.specs.declared.updates.LockPut.{LockPut}
 use Rattle.cell_core.specs.declared.asking.TouchedNames.{TouchedNames}
@@ -54,12 +57,17 @@ use Rattle.over_core.specs.Kept.{IsKept, IsOwnCall, HaveOneCall, outstanding}
 use Rattle.over_core.specs.SweepCase.{IsNextApplied, SweepCase, rest, ended, mapped, told as told_all, parted, left_reply, gone_change, gone_replies, swept_by}
 use Rattle.over_core.specs.SweepCase.SweepCase.{Quiet, Recovers, Expires, Departed, AnswersBeat, TurnedAway, StartedAgain, Started, Reopens, Tidies, Spared, Tidied, OfEnded, Ended, Applied, Deleted, Locked, Awaited, Left}
 use Rattle.over_core.proofs.KeptByApplications.{rest_kept}
+use Rattle.over_core.proofs.KeptBySweeps.{begun_then, sessions_ordered}
+use Rattle.over_core.proofs.Retired.{by_retiring, still_there}
+use Rattle.rows_cell.proofs.EntriesInOrder.{sorted_put}
+use Rattle.std.specs.Ordering.{nat_cmp}
+use Rattle.std.specs.Cmp.{nat_cmp_total}
 use Rattle.over_core.proofs.KeptByTakes.{unnoted, none_outstanding, recorded_kept, note_kept, queued_kept}
 use Rattle.over_core.proofs.OneCall.{one_started, one_called}
 use Rattle.over_core.proofs.OwnCalls.{own_call}
 use Rattle.over_core.proofs.SessionReads.{lives_in}
 use Rattle.over_core.proofs.ToldSessions.{reads_told}
-use Rattle.master_laws.proofs.Answerable.{tally_in, IsAnswerable, IsAlike, alike, alike_itself, alike_then, stepped_alike, asking_all_answerable, queued_answerable, right_answerable, parked_answerable, ended_answerable, begun_answerable}
+use Rattle.master_laws.proofs.Answerable.{tally_in, retired_answerable, IsAnswerable, IsAlike, alike, alike_itself, alike_then, stepped_alike, asking_all_answerable, queued_answerable, right_answerable, parked_answerable, ended_answerable, begun_answerable}
 
 -- ---- what changes neither rights nor tallies
 
@@ -223,9 +231,11 @@ module _ (cell : List ℕ) (rows : Rows) where
   -- a session that ends, with its locks, and who is told of that
   parted_answerable : (parting : Parting) (s : MasterState) (client : ℕ) (puts : List LockPut) (replies : List Reply) → IsKept cell rows s → IsAnswerable [] s → IsAnswerable [] (told_all (with_locks (parted parting s client) puts) replies)
   parted_answerable parting s client puts replies k h =
+      let gone : MasterState = record s { handles = without_client s.handles client; sessions = with_session s.sessions client of_session.ended; rights = of_rights.ended client (ending_by parting) s.rights } in
       let p = parted parting s client in
       let l = with_locks p puts in
-      alike [] p (told_all l replies) (alike_then p l (told_all l replies) (same p l refl refl refl) (puts_alike (kept_puts replies) l)) (ended_answerable cell rows s client (ending_by parting) (parting_ends parting) k h)
+      let told : IsAlike p (told_all l replies) = alike_then p l (told_all l replies) (same p l refl refl refl) (puts_alike (kept_puts replies) l) in
+      alike [] gone (told_all l replies) (alike_then gone p (told_all l replies) (same gone p refl refl refl) told) (ended_answerable cell rows s client (ending_by parting) (parting_ends parting) k h)
 
   pub swept_answerable : (s : MasterState) (c : SweepCase s) → IsKept cell rows s → IsAnswerable [] s → IsAnswerable [] (swept_by s c).0
   swept_answerable s (Quiet none) k h = h
@@ -240,7 +250,11 @@ module _ (cell : List ℕ) (rows : Rows) where
       let after : MasterState = record s { sessions = with_session s.sessions asked.client (prolonged (s.clock + s.sessions.lease)) } in
       alike [] s (rest after front back) (alike_then s (rest s front back) (rest after front back) (rest_alike s front back (tasks.Asked asked) turn) (stepped_alike (rest s front back) asked.client (prolonged (s.clock + s.sessions.lease)) (λ before. refl) (λ before. refl))) h
   swept_answerable s (Started front back asked principal received turn work none) k h =
-      begun_answerable cell rows (rest s front back) asked.client principal (s.clock + s.sessions.lease) none (rest_kept cell rows s k front back (tasks.Asked asked) turn) (alike [] s (rest s front back) (rest_alike s front back (tasks.Asked asked) turn) h)
+      let new : Session Reply = session_until principal true (s.clock + s.sessions.lease) in
+      let here : MasterState = begun_then s front back asked.client principal in
+      let begun : IsAnswerable [] here = begun_answerable cell rows (rest s front back) asked.client principal (s.clock + s.sessions.lease) none (rest_kept cell rows s k front back (tasks.Asked asked) turn) (alike [] s (rest s front back) (rest_alike s front back (tasks.Asked asked) turn) h) in
+      by_retiring s (λ o. IsAnswerable [] (retired here o)) begun
+      (λ client gone. retired_answerable here client gone.session (still_there s client asked.client new gone none.0) gone.ended (sorted_put nat_cmp nat_cmp_total s.sessions.sessions asked.client new (sessions_ordered cell rows s k)) begun)
   swept_answerable s (Reopens instance due) k h =
       let l = with_locks s (puts_of s instance (reopened (lock_at s.locks instance)).lock) in
       alike [] s (told_all l (turn_replies s (reopened (lock_at s.locks instance)))) (alike_then s l (told_all l (turn_replies s (reopened (lock_at s.locks instance)))) (same s l refl refl refl) (puts_alike (kept_puts (turn_replies s (reopened (lock_at s.locks instance)))) l)) h

@@ -1,6 +1,7 @@
 -- A change that has waited so long isn't held up by a client any more.
-use Rattle.std.proofs.Common.{◌≡◌, ℕ, ◌+◌, ◌<◌, ◌≤◌, List, [], ◌∷◌, Bool, true, false, Option, Some, None, refl, sym, subst, inl, inr, arith}
+use Rattle.std.proofs.Common.{◌≡◌, ℕ, ◌+◌, ◌<◌, ◌≤◌, List, [], ◌∷◌, Bool, true, false, Option, Some, None, refl, sym, ap, subst, inl, inr, arith}
 use Rattle.std.specs.Prelude.{Contains}
+use Rattle.std.specs.Option.{option_map_or}
 use Rattle.tags_cell.specs.declared.messages.outs.Reply.{Reply}
 use Rattle.tags_cell.specs.declared.messages.requests.Request.{Request}
 use Rattle.rights_core.specs.Rights.{holds, invalidations_of}
@@ -9,11 +10,11 @@ use Rattle.rights_core.proofs.Unacked.{asked_is_issued}
 use Rattle.gate_core.specs.declared.pending.Waiting.{Waiting}
 use Rattle.gate_core.specs.Gate.{touches, AreRising}
 use Rattle.session_core.specs.declared.records.Session.{Session}
-use Rattle.session_core.specs.Sessions.{session_of}
+use Rattle.session_core.specs.Sessions.{session_of, is_live}
 use Rattle.master_parts.specs.declared.pending.Task.{Task}
 use Rattle.master_state.specs.State.{MasterState}
 use Rattle.over_core.specs.Deadlines.{quiet_at}
-use Rattle.over_core.proofs.OwnedRights.{none_asked}
+use Rattle.rights_core.proofs.OneName.{asked_unheld}
 use Rattle.master_laws.specs.Closed.{MasterStep}
 use Rattle.master_laws.specs.Waits.{asks_to_start, GoesOnWithout, longest_hold, ChangesGoOn}
 use Rattle.master_laws.proofs.Following.{IsFollowed, any_in, only_one, followed_by_case, followed_by_sweep}
@@ -61,7 +62,7 @@ asked_lasts lease client most change = record {
     ends = λ q before h. tt;
     answers = λ q session beat due timed h. tt;
     prolongs = λ front back asked principal received session turn work found h. tt;
-    begins = λ front back asked principal received turn work. tt;
+    begins = λ front back asked principal received turn work none. tt;
   };
 }
 
@@ -107,9 +108,16 @@ module _ (lease up client now : ℕ) (s new : MasterState) (steps : List MasterS
       })) in
       all.left
 
+  -- a client without a session holds nothing
+  unheld : session_of s.sessions client ≡ None → (theirs : List ℕ) → holds client theirs s.rights ≡ false
+  unheld none theirs = false_of (holds client theirs s.rights) (λ held.
+      let live : is_live s.sessions client ≡ true = here.answerable.live client theirs held in
+      let dead : is_live s.sessions client ≡ false = ap (λ (o : Option (Session Reply)). option_map_or (λ (x : Session Reply). x.live) o false) none in
+      absurd (cc))
+
   by_session : {P : Type 0} (o : Option (Session Reply)) (name : List ℕ) (number : ℕ) → session_of s.sessions client ≡ o → touches name change ≡ true → asked_for client name new.rights ≡ Some number → P
   by_session None name number none touched is =
-      let all = most_of 0 (λ theirs n asked. let nothing : asked_for client theirs s.rights ≡ None = none_asked client theirs s.rights (here.kept.owned client none) in absurd (cc)) in
+      let all = most_of 0 (λ theirs n asked. let nothing : asked_for client theirs s.rights ≡ None = asked_unheld client theirs s.rights (unheld none theirs) in absurd (cc)) in
       none_asked_yet number (asked_is_issued client number name new.rights there.kept.recorded is).1 (all.most_asked behind name number touched is)
   by_session (Some session) name number found touched is =
       let all = most_of session.invalidations.issued (λ theirs n asked. as_many n (invalidations_of client s.rights) session.invalidations.issued (asked_is_issued client n theirs s.rights here.kept.recorded asked).2 (here.kept.issued client session found)) in

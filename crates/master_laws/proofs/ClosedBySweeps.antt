@@ -31,10 +31,10 @@ use Rattle.cell_core.specs.Step.{queued}
 use Rattle.cell_core.proofs.AskedFor.{asks_only}
 use Rattle.master_state.specs.NameSpace.{name_space, caller}
 use Rattle.master_state.specs.State.{MasterState, task_at}
-use Rattle.master_state.specs.Lookups.{session_of, is_live, may_start, turned_away, noted, reply_of}
+use Rattle.master_state.specs.Lookups.{session_of, is_live, may_start, retiring, turned_away, noted, reply_of}
 use Rattle.master_state.specs.Updates.{with_note}
 use Rattle.cell_core.specs.Effect.{effect, gone_by_itself}
-use Rattle.over_core.specs.Plans.{first_action, no_plan, session_plan, started_out, alive_out, plan_session, plan_start, plan_of, plan_task, plan_work, plan_call, plan_asked, plan_effect, leaving, parting_plan, plan_parting, plan_live, plan_leave}
+use Rattle.over_core.specs.Plans.{first_action, no_plan, session_plan, with_retired, started_out, alive_out, plan_session, plan_start, plan_of, plan_task, plan_work, plan_call, plan_asked, plan_effect, leaving, parting_plan, plan_parting, plan_live, plan_leave}
 use Rattle.master_state.specs.Lapses.{lapses_of}
 use Rattle.over_core.specs.declared.swept.Swept.{Swept}
 use Rattle.over_core.specs.Sweep.{acted, swept, is_over, beats_action, beats_answered, beats_step}
@@ -117,7 +117,7 @@ module _ (s : MasterState) (handle : Handle) (closed : IsClosed s handle) where
   by_start : (client number : ℕ) (principal : List ℕ) (received : ℕ) → IsClosed (with_note s (plan_start s client number principal received).update.note) handle
   by_start client number principal received =
       elim (may_start s client principal) as (λ b. IsClosed (with_note s (cond b (plan_session s client number principal received) (record no_plan { taken = turned_away s client number faults.NoSession })).update.note) handle) [
-        | true ↦ elim (is_live s client) as (λ b. IsClosed (with_note s (cond b (session_plan (Prolongs client) [] (started_out s client number received ∷ [])) (session_plan (Begins client principal) (lines.Started client ∷ []) (started_out s client number received ∷ []))).update.note) handle) [ true ↦ closed | false ↦ closed ]
+        | true ↦ elim (is_live s client) as (λ b. IsClosed (with_note s (cond b (session_plan (Prolongs client) [] (started_out s client number received ∷ [])) (with_retired (retiring s) (session_plan (Begins client principal) (lines.Started client ∷ []) (started_out s client number received ∷ [])))).update.note) handle) [ true ↦ closed | false ↦ closed ]
         | false ↦ closed
       ]
 

@@ -1,5 +1,5 @@
 -- How many sweeps at one moment aren't quiet at most.
-use Rattle.std.proofs.Common.{◌≡◌, ℕ, suc, ◌+◌, ◌<◌, ◌≤◌, List, [], ◌∷◌, ◌++◌, Bool, true, false, cond, Ordering, Less, Equal, Greater, Option, None, length, refl, sym, ap, subst, ◌∙◌, inl, inr, arith}
+use Rattle.std.proofs.Common.{◌≡◌, ℕ, suc, ◌+◌, ◌<◌, ◌≤◌, List, [], ◌∷◌, ◌++◌, Bool, true, false, cond, Ordering, Less, Equal, Greater, Option, Some, None, length, refl, sym, ap, subst, ◌∙◌, inl, inr, arith}
 use Rattle.std.specs.Prelude.{◌*◌, max, not, count_by}
 use Rattle.std.specs.Map.{keys_of, values_of, remove_entry}
 use Rattle.std.specs.BTreeMap.{is_at, insert_entry}
@@ -21,7 +21,7 @@ use Rattle.gate_core.specs.declared.pending.Waiting.{Waiting}
 use Rattle.session_core.specs.declared.records.Session.{Session}
 use Rattle.session_core.specs.Session.{prolonged, answered, session_until}
 use Rattle.session_core.specs.Session as of_session
-use Rattle.session_core.specs.Sessions.{SessionTable, with_session, with_new}
+use Rattle.session_core.specs.Sessions.{SessionTable, with_session, with_new, without}
 use Rattle.session_core.proofs.RowsOfSessions.{rows_of, rows_stay}
 use Rattle.session_core.proofs.IssuedBy.{clients_stay_issued}
 use Rattle.lock_core.specs.declared.partings.Parting.TheVariants as partings
@@ -40,7 +40,7 @@ use Rattle.master_parts.specs.Answered.{answered_by}
 use Rattle.master_state.specs.Lapses.{lapses_of, lapses_puts, lapses_replies}
 use Rattle.master_state.specs.Notices.{with_tellings}
 use Rattle.master_state.specs.Replies.{kept_puts, puts_of, replies_to, turn_replies}
-use Rattle.master_state.specs.Updates.{with_note, with_kept, with_locks}
+use Rattle.master_state.specs.Updates.{with_note, with_kept, with_locks, retired}
 use Rattle.master_state.specs.declared.updates.KeptPut.{KeptPut}
 use Rattle.cell_core.specs.Outcomes.{left_put}
 use Rattle.cell_core.specs.Step.{queued, recorded, asking, asking_for}
@@ -49,6 +49,7 @@ use Rattle.over_core.specs.declared.swept.Swept.{Swept}
 use Rattle.over_core.specs.SweepCase.{IsNextApplied, SweepCase, rest, ended, mapped, told, parted, left_reply, gone_change, gone_replies, swept_by}
 use Rattle.over_core.specs.SweepCase.SweepCase.{Quiet, Recovers, Expires, Departed, AnswersBeat, TurnedAway, StartedAgain, Started, Reopens, Tidies, Spared, Tidied, OfEnded, Ended, Applied, Deleted, Locked, Awaited, Left}
 use Rattle.over_core.proofs.KeptBySweeps.{sessions_ordered}
+use Rattle.over_core.proofs.Retired.{by_retiring}
 use Rattle.over_core.proofs.KeptByTakes.{unnoted}
 use Rattle.over_core.proofs.SweepCases.{first_tellings, swept_case}
 use Rattle.over_core.proofs.ToldSessions.{clients_told}
@@ -84,6 +85,9 @@ changed_length nodes (Gone name) = less (length (remove_entry (is_at (slice_cmp 
   where
     less : (a b : ℕ) → a ≤ b → a ≤ b + 1
     less a b h = omega (arith, h)
+
+at_most : (a b c : ℕ) → a ≤ b → b ≤ c → a ≤ c
+at_most a b c h k = omega (arith, h, k)
 
 -- as many sessions
 abbrev count_of : SessionTable Reply → ℕ
@@ -194,7 +198,12 @@ module _ (s : MasterState) where
       by_turn (rest (record s { sessions = with_session s.sessions asked.client (prolonged (s.clock + s.sessions.lease)) }) front back) front back asked turn refl refl (step_count s.sessions asked.client (prolonged (s.clock + s.sessions.lease)))
   sized_by_case (Started front back asked principal received turn work none) =
       let new : Session Reply = session_until principal true (s.clock + s.sessions.lease) in
-      turn_sized (rest (record s { sessions = with_new s.sessions asked.client new }) front back) s front back asked turn refl (one_more (length s.nodes) (length s.nodes) refl) (insert_length nat_cmp s.sessions.sessions asked.client new)
+      let begun : SessionTable Reply = with_new s.sessions asked.client new in
+      let most : count_of begun ≤ count_of s.sessions + 1 = insert_length nat_cmp s.sessions.sessions asked.client new in
+      by_retiring s (λ o. IsSized (rest (retired (record s { sessions = begun }) o) front back) s)
+      (turn_sized (rest (record s { sessions = begun }) front back) s front back asked turn refl (one_more (length s.nodes) (length s.nodes) refl) most)
+      (λ client gone. turn_sized (rest (retired (record s { sessions = begun }) (Some client)) front back) s front back asked turn refl (one_more (length s.nodes) (length s.nodes) refl)
+      (at_most (count_of (without begun client)) (count_of begun) (count_of s.sessions + 1) (remove_length (is_at (nat_cmp client)) begun.sessions) most))
   sized_by_case (Reopens instance due) =
       let l = with_locks s (puts_of s instance (reopened (lock_at s.locks instance)).lock) in
       let replies = turn_replies s (reopened (lock_at s.locks instance)) in

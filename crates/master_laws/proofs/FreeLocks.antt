@@ -72,7 +72,7 @@ tended_lasts lease = record {
     ends = λ q before h. tt;
     answers = λ q session beat due timed h. tt;
     prolongs = λ front back asked principal received session turn work found h. tt;
-    begins = λ front back asked principal received turn work. tt;
+    begins = λ front back asked principal received turn work none. tt;
   };
 }
 

@@ -50,3 +50,4 @@ mod FreeLocks
 mod Limited
 mod LeavesAtOnce
 mod ShownRows
+mod ForgottenClients

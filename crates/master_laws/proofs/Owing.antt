@@ -142,7 +142,7 @@ owes_lasts lease from number client = record {
         let other = turn_starts client s front back asked principal received turn work unstarted in
         let at = itself asked.client client same in
         absurd (cc);
-    begins = λ front back asked principal received turn work same.
+    begins = λ front back asked principal received turn work none same.
         let other = turn_starts client s front back asked principal received turn work unstarted in
         let at = itself asked.client client same in
         absurd (cc);

@@ -193,7 +193,7 @@ stuck_lasts lease up = record {
         let P : Session Reply → Type 0 = Stuck lease up s.clock q in
         subst P (sym (answered_is s.sessions.lease s.clock session beat due.is_parked)) (subst T (sym r.is_lease) here);
     prolongs = λ front back asked principal received session turn work found h. some_wait front _ back (sym turn.waited ∙ r.kept.recovery_is_empty recovering);
-    begins = λ front back asked principal received turn work. some_wait front _ back (sym turn.waited ∙ r.kept.recovery_is_empty recovering);
+    begins = λ front back asked principal received turn work none. some_wait front _ back (sym turn.waited ∙ r.kept.recovery_is_empty recovering);
   };
 }
 

@@ -25,7 +25,7 @@ use Rattle.session_core.specs.declared.records.Parked.{Parked}
 use Rattle.session_core.specs.declared.records.Session.{Session}
 use Rattle.session_core.specs.Session.{beat_fault, beaten, keeping, answered, prolonged, session_until}
 use Rattle.session_core.specs.Session as of_session
-use Rattle.session_core.specs.Sessions.{session_of, with_session}
+use Rattle.session_core.specs.Sessions.{session_of, with_session, with_new}
 use Rattle.session_core.specs.Laws.{issued_at}
 use Rattle.master_parts.specs.StoredSessions.{taken_over}
 use Rattle.master_parts.specs.declared.handles.HandleNote.{HandleNote}
@@ -50,7 +50,13 @@ use Rattle.cell_core.specs.Outcomes.{left_put}
 use Rattle.over_core.specs.Kept.{IsKept}
 use Rattle.over_core.specs.SweepCase.{IsNextApplied, IsDue, SweepCase, rest, ended, mapped, left_reply, gone_replies, swept_by}
 use Rattle.over_core.specs.SweepCase.SweepCase.{Quiet, Recovers, Expires, Departed, AnswersBeat, TurnedAway, StartedAgain, Started, Reopens, Tidies, Spared, Tidied, OfEnded, Ended, Applied, Deleted, Locked, Awaited, Left}
-use Rattle.over_core.proofs.EachSession.{Each, step_each, new_each, issued_each}
+use Rattle.over_core.proofs.EachSession.{Each, step_each, new_each, gone_each, issued_each}
+use Rattle.over_core.proofs.KeptBySweeps.{sessions_ordered}
+use Rattle.over_core.proofs.Retired.{by_retiring}
+use Rattle.master_state.specs.Lookups.{IsUnused}
+use Rattle.master_state.specs.Updates.{without_ended}
+use Rattle.rows_cell.proofs.EntriesInOrder.{sorted_put}
+use Rattle.std.specs.Cmp.{nat_cmp_total}
 use Rattle.over_core.proofs.KeptByTakes.{asked_kept}
 use Rattle.over_core.proofs.ToldSessions.{told_each}
 use Rattle.master_laws.proofs.TimedCases.{IsInTime, IsTimed}
@@ -73,7 +79,7 @@ pub record IsCarriedBySweeps (P : ℕ → Session Reply → Type 0) (s : MasterS
   pub ends : (client : ℕ) (before : Session Reply) → P client before → P client (of_session.ended before)
   pub answers : (client : ℕ) (session : Session Reply) (beat : Parked) → IsDue s client session beat → IsInTime s session beat → P client session → P client (answered s.sessions.lease s.clock session)
   pub prolongs : (front back : List (Waiting Task)) (asked : WaitingRequest) (principal : List ℕ) (received : ℕ) (session : Session Reply) → IsNextApplied s front (tasks.Asked asked) back → asked.work ≡ works.Starts principal received → session_of s.sessions asked.client ≡ Some session → P asked.client session → P asked.client (prolonged (s.clock + s.sessions.lease) session)
-  pub begins : (front back : List (Waiting Task)) (asked : WaitingRequest) (principal : List ℕ) (received : ℕ) → IsNextApplied s front (tasks.Asked asked) back → asked.work ≡ works.Starts principal received → P asked.client (session_until principal true (s.clock + s.sessions.lease))
+  pub begins : (front back : List (Waiting Task)) (asked : WaitingRequest) (principal : List ℕ) (received : ℕ) → IsNextApplied s front (tasks.Asked asked) back → asked.work ≡ works.Starts principal received → IsUnused s asked.client → P asked.client (session_until principal true (s.clock + s.sessions.lease))
 
 -- ---- the sessions of a master that comes up
 
@@ -148,7 +154,12 @@ module _ (P : ℕ → Session Reply → Type 0) (cell : List ℕ) (rows : Rows) 
       subst Q (sym same) (t.answers client session beat due timed (subst R same is))) h
   each_by_sweep s (TurnedAway front back asked principal received turn work may) timed t k h = h
   each_by_sweep s (StartedAgain front back asked principal received session turn work found live) timed t k h = step_each P s.sessions asked.client (prolonged (s.clock + s.sessions.lease)) (λ before there is. t.prolongs front back asked principal received before turn work there is) h
-  each_by_sweep s (Started front back asked principal received turn work none) timed t k h = new_each P s.sessions asked.client _ (t.begins front back asked principal received turn work) h
+  each_by_sweep s (Started front back asked principal received turn work none) timed t k h =
+      let new : Session Reply = session_until principal true (s.clock + s.sessions.lease) in
+      let begun = new_each P s.sessions asked.client new (t.begins front back asked principal received turn work none) h in
+      let order = sessions_ordered cell rows s k in
+      by_retiring s (λ o. Each P (without_ended (with_new s.sessions asked.client new) o)) begun
+      (λ client gone. gone_each P (with_new s.sessions asked.client new) client (sorted_put nat_cmp nat_cmp_total s.sessions.sessions asked.client new order) begun)
   each_by_sweep s (Reopens instance due) timed t k h = each_kept P (kept_puts (turn_replies s (reopened (lock_at s.locks instance)))) s t.carried h
   each_by_sweep s (Tidies idle due) timed t k h = each_asked P cell rows (queued s (with_parent idle.name) (tasks.Tidies idle)) (with_parent idle.name) t.carried (idle_kept cell rows s idle due.first_idle k) h
   each_by_sweep s (Spared front back idle turn held) timed t k h = h

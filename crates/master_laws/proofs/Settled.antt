@@ -55,7 +55,7 @@ use Rattle.master_state.specs.Lookups.{noted}
 use Rattle.master_state.specs.Lapses.{lapses_of, lapses_puts, lapses_replies}
 use Rattle.master_state.specs.Notices.{with_tellings}
 use Rattle.master_state.specs.Replies.{kept_puts, puts_of, replies_to, turn_replies}
-use Rattle.master_state.specs.Updates.{with_note, with_locks, without_lock}
+use Rattle.master_state.specs.Updates.{with_note, with_locks, without_lock, retired}
 use Rattle.master_state.specs.declared.updates.LockPut.{LockPut}
 use Rattle.cell_core.specs.Ephemerals.{may_tidy, next_idle, tidied, is_to_go, is_still_idle}
 use Rattle.cell_core.specs.Outcomes.{left_put}
@@ -67,6 +67,7 @@ use Rattle.over_core.specs.Sweep.{sweep_step}
 use Rattle.over_core.specs.SweepCase.{IsNextApplied, SweepCase, rest, ended, mapped, told, parted, left_reply, gone_change, gone_replies, swept_by, swept_edits}
 use Rattle.over_core.specs.SweepCase.SweepCase.{Quiet, Recovers, Expires, Departed, AnswersBeat, TurnedAway, StartedAgain, Started, Reopens, Tidies, Spared, Tidied, OfEnded, Ended, Applied, Deleted, Locked, Awaited, Left}
 use Rattle.over_core.proofs.KeptBySweeps.{sessions_ordered, tellings_kept, case_kept}
+use Rattle.over_core.proofs.Retired.{by_retiring}
 use Rattle.over_core.proofs.KeptByTakes.{unnoted, asked_kept, clock_kept}
 use Rattle.master_parts.proofs.FirstEntries.{own_entries, all_of_found}
 use Rattle.over_core.proofs.NamedLocks.{own_locks, not_idle, puts_are}
@@ -77,7 +78,7 @@ use Rattle.master_laws.specs.Settling.ComesToRest.{Rests, IsRefused, GoesOn}
 use Rattle.master_laws.proofs.AnswerableSteps.{idle_kept}
 use Rattle.master_laws.proofs.Counting.{one, count_middle, count_last, count_less, count_fewer, count_without, count_alike, all_of}
 use Rattle.master_laws.proofs.Timely.{answered_is, clock_by_sweep}
-use Rattle.master_laws.proofs.WorkLeft.{lives, parks, AreAlike, IsLike, alike_itself, alike_then, stepped_alike, kept_alike, told_alike, left_alike, less_alike, turn_leaves_less, same_live, count_step, ended_live, begun_live, equal_counts, is_over, relocked_due, gone_due}
+use Rattle.master_laws.proofs.WorkLeft.{lives, parks, AreAlike, IsLike, alike_itself, alike_then, stepped_alike, kept_alike, told_alike, left_alike, less_alike, turn_leaves_less, same_live, count_step, ended_live, begun_live, gone_live, equal_counts, is_over, relocked_due, gone_due}
 
 -- ---- what a note leaves
 
@@ -521,7 +522,11 @@ module _ (cell : List ℕ) (rows : Rows) (s : MasterState) (k : IsKept cell rows
       by_turn (rest (record s { sessions = with_session s.sessions asked.client (prolonged (s.clock + s.sessions.lease)) }) front back) front back asked turn refl (stepped_alike s.sessions asked.client (prolonged (s.clock + s.sessions.lease)) (λ before. refl) (λ before. refl))
   less_by_case (Started front back asked principal received turn work none) h =
       let new : Session Reply = session_until principal true (s.clock + s.sessions.lease) in
-      turn_leaves_less s.clock s (rest (record s { sessions = with_new s.sessions asked.client new }) front back) front back asked turn refl (begun_live s.sessions asked.client new (sessions_ordered cell rows s k))
+      let begun : SessionTable Reply = with_new s.sessions asked.client new in
+      let most = begun_live s.sessions asked.client new (sessions_ordered cell rows s k) in
+      by_retiring s (λ o. HasLessToDo s.clock (rest (retired (record s { sessions = begun }) o) front back) s)
+      (turn_leaves_less s.clock s (rest (record s { sessions = begun }) front back) front back asked turn refl most)
+      (λ client gone. turn_leaves_less s.clock s (rest (retired (record s { sessions = begun }) (Some client)) front back) front back asked turn refl (gone_live begun client _ most))
   less_by_case (Reopens instance due) h = reopens_less cell rows s instance k due.lowest_due
   less_by_case (Tidies idle due) h = tidies_less cell rows s idle k due.first_idle
   less_by_case (Spared front back idle turn held) h = spared_less cell rows s k front back idle turn held

@@ -81,7 +81,7 @@ bounded_lasts bound lease client = record {
         let apart = turn_starts client s front back asked principal received turn work unstarted in
         let at = itself asked.client client same in
         absurd (cc);
-    begins = λ front back asked principal received turn work same.
+    begins = λ front back asked principal received turn work none same.
         let apart = turn_starts client s front back asked principal received turn work unstarted in
         let at = itself asked.client client same in
         absurd (cc);

@@ -16,14 +16,15 @@ use Rattle.session_core.specs.declared.records.Parked.{Parked}
 use Rattle.session_core.specs.declared.records.Session.{Session}
 use Rattle.session_core.specs.Session.{answered, beaten, prolonged, unparked, marked, mark_at, holds_up, meets_its_mark, acknowledging, session_until}
 use Rattle.session_core.specs.Session as of_session
-use Rattle.session_core.specs.Sessions.{with_session}
+use Rattle.session_core.specs.Sessions.{SessionTable, with_session, with_new}
 use Rattle.session_core.specs.Laws.{issued_at}
 use Rattle.session_core.proofs.IssuedBy.{lease_of_one, lease_stays_issued}
 use Rattle.master_parts.specs.StoredSessions.{taken_over}
 use Rattle.master_parts.specs.declared.handles.HandleNote.{HandleNote}
 use Rattle.master_parts.specs.declared.pending.Task.TheVariants as tasks
 use Rattle.master_state.specs.State.{MasterState}
-use Rattle.master_state.specs.Updates.{with_note, with_kept, with_locks}
+use Rattle.master_state.specs.Lookups.{retiring}
+use Rattle.master_state.specs.Updates.{without_ended, with_note, with_kept, with_locks}
 use Rattle.master_state.specs.declared.updates.KeptPut.{KeptPut}
 use Rattle.tags_cell.specs.declared.messages.outs.CallResult.TheVariants as results
 use Rattle.lock_core.specs.Locks.{lock_at}
@@ -75,6 +76,10 @@ lease_by_case s request (Answered message note answer new serving answered) = le
 lease_by_case s request (Granted message note answer name new serving granted) = lease_recorded s note message.client _
 lease_by_case s request (Waits message note touched new serving admitted) = lease_asked (names_of touched) (with_call (with_note s note) message touched) ∙ lease_recorded s note message.client _
 
+lease_retired : (table : SessionTable Reply) (gone : Option ℕ) → (without_ended table gone).lease ≡ table.lease
+lease_retired table None = refl
+lease_retired table (Some client) = refl
+
 pub lease_by_sweep : (s : MasterState) (c : SweepCase s) → (swept_by s c).0.sessions.lease ≡ s.sessions.lease
 lease_by_sweep s (Quiet none) = refl
 lease_by_sweep s (Recovers recovering heard) = refl
@@ -83,7 +88,7 @@ lease_by_sweep s (Departed front back asked call sequencer session turn work lea
 lease_by_sweep s (AnswersBeat client session beat due) = lease_of_one s.sessions client _
 lease_by_sweep s (TurnedAway front back asked principal received turn work may) = refl
 lease_by_sweep s (StartedAgain front back asked principal received session turn work found live) = lease_of_one s.sessions asked.client _
-lease_by_sweep s (Started front back asked principal received turn work none) = refl
+lease_by_sweep s (Started front back asked principal received turn work none) = lease_retired (with_new s.sessions asked.client (session_until principal true (s.clock + s.sessions.lease))) (retiring s)
 lease_by_sweep s (Reopens instance due) = lease_kept (kept_puts (turn_replies s (reopened (lock_at s.locks instance)))) s
 lease_by_sweep s (Tidies idle due) = lease_asked (with_parent idle.name) (queued s (with_parent idle.name) (tasks.Tidies idle))
 lease_by_sweep s (Spared front back idle turn held) = refl
@@ -219,7 +224,7 @@ timely_swept s fits = record {
       let P : Session Reply → Type 0 = IsTimely s.clock client in
       subst P (sym (answered_is s.sessions.lease s.clock session beat due.is_parked)) (timely_answered s.sessions.lease s.clock client session fits h);
   prolongs = λ front back asked principal received session turn work found h. record { timeout = longer session.timeout s.clock s.sessions.lease h.timeout fits; marked = h.marked; received = h.received };
-  begins = λ front back asked principal received turn work. record { timeout = begins_in s.clock s.sessions.lease fits; marked = λ mark is. absurd (cc); received = λ beat is. absurd (cc) };
+  begins = λ front back asked principal received turn work none. record { timeout = begins_in s.clock s.sessions.lease fits; marked = λ mark is. absurd (cc); received = λ beat is. absurd (cc) };
 }
 
 pub timely_up : (up client : ℕ) (e : ℕ × stored.SessionRow) → IsTimely up client (taken_over up e).1

@@ -10,7 +10,7 @@ use Rattle.std.specs.Ordering.{nat_cmp}
 use Rattle.std.specs.Cmp.{nat_cmp_total}
 use Rattle.std.proofs.lemmas.Bool.{eqb-true}
 use Rattle.std.proofs.lemmas.Bool.Decides.{nat_tests}
-use Rattle.std.proofs.lemmas.Map.Entries.{sum_by-insert_entry, sum_by-set_value}
+use Rattle.std.proofs.lemmas.Map.Entries.{sum_by-insert_entry, sum_by-remove_entry, sum_by-set_value}
 use Rattle.node_core.specs.declared.nodes.Node.{Node}
 use Rattle.node_core.specs.Nodes.{Nodes}
 use Rattle.tags_cell.specs.declared.messages.outs.Reply.{Reply}
@@ -18,7 +18,7 @@ use Rattle.gate_core.specs.declared.pending.Waiting.{Waiting}
 use Rattle.session_core.specs.declared.records.Session.{Session}
 use Rattle.session_core.specs.Session.{answered, prolonged, unparked, keeping, session_until}
 use Rattle.session_core.specs.Session as of_session
-use Rattle.session_core.specs.Sessions.{SessionTable, session_of, is_live, with_session, with_new}
+use Rattle.session_core.specs.Sessions.{SessionTable, session_of, is_live, with_session, with_new, without}
 use Rattle.session_core.proofs.RowsOfSessions.{rows_of, rows_stay}
 use Rattle.master_parts.specs.Ephemerals.{is_held_open, must_stay, is_left}
 use Rattle.master_parts.specs.EphemeralNames.{is_ephemeral}
@@ -198,6 +198,14 @@ begun_live s client new sorted =
 
     most : (a b o n : ℕ) → o ≤ 1 → a + n ≡ b + o → a ≤ b + 1
     most a b o n h k = omega (arith, h, k)
+
+-- one that goes leaves no more
+pub gone_live : (s : SessionTable Reply) (client most : ℕ) → count_by lives (values_of s.sessions) ≤ most → count_by lives (values_of (without s client).sessions) ≤ most
+gone_live s client most h =
+    fewer_still (count_by lives (values_of (without s client).sessions)) _ (count_by lives (values_of s.sessions)) most (sum_by-remove_entry (λ (x : Session Reply). one (lives x)) (is_at (nat_cmp client)) s.sessions) h
+  where
+    fewer_still : (a b c m : ℕ) → a + b ≡ c → c ≤ m → a ≤ m
+    fewer_still a b c m e k = omega (arith, e, k)
 
 -- ---- the cell's own
 

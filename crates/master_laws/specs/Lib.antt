@@ -9,3 +9,4 @@ pub mod Settling
 pub mod FreeLocks
 pub mod Limits
 pub mod Sequencers
+pub mod Forgotten

@@ -1,8 +1,9 @@
 //! What a master does for its clients, as laws of its tables: who is given a handle, what a closed handle is still good
-//! for, what a refused call changes, what a sequencer shows, whom a write waits for, and what the limits of a cell leave
-//! of it.
+//! for, what a refused call changes, what a sequencer shows, whom a write waits for, what the limits of a cell leave of
+//! it, and who is known no more.
 #![tactic(auto)]
 
+mod forgotten;
 mod free_locks;
 mod handles;
 mod leaves;
@@ -13,6 +14,7 @@ mod sequencers;
 mod settling;
 mod waits;
 
+pub use forgotten::{forgotten_stay_forgotten, who_goes_has_ended};
 pub use free_locks::awaited_locks_are_held;
 pub use handles::{
     close_closes, close_closes_for_good, closed_for_good_by_messages, closed_for_good_by_sweeps,

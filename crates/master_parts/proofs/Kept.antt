@@ -15,8 +15,9 @@ use Rattle.gate_core.specs.Gate.{with_change}
 use Rattle.gate_core.specs.Queue.{QueueState}
 use Rattle.session_core.specs.declared.records.Session.{Session}
 use Rattle.session_core.specs.Session.{issued_through}
-use Rattle.session_core.specs.Sessions.{SessionTable, session_of, is_live, with_session, with_new, with_issued, issued_by}
+use Rattle.session_core.specs.Sessions.{SessionTable, session_of, is_live, with_session, with_new, without, with_issued, issued_by}
 use Rattle.session_core.proofs.Keys.{at_itself, same_key, apart}
+use Rattle.collections.proofs.OneKey.{lookup_removed_apart}
 use Rattle.session_core.proofs.OneClient.{own_session, other_session, lookup_put_apart}
 use Rattle.master_parts.specs.declared.handles.HandleKey.{HandleKey}
 use Rattle.master_parts.specs.declared.handles.HandleState.{HandleState}
@@ -173,6 +174,19 @@ new_lives_on s client session none q live =
           ap live_of (lookup_put_apart client q e s.sessions session) ∙ live)
     ]) refl
 
+-- one that has ended goes
+pub gone_lives_on : (s : SessionTable Reply) (client : ℕ) → is_live s client ≡ false → LiveOn s (without s client)
+gone_lives_on s client ended q live =
+    (elim (is_at (nat_cmp q) client) as (λ b. is_at (nat_cmp q) client ≡ b → is_live (without s client) q ≡ true) [
+      | true ↦ (λ c.
+          let P : ℕ → Type 0 = λ x. is_live s x ≡ true in
+          let mine : is_live s client ≡ true = subst P (same_key q client c) live in
+          absurd (cc))
+      | false ↦ (λ c.
+          let e : q ≢ client = λ same. let t : is_at (nat_cmp q) client ≡ true = ap (λ x. is_at (nat_cmp q) x) (sym same) ∙ at_itself q in absurd (cc) in
+          ap live_of (lookup_removed_apart client q e s.sessions) ∙ live)
+    ]) refl
+
 -- ---- handles
 
 pub open_more : (s new : SessionTable Reply) (i : ℕ) (key : HandleKey) (state : HandleState) → (is_live s key.client ≡ true → is_live new key.client ≡ true) → is_open_in s i key state ≡ true → is_open_in new i key state ≡ true
@@ -219,6 +233,11 @@ module _ (nodes : Nodes) (handles : List (HandleKey × HandleState)) where
       let P : SessionTable Reply → Type 0 = λ s. AreCandidates (State nodes handles s queue) c in
       subst P (sym ok) (by_sessions old (with_new old client session) queue c (new_lives_on old client session none) h)
   by_begin (Err e) old new queue c client session none ok err h = by_same_sessions old new queue c err h
+
+  pub by_forget : (old new : SessionTable Reply) (queue : QueueState Task) (c : CandidateState) (client : ℕ) → is_live old client ≡ false → new ≡ without old client → AreCandidates (State nodes handles old queue) c → AreCandidates (State nodes handles new queue) c
+  by_forget old new queue c client ended e h =
+      let P : SessionTable Reply → Type 0 = λ s. AreCandidates (State nodes handles s queue) c in
+      subst P (sym e) (by_sessions old (without old client) queue c (gone_lives_on old client ended) h)
 
   -- all nodes are looked at
   pub by_loss : (old new : SessionTable Reply) (queue : QueueState Task) (c d : CandidateState) → ((q : List ℕ) → Has d q) → ((i : ℕ) (q : List ℕ) → Leads c i q → Leads d i q) → AreCandidates (State nodes handles old queue) c → AreCandidates (State nodes handles new queue) d

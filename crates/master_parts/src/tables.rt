@@ -327,6 +327,17 @@ impl Tables {
         self.sessions.take_back(client);
     }
 
+    /// Nothing is known of a client's session any more. Takes no memory.
+    pub fn forget_session(&mut self, client: ClientNumber)
+        ensures { self.new ≡ record self.old { sessions = without self.old.sessions client } }
+    {
+        if self.sessions.is_live(client.get()) {
+            self.take_back(client);
+            return;
+        }
+        forget_in(&mut self.sessions, client);
+    }
+
     /// A client's session ends, and the handles that it has open are forgotten. It looks at each of them twice. Takes no
     /// memory that it can't do without.
     pub fn expire(&mut self, client: u64)
@@ -456,4 +467,10 @@ impl Tables {
     {
         self.queue.end(client, ending);
     }
+}
+
+fn forget_in(sessions: &mut Sessions<Reply>, client: ClientNumber)
+    ensures { sessions.new ≡ without sessions.old client }
+{
+    sessions.take_back(client);
 }

@@ -2,3 +2,4 @@ pub mod MissingRights
 mod ToldHandles
 mod Appended
 mod LocksPut
+mod DepartedClients

@@ -14,6 +14,7 @@ pub use Rattle.collections.specs.Tables
 pub use Rattle.rows_cell.specs.LockRows
 pub use Rattle.lock_core.specs.Locks as LockTables
 pub use Rattle.master_parts.specs.Locks
+pub mod Departed
 pub mod State
 pub mod NameSpace
 pub mod Lookups

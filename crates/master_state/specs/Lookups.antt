@@ -1,5 +1,5 @@
 -- What is looked up in a master, and in its name space.
-use Rattle.std.specs.Prelude.{ℕ, Bool, false, not, ◌&&◌, ◌||◌, ◌==◌, nat_lt, nat_le, max, List, [], ◌∷◌, length, Option, Some, None, Result, Ok, Err, if◌then◌else◌, is_none, is_some}
+use Rattle.std.specs.Prelude.{◌≡◌, ℕ, Bool, false, not, ◌&&◌, ◌||◌, ◌==◌, nat_lt, nat_le, max, List, [], ◌∷◌, length, Option, Some, None, Result, Ok, Err, if◌then◌else◌, is_none, is_some}
 use Rattle.std.specs.Option.{option_map, option_map_or}
 use Rattle.std.specs.Map.{lookup}
 use Rattle.std.specs.BTreeMap.{is_at}
@@ -18,6 +18,7 @@ use Rattle.node_core.specs.Access.{permitted}
 use Rattle.rights_core.specs.declared.endings.Ending.{Ending}
 use Rattle.rights_core.specs.declared.grants.Grant.{Grant}
 use Rattle.gate_core.specs.Gate.{pending_limit}
+use Rattle.tags_cell.specs.Numbers.{is_client_number}
 use Rattle.tags_cell.specs.Modes.{Rights, has_right}
 use Rattle.tags_cell.specs.Handles.{is_ordinal, handle_bytes, read_handle}
 use Rattle.tags_cell.specs.Sequencers.{sequencer_bytes, read_sequencer}
@@ -40,7 +41,9 @@ use Rattle.master_parts.specs.declared.handles.HandleNote.{HandleNote}
 use Rattle.master_parts.specs.Keys.{handle_order, key_of}
 use Rattle.master_parts.specs.Claims.{owner_of}
 use Rattle.master_parts.specs.Ephemerals.{is_held_open, must_stay}
+use Rattle.master_state.specs.Departed.{first_due}
 use Rattle.master_state.specs.State.{MasterState, tables_of}
+use Rattle.master_state.specs.CallsWaiting.{has_call}
 use Rattle.master_state.specs.NameSpace.{NameSpace, Caller}
 use Rattle.master_parts.specs.Notes.{open_note}
 use Rattle.master_parts.specs.Calls.{is_too_long, write_fault, needing}
@@ -53,7 +56,6 @@ use Rattle.rights_core.specs.declared.grants.Grant.TheVariants as grants
 use Rattle.tags_cell.specs.declared.messages.calls.Call.TheVariants as calls
 use Rattle.tags_cell.specs.declared.messages.outs.CallResult.TheVariants as results
 use Rattle.tags_cell.specs.declared.messages.outs.Out.TheVariants as outs
-use Rattle.session_core.specs.Session as of_session
 use Rattle.session_core.specs.Sessions as of_sessions
 use Rattle.master_parts.specs.declared.handles.HandleState.TheVariants as states
 
@@ -68,9 +70,29 @@ kept_of s client = of_sessions.kept_of s.sessions client
 abbrev pub is_live : MasterState → ℕ → Bool
 is_live s client = of_sessions.is_live s.sessions client
 
--- a client without a session may start, and one with a live session of the same principal
+-- a client without a session may start, unless its number had one that ended or comes too late; and one with a live session of the same principal
 abbrev pub may_start : MasterState → ℕ → List ℕ → Bool
-may_start s client principal = of_session.may_start (session_of s client) principal
+may_start s client principal =
+    option_map_or (λ session. session.live && bytes_eq session.principal principal) (session_of s client) (not (nat_lt client s.ended_below))
+
+-- the client has no session, and its number had none that ended
+abbrev pub IsUnused : MasterState → ℕ → Type 0
+IsUnused s client = (session_of s client ≡ None) × (nat_lt client s.ended_below ≡ false)
+
+abbrev pub has_ended : MasterState → ℕ → Bool
+has_ended s client = option_map_or (λ session. not session.live) (session_of s client) false
+
+-- nothing is to be known of it any more: no client can be hurt, for its session has ended and no call of it waits for its turn
+abbrev pub may_go : MasterState → ℕ → Bool
+may_go s client = is_client_number client && has_ended s client && not (has_call client s.gate.waiting)
+
+abbrev pub going : MasterState → Option ℕ → Option ℕ
+going s None = None
+going s (Some client) = if may_go s client then Some client else None
+
+-- of whom nothing is known any more once another session begins: the first that has departed, where they are too many
+abbrev pub retiring : MasterState → Option ℕ
+retiring s = going s (first_due s.departed)
 
 abbrev pub is_full : MasterState → Bool
 is_full s = nat_le pending_limit (length s.gate.waiting)

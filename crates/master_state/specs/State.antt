@@ -18,9 +18,10 @@ use Rattle.master_parts.specs.declared.handles.HandleState.{HandleState}
 use Rattle.master_parts.specs.Locks.{locks_of}
 use Rattle.master_parts.specs.State.{TableState}
 use Rattle.master_parts.specs.StoredSessions.{sessions_of}
+use Rattle.master_state.specs.Departed.{departed_in}
 
 -- name: the cell's. secret: what check digits are made over. limits: what the cell holds at most. nodes: the map. locks: by instance. sessions: also those
--- that have ended, each with the last call of its client and the reply to it. recovering: some session of an earlier master has neither been heard from nor expired. handles: those of
+-- that have ended, each with the last call of its client and the reply to it. departed: the clients of those that have ended, the first to end first. ended_below: a client number below it that has no session gets none any more. recovering: some session of an earlier master has neither been heard from nor expired. handles: those of
 -- sessions that live that were opened in this epoch or shown, and are open; and of those that were shown, the ones that were closed then. rights: those to cache a name that it granted in this epoch, in order of granting, those that have ended included. gate: the changes that wait, in order of their coming. clock: the last moment that the master was told. serving_from: the moment at which its recovery ended, or at which it came up without one
 pub record MasterState : Type 0 where
   pub name : List ℕ
@@ -31,6 +32,8 @@ pub record MasterState : Type 0 where
   pub nodes : Nodes
   pub locks : LockTable
   pub sessions : SessionTable Reply
+  pub departed : List ℕ
+  pub ended_below : ℕ
   pub recovering : Bool
   pub handles : List (HandleKey × HandleState)
   pub rights : List CacheRight
@@ -65,6 +68,8 @@ master_of rows terms now = record {
   nodes = map_of rows;
   locks = locks_of rows now;
   sessions = sessions_of rows terms.lease now;
+  departed = departed_in rows.sessions;
+  ended_below = rows.ended_below;
   recovering = not (all_heard (sessions_of rows terms.lease now));
   handles = [];
   rights = [];

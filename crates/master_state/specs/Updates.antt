@@ -1,5 +1,5 @@
 -- What a step of a master changes in it: first what may want memory, then, after the one commit, the rest.
-use Rattle.std.specs.Prelude.{◌≡◌, ℕ, ◌+◌, Bool, true, false, List, [], ◌∷◌, ◌++◌, ◌==◌, map, fold, if◌then◌else◌, Option, Some, None}
+use Rattle.std.specs.Prelude.{◌≡◌, ℕ, ◌+◌, Bool, true, false, List, [], ◌∷◌, ◌++◌, ◌==◌, map, fold, drop, max, if◌then◌else◌, Option, Some, None}
 use Rattle.std.specs.Map.{remove_entry}
 use Rattle.std.specs.BTreeMap.{is_at, insert_entry}
 use Rattle.std.specs.Ordering.{nat_cmp}
@@ -9,7 +9,7 @@ use Rattle.node_core.specs.declared.nodes.Node.{Node}
 use Rattle.node_core.specs.declared.views.Mod.{Mod}
 use Rattle.node_core.specs.declared.views.Mod.TheVariants.{Put, Gone}
 use Rattle.rows_cell.specs.declared.tables.Edit.{Edit}
-use Rattle.rows_cell.specs.declared.tables.Edit.TheVariants.{NextInstance, PutNode, RemoveNode, PutSession}
+use Rattle.rows_cell.specs.declared.tables.Edit.TheVariants.{NextInstance, PutNode, RemoveNode, PutSession, RemoveSession, EndedBelow}
 use Rattle.rows_cell.specs.LockRows.{LockChange, locks_edits}
 use Rattle.session_core.specs.Session.{session_until, prolonged, ended, answered, keeping}
 use Rattle.session_core.specs.Sessions.{SessionTable, with_session, with_new, without}
@@ -24,12 +24,15 @@ use Rattle.master_state.specs.declared.updates.SessionUpdate.{SessionUpdate}
 use Rattle.master_state.specs.declared.updates.SessionUpdate.TheVariants.{Begins, Prolongs, Ends, Answers}
 use Rattle.master_state.specs.declared.updates.KeptPut.{KeptPut}
 use Rattle.master_state.specs.declared.updates.LockPut.{LockPut}
+use Rattle.master_state.specs.declared.updates.FormerSession.{FormerSession}
+use Rattle.master_state.specs.declared.updates.FormerSession.TheVariants.{Same, Begun, Noted}
 use Rattle.master_state.specs.declared.updates.FormerParts.{FormerParts}
 use Rattle.master_state.specs.declared.updates.MapRest.{MapRest}
 use Rattle.master_state.specs.declared.updates.Rest.{Rest}
 use Rattle.master_parts.specs.Keys.{handle_order}
 use Rattle.master_parts.specs.OpenHandles.{put_state, to_forget, without_key, with_state, without_client}
 use Rattle.master_parts.specs.Locks.{lock_rows}
+use Rattle.master_state.specs.Departed.{with_departed, without_last}
 use Rattle.master_state.specs.State.{MasterState}
 use Rattle.master_state.specs.Lookups.{session_of}
 use Rattle.master_parts.specs.declared.handles.HandleNote.{HandleNote}
@@ -54,9 +57,10 @@ abbrev pub BeginsNew : MasterState → Option SessionUpdate → Type 0
 BeginsNew s (Some (Begins client principal)) = session_of s client ≡ None
 BeginsNew s _ = Unit {0}
 
--- it lives for a lease from now on
+-- it lives for a lease from now on; one that ends is noted
 abbrev pub with_begun : MasterState → Option SessionUpdate → MasterState
 with_begun s (Some (Begins client principal)) = record s { sessions = with_new s.sessions client (session_until principal true (s.clock + s.sessions.lease)) }
+with_begun s (Some (Ends client principal parting)) = record s { departed = with_departed s.departed client }
 with_begun s _ = s
 
 -- a node that is put
@@ -80,9 +84,10 @@ grown s update = with_locks (with_node (with_standing (with_begun s update.sessi
 
 -- ---- how it is taken back
 
-abbrev pub without_begun : MasterState → Option ℕ → MasterState
-without_begun s None = s
-without_begun s (Some client) = record s { sessions = without s.sessions client }
+abbrev pub without_begun : MasterState → FormerSession → MasterState
+without_begun s Same = s
+without_begun s (Begun client) = record s { sessions = without s.sessions client }
+without_begun s (Noted noted) = record s { departed = without_last noted s.departed }
 
 abbrev pub without_note : MasterState → Option (HandleKey × Option HandleState) → MasterState
 without_note s None = s
@@ -119,13 +124,29 @@ abbrev pub map_rest : Option Change → Option MapRest
 map_rest None = None
 map_rest (Some change) = Some (record { gone = gone_of change.change; next_instance = change.next_instance })
 
+-- nothing is known any more of a session that has ended, but that its number gets none any more
+abbrev pub without_ended : SessionTable Reply → Option ℕ → SessionTable Reply
+without_ended sessions None = sessions
+without_ended sessions (Some client) = without sessions client
+
+abbrev pub without_first : List ℕ → Option ℕ → List ℕ
+without_first departed None = departed
+without_first departed (Some client) = drop 1 departed
+
+abbrev pub raised : ℕ → Option ℕ → ℕ
+raised ended_below None = ended_below
+raised ended_below (Some client) = max ended_below (client + 1)
+
+abbrev pub retired : MasterState → Option ℕ → MasterState
+retired s client = record s { sessions = without_ended s.sessions client; departed = without_first s.departed client; ended_below = raised s.ended_below client }
+
 -- the handle that is forgotten
 abbrev pub forgets_of : Option HandleNote → Option HandleKey
 forgets_of None = None
 forgets_of (Some note) = to_forget note.key note.state
 
 abbrev pub rest_of : Update → Rest
-rest_of update = record { forgets = forgets_of update.note; session = session_rest update.session; kept = update.kept; map = map_rest update.change; ends_lock = update.ends_lock; recovers = update.recovers; leaves = update.leaves }
+rest_of update = record { forgets = forgets_of update.note; retires = update.retires; session = session_rest update.session; kept = update.kept; map = map_rest update.change; ends_lock = update.ends_lock; recovers = update.recovers; leaves = update.leaves }
 
 -- nothing is known of it any more
 abbrev pub without_handle : MasterState → Option HandleKey → MasterState
@@ -169,7 +190,7 @@ left s None = s
 left s (Some number) = record s { gate = record s.gate { waiting = of_gate.without number s.gate.waiting } }
 
 abbrev pub with_rest : MasterState → Rest → MasterState
-with_rest s rest = left (recovered (without_lock (with_map (with_kept (with_session_rest (without_handle s rest.forgets) rest.session) rest.kept) rest.map) rest.ends_lock) rest.recovers) rest.leaves
+with_rest s rest = left (recovered (without_lock (with_map (with_kept (with_session_rest (retired (without_handle s rest.forgets) rest.retires) rest.session) rest.kept) rest.map) rest.ends_lock) rest.recovers) rest.leaves
 
 -- all of it
 abbrev pub done : MasterState → Update → MasterState
@@ -201,6 +222,11 @@ session_edits (Some (Begins client principal)) = PutSession client (record { pri
 session_edits (Some (Ends client principal parting)) = PutSession client (record { principal = principal; live = false }) ∷ []
 session_edits _ = []
 
+-- one that goes, and below which number clients get no session any more
+abbrev pub retire_edits : ℕ → Option ℕ → List Edit
+retire_edits ended_below None = []
+retire_edits ended_below (Some client) = RemoveSession client ∷ EndedBelow (max ended_below (client + 1)) ∷ []
+
 abbrev pub edit_of : Mod → Edit
 edit_of (Put name node) = PutNode name node
 edit_of (Gone name) = RemoveNode name
@@ -211,4 +237,4 @@ change_edits (Some change) = edit_of change.change ∷ NextInstance change.next_
 
 -- by the master before it
 abbrev pub edits_of : MasterState → Update → List Edit
-edits_of s update = locks_edits (lock_changes s update.locks) ++ session_edits update.session ++ change_edits update.change
+edits_of s update = locks_edits (lock_changes s update.locks) ++ (session_edits update.session ++ retire_edits s.ended_below update.retires) ++ change_edits update.change

@@ -1,10 +1,10 @@
 //! What is committed for an update.
-ghost use Rattle.std.specs.Prelude.{◌≡◌, IfOk};
+ghost use Rattle.std.specs.Prelude.{◌≡◌, ◌++◌, IfOk};
 ghost use Rattle.rows_cell.specs.LockRows.{locks_edits, lock_edits};
 ghost use Rattle.rows_cell.specs.declared.tables.Edit.TheVariants.{PutNode, PutSession};
 ghost use Rattle.lock_core.specs.Locks.{lock_at};
 ghost use Rattle.master_parts.specs.Locks.{lock_rows};
-ghost use Rattle.master_state.specs.Updates.{session_edits, edit_of, change_edits, edits_of, lock_change, lock_changes};
+ghost use Rattle.master_state.specs.Updates.{session_edits, retire_edits, edit_of, change_edits, edits_of, lock_change, lock_changes};
 
 use crate::masters::Master;
 use crate::updates::{Change, LockPut, SessionUpdate, Update};
@@ -14,6 +14,7 @@ use names_cell::{Name, Principal};
 use node_core::{Mod, Node};
 use rows_cell::{Edit, LockKey, LockRow, SessionRow};
 use std::alloc::{AllocError, Global};
+use tags_cell::ClientNumber;
 
 /// What is committed for an update.
 pub fn edits_of(master: &Master, update: &Update) -> Result<Items<Edit>, AllocError>
@@ -21,8 +22,18 @@ pub fn edits_of(master: &Master, update: &Update) -> Result<Items<Edit>, AllocEr
 {
     let alloc = master.alloc();
     let mut edits = locks_edits(master, update.locks.as_slice())?;
-    edits.append(session_edits(alloc, &update.session)?)?;
+    edits.append(sessions_edits(master, update)?)?;
     edits.append(change_edits(alloc, &update.change)?)?;
+    Ok(edits)
+}
+
+// Of the session that begins or ends, and of one that goes.
+fn sessions_edits(master: &Master, update: &Update) -> Result<Items<Edit>, AllocError>
+    ensures { IfOk result (λ edits. edits ≡ session_edits update.now.session ++ retire_edits master.now.ended_below update.now.retires) }
+{
+    let alloc = master.alloc();
+    let mut edits = session_edits(alloc, &update.session)?;
+    edits.append(retire_edits(alloc, master.ended_below, update.retires)?)?;
     Ok(edits)
 }
 
@@ -42,6 +53,22 @@ fn session_edits(alloc: Global, update: &Option<SessionUpdate>) -> Result<Items<
         }
         _ => Ok(Items::new(alloc)),
     }
+}
+
+// A session that goes, and below which number clients get none any more.
+fn retire_edits(
+    alloc: Global,
+    ended_below: u64,
+    client: Option<ClientNumber>,
+) -> Result<Items<Edit>, AllocError>
+    ensures { IfOk result (λ edits. edits ≡ retire_edits ended_below client) }
+{
+    let mut edits = Items::new(alloc);
+    if let Some(client) = client {
+        edits.push(Edit::RemoveSession(client.get()))?;
+        edits.push(Edit::EndedBelow(ended_below.max(client.get() + 1)))?;
+    }
+    Ok(edits)
 }
 
 fn put_session(client: u64, principal: &Principal, live: bool) -> Result<Edit, AllocError>

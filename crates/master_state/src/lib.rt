@@ -3,6 +3,7 @@
 #![tactic(auto)]
 
 mod answers;
+mod departed;
 mod edits;
 mod lapses;
 mod locks;
@@ -16,6 +17,7 @@ mod shown;
 mod tellings;
 mod updates;
 
+pub use departed::Departed;
 pub use edits::edits_of;
 pub use lapses::{lapses_puts, lapses_replies, parting_lines};
 pub use masters::Master;
@@ -23,6 +25,6 @@ pub use replies::{
     StepReply, line_if, locked_line, locked_lines, puts_of, replies_to, told_by, turn_replies,
 };
 pub use updates::{
-    Change, FormerParts, Grown, KeptPut, LockPut, MapRest, Rest, SessionUpdate, Update, finish,
-    grow, settle, settle_note, undo,
+    Change, FormerParts, FormerSession, Grown, KeptPut, LockPut, MapRest, Rest, SessionUpdate,
+    Update, finish, grow, settle, settle_note, undo,
 };

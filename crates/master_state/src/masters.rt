@@ -2,6 +2,7 @@
 ghost use Rattle.std.specs.Prelude.{◌≡◌};
 ghost use Rattle.lease_core.specs.Lease.{IsMoment};
 
+use crate::departed::Departed;
 use collections::Secret;
 use gate_core::Gate;
 use lock_core::Locks;
@@ -30,6 +31,10 @@ pub struct Master {
     /// Its nodes, handles, sessions and rights, and the changes that wait.
     pub tables: Tables,
     pub locks: Locks,
+    /// The clients whose sessions have ended and are still known.
+    pub departed: Departed,
+    /// A client number below it that has no session gets none any more.
+    pub ended_below: u64,
     pub recovering: bool,
     pub clock: u64,
     // When its recovery ended, or when it came up without one.
@@ -51,6 +56,8 @@ impl Model for Master {
       nodes = c.tables.nodes;
       locks = c.locks;
       sessions = c.tables.sessions;
+      departed = c.departed;
+      ended_below = c.ended_below;
       recovering = c.recovering;
       handles = c.tables.handles;
       rights = c.tables.queue.rights;

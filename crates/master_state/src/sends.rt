@@ -1,8 +1,8 @@
 //! What a master sends, and the tests of who may call.
-ghost use Rattle.std.specs.Prelude.{◌≡◌, [], ◌∷◌, map, IfOk};
+ghost use Rattle.std.specs.Prelude.{◌≡◌, [], ◌∷◌, map, Some, IfOk};
 ghost use Rattle.rights_core.specs.Rights.{numbers_ending, grant_answer};
 ghost use Rattle.master_state.specs.CallsWaiting.{is_by, is_call, has_call};
-ghost use Rattle.master_state.specs.Lookups.{refusal, turned_away, reply_of, stamped_reply, issued_to, sends, repeated, granted_lines, acknowledgement, may_start, is_live, is_full, is_spent};
+ghost use Rattle.master_state.specs.Lookups.{refusal, turned_away, reply_of, stamped_reply, issued_to, sends, repeated, granted_lines, acknowledgement, may_start, has_ended, going, retiring, is_live, is_full, is_spent};
 
 use crate::masters::Master;
 use collections::Items;
@@ -157,7 +157,41 @@ impl Master {
     pub fn may_start(&self, client: ClientNumber, principal: &Principal) -> bool
         ensures { result ≡ may_start self.now client principal.now }
     {
-        self.sessions().may_start(client, principal)
+        match self.sessions().get(client.get()) {
+            None => client.get() >= self.ended_below,
+            Some(session) => session.live && session.principal == *principal,
+        }
+    }
+
+    /// The client of whose session nothing is known any more once another begins: the first to end of those that are known,
+    /// where they are too many. Takes no memory, and looks at each change that waits.
+    pub fn retiring(&self) -> Option<ClientNumber>
+        ensures { result ≡ retiring self.now }
+    {
+        match self.departed.first_due() {
+            None => None,
+            Some(client) => self.going(client),
+        }
+    }
+
+    // It, where nothing waits for it any more.
+    fn going(&self, client: u64) -> Option<ClientNumber>
+        ensures { result ≡ going self.now (Some client) }
+    {
+        let client = ClientNumber::new(client)?;
+        if !self.has_ended(client) || self.has_call(client) {
+            return None;
+        }
+        Some(client)
+    }
+
+    fn has_ended(&self, client: ClientNumber) -> bool
+        ensures { result ≡ has_ended self.now client }
+    {
+        match self.sessions().get(client.get()) {
+            None => false,
+            Some(session) => !session.live,
+        }
     }
 
     pub fn is_live(&self, client: ClientNumber) -> bool

@@ -5,7 +5,9 @@ ghost use Rattle.std.specs.BTreeMap.{is_at};
 ghost use Rattle.std.specs.Ordering.{nat_cmp};
 ghost use Rattle.collections.specs.Tables.{with_former};
 ghost use Rattle.lock_core.specs.Locks.{with_lock};
-ghost use Rattle.master_state.specs.Updates.{with_standing, BeginsNew, with_begun, with_put, with_node, with_locks, grown, without_begun, without_note, without_node, without_locks, undone, session_rest, map_rest, forgets_of, rest_of, without_handle, with_session_rest, with_kept_put, with_kept, with_map, with_rest};
+ghost use Rattle.master_state.specs.Departed.{without_last};
+ghost use Rattle.master_state.specs.declared.updates.SessionUpdate.TheVariants.{Ends};
+ghost use Rattle.master_state.specs.Updates.{with_standing, BeginsNew, with_begun, with_put, with_node, with_locks, grown, without_begun, without_note, without_node, without_locks, undone, session_rest, map_rest, forgets_of, rest_of, without_handle, retired, with_session_rest, with_kept_put, with_kept, with_map, without_lock, recovered, left, with_rest};
 
 use crate::masters::Master;
 use crate::partings::ending_by;
@@ -60,6 +62,8 @@ pub struct Change {
 #[derive(Drop)]
 pub struct Update {
     pub session: Option<SessionUpdate>,
+    /// The client of whose session nothing is known any more: it has ended, which its number tells then.
+    pub retires: Option<ClientNumber>,
     /// The reply to the call, and those to calls that waited for a lock.
     pub kept: Items<KeptPut>,
     pub note: Option<HandleNote>,
@@ -75,10 +79,18 @@ pub struct Update {
     pub leaves: Option<u64>,
 }
 
-/// What takes an update back that was begun: the client whose session began, and what stood at each key before.
+/// What was begun of a session: nothing, one of this client, or the end of one, where that was noted.
+#[derive(Drop)]
+pub enum FormerSession {
+    Same,
+    Begun(ClientNumber),
+    Noted(bool),
+}
+
+/// What takes an update back that was begun: what was begun of a session, and what stood at each key before.
 #[derive(Drop)]
 pub struct FormerParts {
-    pub session: Option<ClientNumber>,
+    pub session: FormerSession,
     pub note: Option<(HandleKey, Option<HandleState>)>,
     pub node: Option<(Name, Option<Node>)>,
     /// In the order in which they were put.
@@ -98,6 +110,8 @@ pub struct MapRest {
 pub struct Rest {
     /// The handle of which nothing is known any more.
     pub forgets: Option<HandleKey>,
+    /// The client of whose session nothing is known any more.
+    pub retires: Option<ClientNumber>,
     pub session: Option<SessionUpdate>,
     pub kept: Items<KeptPut>,
     pub map: Option<MapRest>,
@@ -137,6 +151,7 @@ pub fn grow(master: &mut Master, update: Update) -> Result<Grown, AllocError>
 {
     let Update {
         session,
+        retires,
         kept,
         note,
         change,
@@ -149,6 +164,7 @@ pub fn grow(master: &mut Master, update: Update) -> Result<Grown, AllocError>
     let (begun, session) = begin_session(master, session)?;
     let rest = Rest {
         forgets,
+        retires,
         session,
         kept,
         map: None,
@@ -198,6 +214,7 @@ pub fn finish(master: &mut Master, rest: Rest)
 {
     let Rest {
         forgets,
+        retires,
         session,
         kept,
         map,
@@ -205,10 +222,17 @@ pub fn finish(master: &mut Master, rest: Rest)
         recovers,
         leaves,
     } = rest;
-    forget(master, forgets);
+    forget_all(master, forgets, retires);
     finish_session(master, session);
     keep(master, kept);
     finish_map(master, map);
+    finish_last(master, ends_lock, recovers, leaves);
+}
+
+// The lock of a node that goes, the end of recovery, and the change that leaves the gate.
+fn finish_last(master: &mut Master, ends_lock: Option<u64>, recovers: bool, leaves: Option<u64>)
+    ensures { master.new ≡ left (recovered (without_lock master.old ends_lock) recovers) leaves }
+{
     if let Some(instance) = ends_lock {
         drop(master.locks.end_of_node(instance));
     }
@@ -226,6 +250,14 @@ pub fn settle_note(master: &mut Master, key: &HandleKey, former: Option<HandleSt
     ensures { master.new ≡ master.old }
 {
     master.tables.settle_handle(key, former);
+}
+
+// Nothing is known any more of a handle, and of a session that has ended.
+fn forget_all(master: &mut Master, key: Option<HandleKey>, client: Option<ClientNumber>)
+    ensures { master.new ≡ retired (without_handle master.old key) client }
+{
+    forget(master, key);
+    retire(master, client);
 }
 
 // The handle that a note forgets.
@@ -247,11 +279,22 @@ fn forget(master: &mut Master, key: Option<HandleKey>)
     }
 }
 
-// A session that begins; any other update is left for the rest.
+// Nothing is known of a session any more that has ended, but that its number gets none any more.
+fn retire(master: &mut Master, client: Option<ClientNumber>)
+    ensures { master.new ≡ retired master.old client }
+{
+    if let Some(client) = client {
+        master.tables.forget_session(client);
+        master.departed.pass();
+        master.ended_below = master.ended_below.max(client.get() + 1);
+    }
+}
+
+// A session that begins, and the end of one is noted; any other update is left for the rest.
 fn begin_session(
     master: &mut Master,
     update: Option<SessionUpdate>,
-) -> Result<(Option<ClientNumber>, Option<SessionUpdate>), AllocError>
+) -> Result<(FormerSession, Option<SessionUpdate>), AllocError>
     requires { BeginsNew master.old update }
     ensures ok { OnOk result (master.new ≡ with_begun master.old update) }
     ensures back { IfOk result (λ begun. without_begun master.new begun.0 ≡ master.old) }
@@ -259,28 +302,67 @@ fn begin_session(
     ensures err { OnErr result (master.new ≡ master.old) }
 {
     let Some(update) = update else {
-        return Ok((None, None));
+        return Ok((FormerSession::Same, None));
     };
     match update {
         SessionUpdate::Begins(client, principal) => {
             let now = master.clock;
             master.tables.begin(client, principal, now)?;
-            Ok((Some(client), None))
+            Ok((FormerSession::Begun(client), None))
         }
-        SessionUpdate::Prolongs(client) => Ok((None, Some(SessionUpdate::Prolongs(client)))),
+        SessionUpdate::Prolongs(client) => {
+            Ok((FormerSession::Same, Some(SessionUpdate::Prolongs(client))))
+        }
         SessionUpdate::Ends(client, principal, parting) => {
-            Ok((None, Some(SessionUpdate::Ends(client, principal, parting))))
+            note_end(master, client, principal, parting)
         }
-        SessionUpdate::Answers(client) => Ok((None, Some(SessionUpdate::Answers(client)))),
+        SessionUpdate::Answers(client) => {
+            Ok((FormerSession::Same, Some(SessionUpdate::Answers(client))))
+        }
     }
 }
 
-// A session that began is gone again.
-fn take_back(master: &mut Master, begun: Option<ClientNumber>)
+// The end of a session is noted, which is left for the rest.
+fn note_end(
+    master: &mut Master,
+    client: u64,
+    principal: Principal,
+    parting: Parting,
+) -> Result<(FormerSession, Option<SessionUpdate>), AllocError>
+    ensures ok { OnOk result (master.new ≡ with_begun master.old (Some (Ends client principal parting))) }
+    ensures back { IfOk result (λ begun. without_begun master.new begun.0 ≡ master.old) }
+    ensures rest { IfOk result (λ begun. begun.1 ≡ Some (Ends client principal parting)) }
+    ensures err { OnErr result (master.new ≡ master.old) }
+{
+    match master.departed.note(client) {
+        Ok(noted) => Ok((
+            FormerSession::Noted(noted),
+            Some(SessionUpdate::Ends(client, principal, parting)),
+        )),
+        Err(error) => {
+            drop(principal);
+            Err(error)
+        }
+    }
+}
+
+// What was begun of a session is taken back.
+fn take_back(master: &mut Master, begun: FormerSession)
     ensures { master.new ≡ without_begun master.old begun }
 {
-    if let Some(client) = begun {
-        master.tables.take_back(client);
+    match begun {
+        FormerSession::Same => {}
+        FormerSession::Begun(client) => master.tables.take_back(client),
+        FormerSession::Noted(noted) => take_back_note(master, noted),
+    }
+}
+
+// That a session ends isn't noted any more, where it was.
+fn take_back_note(master: &mut Master, noted: bool)
+    ensures { master.new ≡ record master.old { departed = without_last noted master.old.departed } }
+{
+    if noted {
+        master.departed.take_back();
     }
 }
 
@@ -544,7 +626,7 @@ fn restore_node(master: &mut Master, former: Option<(Name, Option<Node>)>)
 }
 
 // What is left of the change of the map comes from the parts.
-fn grown_of(begun: Option<ClientNumber>, parts: GrownParts, rest: Rest) -> Grown
+fn grown_of(begun: FormerSession, parts: GrownParts, rest: Rest) -> Grown
     ensures former { result.former ≡ record { session = begun; note = parts.map.note; node = parts.map.node; locks = parts.locks } }
     ensures rest { result.rest ≡ record rest { map = parts.map.rest } }
 {
@@ -558,6 +640,7 @@ fn grown_of(begun: Option<ClientNumber>, parts: GrownParts, rest: Rest) -> Grown
     } = parts;
     let Rest {
         forgets,
+        retires,
         session,
         kept,
         ends_lock,
@@ -574,6 +657,7 @@ fn grown_of(begun: Option<ClientNumber>, parts: GrownParts, rest: Rest) -> Grown
         },
         rest: Rest {
             forgets,
+            retires,
             session,
             kept,
             map,

@@ -7,7 +7,8 @@ use Rattle.std.specs.BTreeMap.{is_at}
 use Rattle.std.specs.Ordering.{nat_cmp}
 use Rattle.tags_cell.specs.declared.messages.outs.Reply.{Reply}
 use Rattle.session_core.specs.declared.records.Session.{Session}
-use Rattle.session_core.specs.Sessions.{SessionTable, session_of, with_session, with_new, issued_by}
+use Rattle.session_core.specs.Sessions.{SessionTable, session_of, with_session, with_new, without, issued_by}
+use Rattle.collections.proofs.OneKey.{lookup_removed, lookup_removed_apart}
 use Rattle.session_core.specs.Laws.{issued_at}
 use Rattle.session_core.proofs.IssuedBy.{issued_to_each}
 use Rattle.session_core.proofs.Keys.{at_itself, same_key}
@@ -78,6 +79,19 @@ new_without P table client new h = λ q none.
           let put = lookup_put client table.sessions new in
           absurd (cc))
       | false ↦ (λ c. h q (sym (lookup_put_apart client q (other_key q client c) table.sessions new) ∙ none))
+    ]) refl
+
+-- ---- a session that goes
+
+pub gone_each : (P : ℕ → Session Reply → Type 0) (table : SessionTable Reply) (client : ℕ) → IsStrictlySortedBy nat_cmp (keys_of table.sessions) → Each P table → Each P (without table client)
+gone_each P table client order h = λ q session found.
+    (elim (is_at (nat_cmp q) client) as (λ b. is_at (nat_cmp q) client ≡ b → P q session) [
+      | true ↦ (λ c.
+          let same : q ≡ client = same_key q client c in
+          let own : session_of (without table client) client ≡ Some session = rw same at found in
+          let none = lookup_removed client table.sessions order in
+          absurd (cc))
+      | false ↦ (λ c. h q session (sym (lookup_removed_apart client q (other_key q client c) table.sessions) ∙ found))
     ]) refl
 
 -- ---- a table of invalidations that were issued

@@ -98,6 +98,7 @@ module _ (cell : List ℕ) (rows : Rows) (s : MasterState) (k : IsKept cell rows
         secret = k.secret;
         epoch = k.epoch;
         next_instance = refl;
+        ended_below = k.ended_below;
         nodes = nodes;
         sessions = k.sessions;
         sound_rows = put_sound cell rows name view next k.sound_rows k.names_in_order fits;
@@ -148,6 +149,7 @@ module _ (cell : List ℕ) (rows : Rows) (s : MasterState) (k : IsKept cell rows
         secret = k.secret;
         epoch = k.epoch;
         next_instance = refl;
+        ended_below = k.ended_below;
         nodes = nodes;
         sessions = k.sessions;
         sound_rows = gone_sound cell rows name next k.sound_rows fits;
@@ -222,6 +224,7 @@ module _ (cell : List ℕ) (rows : Rows) (s : MasterState) (k : IsKept cell rows
         secret = refl;
         epoch = refl;
         next_instance = refl;
+        ended_below = refl;
         nodes = refl;
         sessions = refl;
         locks = refl;

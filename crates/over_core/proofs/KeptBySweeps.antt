@@ -46,9 +46,9 @@ use Rattle.master_parts.specs.declared.pending.Work.{Work}
 use Rattle.master_parts.specs.declared.pending.Work.TheVariants as works
 use Rattle.master_state.specs.State.{MasterState}
 use Rattle.master_parts.specs.StoredSessions.{row_of}
-use Rattle.master_state.specs.Lookups.{session_of, noted}
+use Rattle.master_state.specs.Lookups.{IsUnused, retiring, noted}
 use Rattle.master_state.specs.declared.updates.LockPut.{LockPut}
-use Rattle.master_state.specs.Updates.{with_locks}
+use Rattle.master_state.specs.Updates.{with_locks, retired, retire_edits}
 use Rattle.master_state.specs.Lapses.{lapses_of, lapses_puts, lapses_replies}
 use Rattle.cell_core.specs.Step.{queued}
 use Rattle.cell_core.specs.Ephemerals.{spared_for, is_ok, may_tidy, next_idle, tidied}
@@ -71,6 +71,7 @@ use Rattle.over_core.proofs.LocksKept.{locks_stay}
 use Rattle.over_core.proofs.LocksSwept.{reopened_kept, waits_for_none, told_then_none, parted_kept, without_session_kept}
 use Rattle.over_core.proofs.RepliesKept.{AreTo, lapses_replies_are_to}
 use Rattle.over_core.proofs.OneCall.{one_same, one_started}
+use Rattle.over_core.proofs.Retired.{by_retiring, still_there, retired_kept}
 use Rattle.over_core.proofs.OwnedRights.{none_issued}
 use Rattle.over_core.proofs.SessionReads.{lives_in, keeps_in, reads_new, lives_new}
 use Rattle.over_core.proofs.SweepCases.{HasSessionsInOrder, action_tellings, first_tellings, sweep_case, swept_case, answered_case, rest_edits, rest_puts}
@@ -115,6 +116,10 @@ stored_number n h = grind (arith, nat_tests)
 none_of : {P : Type 0} → 1 ≤ 0 → P
 none_of h = absurd (omega arith)
 
+-- the master once it has begun
+abbrev pub begun_then : MasterState → List (Waiting Task) → List (Waiting Task) → ℕ → List ℕ → MasterState
+begun_then s front back client principal = rest (record s { sessions = with_new s.sessions client (session_until principal true (s.clock + s.sessions.lease)) }) front back
+
 -- ---- the deletion of an ephemeral node that is queued
 
 where_some : {X : Type 0} (b : Bool) (o : Option X) (x : X) → cond b o None ≡ Some x → b ≡ true
@@ -141,7 +146,7 @@ module _ (cell : List ℕ) (rows : Rows) where
       (queued_kept cell rows s names task serving room.0 room.1 refl tt refl (one_started s.gate.waiting s.locks s.sessions w (λ q. refl) k.one_call) k)
 
   -- its client was granted nothing, and waits for nothing
-  begun_kept : (s : MasterState) (client : ℕ) (principal : List ℕ) (timeout : ℕ) → session_of s client ≡ None → is_number client ≡ true → IsKept cell rows s → IsKept cell (changed_rows rows (PutSession client (record { principal = principal; live = true }) ∷ [])) (record s { sessions = with_new s.sessions client (session_until principal true timeout) })
+  begun_kept : (s : MasterState) (client : ℕ) (principal : List ℕ) (timeout : ℕ) → IsUnused s client → is_number client ≡ true → IsKept cell rows s → IsKept cell (changed_rows rows (PutSession client (record { principal = principal; live = true }) ∷ [])) (record s { sessions = with_new s.sessions client (session_until principal true timeout) })
   begun_kept s client principal timeout none number k =
       let new : Session Reply = session_until principal true timeout in
       let put : stored.SessionRow = record { principal = principal; live = true } in
@@ -151,24 +156,39 @@ module _ (cell : List ℕ) (rows : Rows) where
         secret = k.secret;
         epoch = k.epoch;
         next_instance = k.next_instance;
+        ended_below = k.ended_below;
         nodes = k.nodes;
         sessions = rows_of-insert_entry row_of s.sessions.sessions client new ∙ ap (λ (es : List (ℕ × stored.SessionRow)). insert_entry nat_cmp es client put) k.sessions;
         sound_rows = session_sound cell rows client principal k.sound_rows number;
         waiting = k.waiting;
         locks = record { generations = locks.generations; rows_of_locks = locks.rows_of_locks; in_order = locks.in_order; each = locks.each };
-        one_call = one_same s.gate.waiting s.locks s.sessions (with_new s.sessions client new) (reads_new keeps_in s.sessions client new none refl) k.one_call;
+        one_call = one_same s.gate.waiting s.locks s.sessions (with_new s.sessions client new) (reads_new keeps_in s.sessions client new none.0 refl) k.one_call;
         names_in_order = k.names_in_order;
         sessions_in_order = sorted_put nat_cmp nat_cmp_total rows.sessions client put k.sessions_in_order;
         locks_in_order = k.locks_in_order;
         recovery_is_empty = k.recovery_is_empty;
         by_beats = new_each IsByBeats s.sessions client new (λ some. none_of some) k.by_beats;
         recorded = k.recorded;
-        issued = new_each (IsIssued s.rights) s.sessions client new (sym (none_issued client s.rights (k.owned client none))) k.issued;
-        owned = new_without (HasNoRight s.rights) s.sessions client new k.owned;
+        issued = new_each (IsIssued s.rights) s.sessions client new (sym (none_issued client s.rights (k.owned client none.0 none.1))) k.issued;
+        owned = new_without (HasNoRight s.rights s.ended_below) s.sessions client new k.owned;
         orderly = k.orderly;
         touching = k.touching;
         own = k.own;
       }
+
+  -- the first session goes that has ended, where too many are known
+  then_retired : (s : MasterState) (front back : List (Waiting Task)) (asked : WaitingRequest) (principal : List ℕ) → IsNextApplied s front (tasks.Asked asked) back → IsKept cell rows s → IsUnused s asked.client
+      → IsKept cell (changed_rows rows (PutSession asked.client (record { principal = principal; live = true }) ∷ [])) (begun_then s front back asked.client principal)
+      → IsKept cell (changed_rows rows (PutSession asked.client (record { principal = principal; live = true }) ∷ retire_edits s.ended_below (retiring s))) (retired (begun_then s front back asked.client principal) (retiring s))
+  then_retired s front back asked principal turn k none begun =
+      let new : Session Reply = session_until principal true (s.clock + s.sessions.lease) in
+      let put : Edit = PutSession asked.client (record { principal = principal; live = true }) in
+      let there : Rows = changed_rows rows (put ∷ []) in
+      let here : MasterState = begun_then s front back asked.client principal in
+      by_retiring s (λ o. IsKept cell (changed_rows rows (put ∷ retire_edits s.ended_below o)) (retired here o)) begun
+      (λ client gone.
+      retired_kept cell there here client gone.session (still_there s client asked.client new gone none.0) gone.ended (sessions_ordered cell there here begun) begun
+      (still_quiet cell rows s k front back (tasks.Asked asked) turn client gone.quiet))
 
   -- ---- every arm
 
@@ -190,6 +210,7 @@ module _ (cell : List ℕ) (rows : Rows) where
     secret = refl;
     epoch = refl;
     next_instance = refl;
+    ended_below = refl;
     nodes = refl;
     sessions = refl;
     locks = refl;
@@ -226,7 +247,8 @@ module _ (cell : List ℕ) (rows : Rows) where
   case_kept s (StartedAgain front back asked principal received session turn work found live) k =
       same_call_kept cell rows (rest s front back) asked.client (prolonged (s.clock + s.sessions.lease)) (λ before. refl) (λ before. refl) (λ before there is. is) (λ before. refl) (λ before. refl) (rest_kept cell rows s k front back (tasks.Asked asked) turn)
   case_kept s (Started front back asked principal received turn work none) k =
-      begun_kept (rest s front back) asked.client principal (s.clock + s.sessions.lease) none (stored_number asked.client (application_client cell rows s k front back asked turn)) (rest_kept cell rows s k front back (tasks.Asked asked) turn)
+      let begun = begun_kept (rest s front back) asked.client principal (s.clock + s.sessions.lease) none (stored_number asked.client (application_client cell rows s k front back asked turn)) (rest_kept cell rows s k front back (tasks.Asked asked) turn) in
+      then_retired s front back asked principal turn k none begun
   case_kept s (Reopens instance due) k = reopened_kept cell rows s k instance due.lowest_due
   case_kept s (Tidies idle due) k = tidies_kept s idle due.first_idle k
   case_kept s (Spared front back idle turn held) k = rest_kept cell rows s k front back (tasks.Tidies idle) turn
@@ -256,6 +278,7 @@ tellings_kept cell rows s tellings k = stays cell rows s (with_tellings s tellin
   secret = refl;
   epoch = refl;
   next_instance = refl;
+  ended_below = refl;
   nodes = refl;
   sessions = rows_told row_of (λ event before. refl) tellings s.sessions;
   locks = refl;
@@ -266,7 +289,7 @@ tellings_kept cell rows s tellings k = stays cell rows s (with_tellings s tellin
   by_beats = told_each IsByBeats told_by_beats tellings s.sessions k.by_beats;
   recorded = k.recorded;
   issued = told_each (IsIssued s.rights) (λ client event before is. is) tellings s.sessions k.issued;
-  owned = told_without (HasNoRight s.rights) tellings s.sessions k.owned;
+  owned = told_without (HasNoRight s.rights s.ended_below) tellings s.sessions k.owned;
   orderly = k.orderly;
   touching = k.touching;
   own = k.own;

@@ -1,6 +1,6 @@
 -- What a master takes leaves it beside its rows.
 use Rattle.std.proofs.Common.{◌≡◌, ℕ, List, [], ◌∷◌, ◌++◌, Bool, true, false, cond, Option, Some, None, length, refl, sym, ap, ◌∙◌, subst, arith}
-use Rattle.std.specs.Prelude.{◌+◌, ◌^◌, ◌≤◌, ◌<◌, ◌&&◌, ◌||◌, ◌==◌, not, max, nat_le, is_none, Result, Ok, Err, IfOk, OnErr}
+use Rattle.std.specs.Prelude.{◌+◌, ◌^◌, ◌≤◌, ◌<◌, ◌&&◌, ◌||◌, ◌==◌, not, max, nat_lt, nat_le, is_none, Result, Ok, Err, IfOk, OnErr}
 use Rattle.std.specs.List.{list_all, list_any}
 use Rattle.std.specs.Map.{lookup}
 use Rattle.std.specs.BTreeMap.{is_at}
@@ -76,8 +76,8 @@ IsByBeats client session = 1 ≤ (events_of session).acknowledged → 1 ≤ sess
 abbrev pub IsIssued : List CacheRight → ℕ → Session Reply → Type 0
 IsIssued rights client session = session.invalidations.issued ≡ invalidations_of client rights
 
-abbrev pub HasNoRight : List CacheRight → ℕ → Type 0
-HasNoRight rights client = list_any (is_of client) rights ≡ false
+abbrev pub HasNoRight : List CacheRight → ℕ → ℕ → Type 0
+HasNoRight rights ended_below client = nat_lt client ended_below ≡ false → list_any (is_of client) rights ≡ false
 
 newer : (number newest : ℕ) → nat_le number newest ≡ false → 1 ≤ number
 newer number newest h = grind (arith, nat_tests)
@@ -105,6 +105,7 @@ pub record Stays (s new : MasterState) : Type 0 where
   pub secret : new.secret ≡ s.secret
   pub epoch : new.epoch ≡ s.epoch
   pub next_instance : new.next_instance ≡ s.next_instance
+  pub ended_below : new.ended_below ≡ s.ended_below
   pub nodes : new.nodes ≡ s.nodes
   pub sessions : session_rows new.sessions ≡ session_rows s.sessions
   pub locks : new.locks ≡ s.locks
@@ -115,7 +116,7 @@ pub record Stays (s new : MasterState) : Type 0 where
   pub by_beats : AreByBeats new.sessions
   pub recorded : IsRecorded new.rights
   pub issued : AreIssued new.sessions new.rights
-  pub owned : AreOwned new.sessions new.rights
+  pub owned : AreOwned new.sessions new.ended_below new.rights
   pub orderly : IsOrderly new.gate
   pub touching : AreTouching new.secret new.gate.waiting
   pub own : AreOwnCalls new.secret new.gate.waiting
@@ -126,6 +127,7 @@ stays cell rows s new k h = record {
   secret = h.secret ∙ k.secret;
   epoch = h.epoch ∙ k.epoch;
   next_instance = h.next_instance ∙ k.next_instance;
+  ended_below = h.ended_below ∙ k.ended_below;
   nodes = h.nodes ∙ k.nodes;
   sessions = h.sessions ∙ k.sessions;
   sound_rows = k.sound_rows;
@@ -213,6 +215,7 @@ module _ (cell : List ℕ) (rows : Rows) where
     secret = refl;
     epoch = refl;
     next_instance = refl;
+    ended_below = refl;
     nodes = refl;
     sessions = rows_stay row_of s.sessions client step same;
     locks = refl;
@@ -223,7 +226,7 @@ module _ (cell : List ℕ) (rows : Rows) where
     by_beats = step_each IsByBeats s.sessions client step keeps k.by_beats;
     recorded = k.recorded;
     issued = step_each (IsIssued s.rights) s.sessions client step (λ before there is. issues before ∙ is) k.issued;
-    owned = step_without (HasNoRight s.rights) s.sessions client step k.owned;
+    owned = step_without (HasNoRight s.rights s.ended_below) s.sessions client step k.owned;
     orderly = k.orderly;
     touching = k.touching;
     own = k.own;
@@ -247,6 +250,7 @@ module _ (cell : List ℕ) (rows : Rows) where
     secret = refl;
     epoch = refl;
     next_instance = refl;
+    ended_below = refl;
     nodes = refl;
     sessions = refl;
     locks = refl;
@@ -257,7 +261,7 @@ module _ (cell : List ℕ) (rows : Rows) where
     by_beats = k.by_beats;
     recorded = recorded;
     issued = λ client session found. k.issued client session found ∙ sym (issues client);
-    owned = λ client none. owners client none ∙ k.owned client none;
+    owned = λ client none new. owners client none ∙ k.owned client none new;
     orderly = k.orderly;
     touching = k.touching;
     own = k.own;
@@ -295,6 +299,7 @@ module _ (cell : List ℕ) (rows : Rows) where
     secret = refl;
     epoch = refl;
     next_instance = refl;
+    ended_below = refl;
     nodes = refl;
     sessions = refl;
     locks = refl;
@@ -320,6 +325,7 @@ module _ (cell : List ℕ) (rows : Rows) where
         secret = refl;
         epoch = refl;
         next_instance = refl;
+        ended_below = refl;
         nodes = refl;
         sessions = refl;
         locks = refl;
@@ -347,6 +353,7 @@ module _ (cell : List ℕ) (rows : Rows) where
         secret = refl;
         epoch = refl;
         next_instance = refl;
+        ended_below = refl;
         nodes = refl;
         sessions = rows_stay_issued row_of (λ number before. refl) s.sessions asked;
         locks = refl;
@@ -361,7 +368,7 @@ module _ (cell : List ℕ) (rows : Rows) where
             ap (λ (o : Option ℕ). (issued_at o before).invalidations.issued) found
             ∙ asked_issued (holds client name s.rights && is_none (asked_for client name s.rights)) before (invalidations_of client s.rights) is
             ∙ sym (asking_counts client name s.rights once)) k.issued;
-        owned = issued_without (HasNoRight (asked_back name s.rights)) asked s.sessions order (λ client none. owners_asked client name s.rights ∙ k.owned client none);
+        owned = issued_without (HasNoRight (asked_back name s.rights) s.ended_below) asked s.sessions order (λ client none new. owners_asked client name s.rights ∙ k.owned client none new);
         orderly = k.orderly;
         touching = k.touching;
         own = k.own;
@@ -378,6 +385,7 @@ module _ (cell : List ℕ) (rows : Rows) where
     secret = refl;
     epoch = refl;
     next_instance = refl;
+    ended_below = refl;
     nodes = refl;
     sessions = refl;
     locks = refl;

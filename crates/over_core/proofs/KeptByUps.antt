@@ -66,6 +66,7 @@ up_kept cell rows terms now h sessions locks names = record {
   secret = refl;
   epoch = refl;
   next_instance = refl;
+  ended_below = refl;
   nodes = refl;
   sessions = same_rows now rows.sessions;
   sound_rows = h;
@@ -82,7 +83,7 @@ up_kept cell rows terms now h sessions locks names = record {
   by_beats = λ client session found some. none_counts (events_of session).acknowledged (none_counted (λ x. (events_of x).acknowledged) now (λ e. nothing_heard e.1.live) rows.sessions client session found) some;
   recorded = record { numbered = tt; counted = omega arith; few = omega arith; once = tt; called = tt; within = tt };
   issued = λ client session found. none_counted (λ x. x.invalidations.issued) now (λ e. refl) rows.sessions client session found;
-  owned = λ client none. refl;
+  owned = λ client none new. refl;
   orderly = record { rising = omega arith; counted = omega arith; few = omega arith };
   touching = All-nil (λ (w : Waiting Task). w.change.touched ≡ names_touched rows.secret w.change.body);
   own = All-nil (λ (w : Waiting Task). IsOwnTask rows.secret w.change.body);

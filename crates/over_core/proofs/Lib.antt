@@ -15,6 +15,7 @@ pub mod LockRowsKept
 pub mod LockPuts
 pub mod LockEffects
 pub mod LocksRebuilt
+pub mod Retired
 pub mod KeptBySweeps
 pub mod KeptByTakes
 pub mod KeptByApplications

@@ -44,6 +44,7 @@ use Rattle.lock_core.specs.State.{LockState, nobody_holds}
 use Rattle.lock_core.specs.Turns.{is_nobody, is_of_client, reopened, concerns, time_left}
 use Rattle.lock_core.specs.Locks.{LockTable, lock_at, with_lock, is_due, due}
 use Rattle.master_parts.specs.OpenHandles.{without_client}
+use Rattle.master_state.specs.Departed.{with_departed}
 use Rattle.master_state.specs.declared.updates.LockPut.{LockPut}
 use Rattle.master_parts.specs.declared.pending.Task.{Task}
 use Rattle.master_state.specs.State.{MasterState}
@@ -86,6 +87,7 @@ module _ (cell : List ℕ) (rows : Rows) (s : MasterState) (puts : List LockPut)
         secret = k.secret;
         epoch = k.epoch;
         next_instance = k.next_instance;
+        ended_below = k.ended_below;
         nodes = k.nodes ∙ sym (puts_map cell rows s puts k.sound_rows k.sessions k.locks_in_order k.locks all distinct);
         sessions = k.sessions;
         sound_rows = subst P (puts_done cell rows s puts k.sound_rows k.sessions k.locks_in_order k.locks all distinct) (puts_sound cell rows s puts k.sound_rows k.sessions k.locks_in_order k.locks all distinct);
@@ -243,7 +245,7 @@ dead_claims sessions client dead (claim ∷ claims) h =
       | false ↦ (λ e. refl)
     ]) refl
 
-dead_waits : (sessions : SessionTable Reply) (client : ℕ) → is_live sessions client ≡ false → (locks : LockTable) → AllByRecursion (λ (e : ℕ × LockState). lock_at locks e.0 ≡ e.1) locks → ((n : ℕ) → list_all (waiter_fits sessions) (lock_at locks n).waiters ≡ true) → sum_by (waits_count client) (values_of locks) ≡ 0
+pub dead_waits : (sessions : SessionTable Reply) (client : ℕ) → is_live sessions client ≡ false → (locks : LockTable) → AllByRecursion (λ (e : ℕ × LockState). lock_at locks e.0 ≡ e.1) locks → ((n : ℕ) → list_all (waiter_fits sessions) (lock_at locks n).waiters ≡ true) → sum_by (waits_count client) (values_of locks) ≡ 0
 dead_waits sessions client dead locks own fits = by_entries locks own
   where
     by_entries : (es : LockTable) → AllByRecursion (λ (e : ℕ × LockState). lock_at locks e.0 ≡ e.1) es → sum_by (waits_count client) (values_of es) ≡ 0
@@ -341,7 +343,7 @@ module _ (parting : Parting) (cell : List ℕ) (rows : Rows) (s : MasterState) (
 
   -- ---- the locks
 
-  locks_kept : AreLocksKept ended_rows (record (with_locks s puts) { handles = without_client s.handles client; sessions = new_sessions })
+  locks_kept : AreLocksKept ended_rows (record (with_locks s puts) { handles = without_client s.handles client; sessions = new_sessions; departed = with_departed s.departed client })
   locks_kept =
       let before = puts_kept cell rows s puts k.sound_rows k.sessions k.locks_in_order k.locks are_puts apart k.nodes in
       record {
@@ -380,12 +382,13 @@ module _ (parting : Parting) (cell : List ℕ) (rows : Rows) (s : MasterState) (
   names_then : IsStrictlySortedBy (slice_cmp nat_cmp) (keys_of ended_rows.nodes)
   names_then = names_stay cell rows s puts k are_puts apart
 
-  ended_kept_beside : IsKept cell ended_rows (record (with_locks s puts) { handles = without_client s.handles client; sessions = new_sessions })
+  ended_kept_beside : IsKept cell ended_rows (record (with_locks s puts) { handles = without_client s.handles client; sessions = new_sessions; departed = with_departed s.departed client })
   ended_kept_beside = record {
     name = k.name;
     secret = k.secret;
     epoch = k.epoch;
     next_instance = k.next_instance;
+    ended_below = k.ended_below;
     nodes = k.nodes ∙ sym (puts_map cell rows s puts k.sound_rows k.sessions k.locks_in_order k.locks are_puts apart);
     sessions = ended_sessions;
     sound_rows = rows_sound;
@@ -399,7 +402,7 @@ module _ (parting : Parting) (cell : List ℕ) (rows : Rows) (s : MasterState) (
     by_beats = step_each IsByBeats s.sessions client of_session.ended (λ before there h some. absurd (omega (arith, some))) k.by_beats;
     recorded = k.recorded;
     issued = step_each (IsIssued s.rights) s.sessions client of_session.ended (λ before there h. h) k.issued;
-    owned = step_without (HasNoRight s.rights) s.sessions client of_session.ended k.owned;
+    owned = step_without (HasNoRight s.rights s.ended_below) s.sessions client of_session.ended k.owned;
     orderly = k.orderly;
     touching = k.touching;
     own = k.own;
@@ -416,7 +419,7 @@ module _ (parting : Parting) (cell : List ℕ) (rows : Rows) (s : MasterState) (
       let P : Rows → Type 0 = λ r. IsKept cell r (told (with_locks (parted parting s client) puts) replies) in
       subst P (sym ended_is)
       (told_kept cell ended_rows replies (with_locks (parted parting s client) puts) none
-      (ended_kept cell ended_rows (record (with_locks s puts) { handles = without_client s.handles client; sessions = new_sessions }) client (ending_by parting) ended_kept_beside))
+      (ended_kept cell ended_rows (record (with_locks s puts) { handles = without_client s.handles client; sessions = new_sessions; departed = with_departed s.departed client }) client (ending_by parting) ended_kept_beside))
 
   pub without_session_kept : (own : List Reply) → AreTo (λ q. outstanding (with_locks (parted parting s client) puts) q ≡ 0) own → IsKept cell (changed_rows rows (parting_edits parting s client session.principal)) (without_session parting s client own)
   without_session_kept own waits =

@@ -17,7 +17,8 @@ use Rattle.tags_cell.specs.declared.messages.outs.Reply.{Reply}
 use Rattle.session_core.specs.declared.records.LastCall.{LastCall}
 use Rattle.session_core.specs.declared.records.Session.{Session}
 use Rattle.session_core.specs.Session.{keeping}
-use Rattle.session_core.specs.Sessions.{SessionTable, session_of, kept_of, is_live, with_session}
+use Rattle.session_core.specs.Sessions.{SessionTable, session_of, kept_of, is_live, with_session, without}
+use Rattle.collections.proofs.OneKey.{lookup_removed_apart}
 use Rattle.session_core.proofs.OneClient.{kept_session, other_session}
 use Rattle.lock_core.specs.State.{LockState, lock_of}
 use Rattle.lock_core.specs.Locks.{LockTable, lock_at, with_lock}
@@ -78,6 +79,16 @@ kind_recorded kind waiting locks sessions client kept none h q =
       | false ↦ (λ c.
           to_same (count_of kind waiting locks q) (unanswered (kept_of sessions q)) (unanswered (kept_of (with_session sessions client (keeping kept)) q)) (h q)
           (ap (λ o. unanswered (keeps_in o)) (sym (other_session sessions client (keeping kept) q (other_client q client c)))))
+    ]) refl
+
+-- a client of which none waits has no session any more
+kind_retired : (kind : Work → Bool) (waiting : List (Waiting Task)) (locks : LockTable) (sessions : SessionTable Reply) (client : ℕ) → count_of kind waiting locks client ≡ 0 → AreOneOf kind waiting locks sessions → AreOneOf kind waiting locks (without sessions client)
+kind_retired kind waiting locks sessions client none h q =
+    (elim (q == client) as (λ b. (q == client) ≡ b → count_of kind waiting locks q ≤ unanswered (kept_of (without sessions client) q)) [
+      | true ↦ (λ c. at_least_none (count_of kind waiting locks q) (unanswered (kept_of (without sessions client) q)) (ap (count_of kind waiting locks) (same_client q client c) ∙ none))
+      | false ↦ (λ c.
+          to_same (count_of kind waiting locks q) (unanswered (kept_of sessions q)) (unanswered (kept_of (without sessions client) q)) (h q)
+          (ap (λ o. unanswered (keeps_in o)) (sym (lookup_removed_apart client q (other_client q client c) sessions.sessions))))
     ]) refl
 
 -- ---- the gate
@@ -311,6 +322,11 @@ one_same waiting locks old new same h = (kind_same is_call waiting [] old new sa
 pub one_recorded : (waiting : List (Waiting Task)) (locks : LockTable) (sessions : SessionTable Reply) (client : ℕ) (kept : LastCall Reply) → count_in waiting locks client ≡ 0 → AreOne waiting locks sessions → AreOne waiting locks (with_session sessions client (keeping kept))
 one_recorded waiting locks sessions client kept none h =
     (kind_recorded is_call waiting [] sessions client kept (in_gate client waiting locks none) h.0, kind_recorded is_other_call waiting locks sessions client kept (of_others client waiting locks none) h.1)
+
+-- a client of which none waits has no session any more
+pub one_retired : (waiting : List (Waiting Task)) (locks : LockTable) (sessions : SessionTable Reply) (client : ℕ) → count_in waiting locks client ≡ 0 → AreOne waiting locks sessions → AreOne waiting locks (without sessions client)
+one_retired waiting locks sessions client none h =
+    (kind_retired is_call waiting [] sessions client (in_gate client waiting locks none) h.0, kind_retired is_other_call waiting locks sessions client (of_others client waiting locks none) h.1)
 
 -- a change that waits and is no call
 pub one_started : (waiting : List (Waiting Task)) (locks : LockTable) (sessions : SessionTable Reply) (w : Waiting Task) → ((q : ℕ) → is_by is_call q w.change.body ≡ false) → AreOne waiting locks sessions → AreOne (waiting ++ w ∷ []) locks sessions

@@ -8,7 +8,8 @@ use Rattle.std.specs.Ordering.{nat_cmp}
 use Rattle.tags_cell.specs.declared.messages.outs.Reply.{Reply}
 use Rattle.session_core.specs.declared.records.LastCall.{LastCall}
 use Rattle.session_core.specs.declared.records.Session.{Session}
-use Rattle.session_core.specs.Sessions.{SessionTable, session_of, with_session, with_new, issued_by}
+use Rattle.session_core.specs.Sessions.{SessionTable, session_of, with_session, with_new, without, issued_by}
+use Rattle.collections.proofs.OneKey.{lookup_removed, lookup_removed_apart}
 use Rattle.session_core.specs.Laws.{issued_at}
 use Rattle.session_core.proofs.IssuedBy.{issued_to_each}
 use Rattle.session_core.proofs.Keys.{same_key}
@@ -43,6 +44,16 @@ reads_new reads table client new none same q =
           let P : ℕ → Type 0 = λ n. reads (session_of (with_new table client new) n) ≡ reads (session_of table n) in
           subst P (sym (same_key q client c)) (ap reads (lookup_put client table.sessions new) ∙ same ∙ ap reads (sym none)))
       | false ↦ (λ c. ap reads (lookup_put_apart client q (other_key q client c) table.sessions new))
+    ]) refl
+
+-- a session that goes, of which the same is read as of none
+pub reads_gone : {X : Type 0} (reads : Option (Session Reply) → X) (table : SessionTable Reply) (client : ℕ) (session : Session Reply) → IsStrictlySortedBy nat_cmp (keys_of table.sessions) → session_of table client ≡ Some session → reads (Some session) ≡ reads None → (q : ℕ) → reads (session_of (without table client) q) ≡ reads (session_of table q)
+reads_gone reads table client session order found same q =
+    (elim (is_at (nat_cmp q) client) as (λ b. is_at (nat_cmp q) client ≡ b → reads (session_of (without table client) q) ≡ reads (session_of table q)) [
+      | true ↦ (λ c.
+          let P : ℕ → Type 0 = λ n. reads (session_of (without table client) n) ≡ reads (session_of table n) in
+          subst P (sym (same_key q client c)) (ap reads (lookup_removed client table.sessions order) ∙ sym same ∙ ap reads (sym found)))
+      | false ↦ (λ c. ap reads (lookup_removed_apart client q (other_key q client c) table.sessions))
     ]) refl
 
 -- all others live on

@@ -1,12 +1,12 @@
 -- The arm of the table that a sweep takes.
 use Rattle.std.proofs.Common.{◌≡◌, ℕ, ◌≤◌, ◌<◌, List, [], ◌∷◌, ◌++◌, Bool, true, false, cond, Option, Some, None, Result, Ok, Err, refl, sym, ap, ◌∙◌, subst, eqb, arith, ◌⊎◌, inl, inr}
-use Rattle.std.specs.Prelude.{◌&&◌, ◌||◌, not, nat_le, find}
+use Rattle.std.specs.Prelude.{◌&&◌, ◌||◌, not, nat_lt, nat_le, find}
 use Rattle.std.specs.Option.{option_map, option_map_or, option_and_then}
 use Rattle.std.specs.List.Sorted.{IsStrictlySortedBy}
 use Rattle.std.specs.Map.{keys_of}
 use Rattle.std.specs.Ordering.{nat_cmp}
 use Rattle.std.specs.Str.{bytes_eq}
-use Rattle.std.proofs.lemmas.Bool.{and_parts}
+use Rattle.std.proofs.lemmas.Bool.{and_parts, not-true}
 use Rattle.std.proofs.lemmas.Bool.Decides.{nat_tests}
 use Rattle.std.proofs.lemmas.List.{append-nil}
 use Rattle.node_core.specs.declared.refusals.Fault.{Fault}
@@ -106,10 +106,10 @@ some_passes : (test : Session Reply → Bool) (o : Option (Session Reply)) → o
 some_passes test None h = absurd (cc)
 some_passes test (Some session) h = (session, refl, h)
 
--- a client that may start, and has no live session, has none
-pub no_session : (principal : List ℕ) (o : Option (Session Reply)) → option_map_or (λ (session : Session Reply). session.live && bytes_eq session.principal principal) o true ≡ true → option_map_or (λ (session : Session Reply). session.live) o false ≡ false → o ≡ None
-no_session principal None may live = refl
-no_session principal (Some session) may live =
+-- a client that may start, and has no live session, has none, and its number is still to be used
+pub no_session : (principal : List ℕ) (used : Bool) (o : Option (Session Reply)) → option_map_or (λ (session : Session Reply). session.live && bytes_eq session.principal principal) o (not used) ≡ true → option_map_or (λ (session : Session Reply). session.live) o false ≡ false → (o ≡ None) × (used ≡ false)
+no_session principal used None may live = (refl, not-true used may)
+no_session principal used (Some session) may live =
     let t = and_parts session.live (bytes_eq session.principal principal) may in
     let is = t.0 in absurd (cc)
 
@@ -178,8 +178,8 @@ module _ (s : MasterState) (front : List (Waiting Task)) (w : Waiting Task) (bac
 
   fresh_case : (principal : List ℕ) (received : ℕ) → asked.work ≡ works.Starts principal received → may_start s asked.client principal ≡ true → is_live s asked.client ≡ false → IsPlan s w.number (plan_session s asked.client asked.number principal received)
   fresh_case principal received work may live =
-      let none = no_session principal (session_of s asked.client) may live in
-      rw live (Started front back asked principal received turn work none, rw behind refl, refl)
+      let none = no_session principal (nat_lt asked.client s.ended_below) (session_of s asked.client) may live in
+      rw live (Started front back asked principal received turn work none, rw behind refl, append-nil (swept_edits s (Started front back asked principal received turn work none)))
 
   start_case : (principal : List ℕ) (received : ℕ) → asked.work ≡ works.Starts principal received → IsPlan s w.number (plan_start s asked.client asked.number principal received)
   start_case principal received work =

@@ -1,5 +1,5 @@
 -- A master beside its rows.
-use Rattle.std.specs.Prelude.{◌≡◌, ℕ, ◌+◌, ◌≤◌, ◌==◌, nat_le, Bool, true, false, not, ◌&&◌, ◌||◌, List, [], ◌∷◌, All, Option, Some, None, is_none, if◌then◌else◌}
+use Rattle.std.specs.Prelude.{◌≡◌, ℕ, ◌+◌, ◌≤◌, ◌==◌, nat_lt, nat_le, Bool, true, false, not, ◌&&◌, ◌||◌, List, [], ◌∷◌, All, Option, Some, None, is_none, if◌then◌else◌}
 use Rattle.std.specs.Option.{option_map_or}
 use Rattle.std.specs.List.{list_all, list_any, sum_by}
 use Rattle.std.specs.List.Sorted.{IsStrictlySortedBy}
@@ -69,9 +69,9 @@ AreIssued table rights = (client : ℕ) (session : Session Reply) → session_of
 abbrev pub is_of : ℕ → CacheRight → Bool
 is_of client right = client == right.client
 
--- a client without a session was granted nothing
-abbrev pub AreOwned : SessionTable Reply → List CacheRight → Type 0
-AreOwned table rights = (client : ℕ) → session_of table client ≡ None → list_any (is_of client) rights ≡ false
+-- a client without a session that may still have one was granted nothing
+abbrev pub AreOwned : SessionTable Reply → ℕ → List CacheRight → Type 0
+AreOwned table ended_below rights = (client : ℕ) → session_of table client ≡ None → nat_lt client ended_below ≡ false → list_any (is_of client) rights ≡ false
 
 -- each change that waits is in the way of the names that it touches
 abbrev pub AreTouching : List ℕ → List (Waiting Task) → Type 0
@@ -186,6 +186,7 @@ pub record IsKept (cell : List ℕ) (rows : Rows) (s : MasterState) : Type 0 whe
   pub secret : s.secret ≡ rows.secret
   pub epoch : s.epoch ≡ rows.epoch
   pub next_instance : s.next_instance ≡ rows.next_instance
+  pub ended_below : s.ended_below ≡ rows.ended_below
   pub nodes : s.nodes ≡ map_of rows
   pub sessions : session_rows s.sessions ≡ rows.sessions
   pub sound_rows : sound cell rows ≡ true
@@ -201,7 +202,7 @@ pub record IsKept (cell : List ℕ) (rows : Rows) (s : MasterState) : Type 0 whe
   -- rights are recorded once, and belong to sessions
   pub recorded : IsRecorded s.rights
   pub issued : AreIssued s.sessions s.rights
-  pub owned : AreOwned s.sessions s.rights
+  pub owned : AreOwned s.sessions s.ended_below s.rights
   -- changes wait in order, each on the name that it may change, and by a handle of its own client
   pub orderly : IsOrderly s.gate
   pub touching : AreTouching s.secret s.gate.waiting

@@ -29,7 +29,7 @@ use Rattle.cell_core.specs.declared.effects.Effect.{Effect}
 use Rattle.master_parts.specs.declared.pending.Orphan.{Orphan}
 use Rattle.master_parts.specs.declared.pending.Task.{Task}
 use Rattle.master_parts.specs.declared.pending.Work.{Work}
-use Rattle.master_state.specs.Lookups.{session_of, may_start, is_live, nothing, turned_away, reply_of}
+use Rattle.master_state.specs.Lookups.{session_of, may_start, retiring, is_live, nothing, turned_away, reply_of}
 use Rattle.tags_cell.specs.Messages.{is_leave}
 use Rattle.cell_core.specs.Ephemerals.{next_idle, is_still_idle}
 use Rattle.cell_core.specs.Effect.{effect, gone_by_itself}
@@ -84,7 +84,7 @@ first_action s =
 -- ---- what is planned
 
 abbrev pub no_update : Update
-no_update = record { session = None; kept = []; note = None; change = None; locks = []; ends_lock = None; recovers = false; leaves = None }
+no_update = record { session = None; retires = None; kept = []; note = None; change = None; locks = []; ends_lock = None; recovers = false; leaves = None }
 
 abbrev pub no_plan : Plan
 no_plan = record { update = no_update; taken = nothing; contested = None }
@@ -93,6 +93,10 @@ no_plan = record { update = no_update; taken = nothing; contested = None }
 abbrev pub session_plan : SessionUpdate → List Line → List Out → Plan
 session_plan update printed sent = record { update = record no_update { session = Some update }; taken = record { lines = printed; outs = sent }; contested = None }
 
+-- and the first session goes that has ended, where too many are known
+abbrev pub with_retired : Option ℕ → Plan → Plan
+with_retired client plan = record plan { update = record plan.update { retires = client } }
+
 -- ---- Starts
 
 -- the client may count on a lease from now on
@@ -100,11 +104,11 @@ abbrev pub started_out : MasterState → ℕ → ℕ → ℕ → Out
 started_out s client number received =
     outs.Started (record { client = client; epoch = s.epoch; number = number; span = offered_span s.sessions.lease received s.clock })
 
--- for a live session nothing is committed or printed; else it is put as live
+-- for a live session nothing is committed or printed; else it is put as live, and one goes that has ended, where too many are known
 abbrev pub plan_session : MasterState → ℕ → ℕ → List ℕ → ℕ → Plan
 plan_session s client number principal received =
     if is_live s client then session_plan (Prolongs client) [] (started_out s client number received ∷ [])
-    else session_plan (Begins client principal) (lines.Started client ∷ []) (started_out s client number received ∷ [])
+    else with_retired (retiring s) (session_plan (Begins client principal) (lines.Started client ∷ []) (started_out s client number received ∷ []))
 
 abbrev pub plan_start : MasterState → ℕ → ℕ → List ℕ → ℕ → Plan
 plan_start s client number principal received =

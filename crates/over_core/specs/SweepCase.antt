@@ -31,10 +31,11 @@ use Rattle.session_core.specs.declared.records.Parked.{Parked}
 use Rattle.session_core.specs.declared.records.Session.{Session}
 use Rattle.session_core.specs.Session.{session_until, prolonged, answered, is_client_expired, is_client_due, is_client_answerable, offer_to}
 use Rattle.session_core.specs.Sessions.{with_session, with_new, all_heard, lowest}
-use Rattle.master_state.specs.Lookups.{session_of, may_start, is_live, turned_away, reply_of}
+use Rattle.master_state.specs.Departed.{with_departed}
+use Rattle.master_state.specs.Lookups.{session_of, may_start, IsUnused, retiring, is_live, turned_away, reply_of}
 use Rattle.master_parts.specs.Answered.{answered_by}
 use Rattle.cell_core.specs.Step.{recorded}
-use Rattle.master_state.specs.Updates.{with_note, edit_of, with_kept, with_locks, without_lock, lock_changes}
+use Rattle.master_state.specs.Updates.{with_note, retired, retire_edits, edit_of, with_kept, with_locks, without_lock, lock_changes}
 use Rattle.cell_core.specs.Effect.{effect}
 use Rattle.over_core.specs.declared.swept.Swept.{Swept}
 use Rattle.over_core.specs.Sweep.{beats_action}
@@ -94,7 +95,7 @@ pub data SweepCase (s : MasterState) : Type 0 where
   -- A START'S TURN
   TurnedAway : (front back : List (Waiting Task)) (asked : WaitingRequest) (principal : List ℕ) (received : ℕ) → IsNextApplied s front (tasks.Asked asked) back → asked.work ≡ works.Starts principal received → may_start s asked.client principal ≡ false → SweepCase s
   StartedAgain : (front back : List (Waiting Task)) (asked : WaitingRequest) (principal : List ℕ) (received : ℕ) (session : Session Reply) → IsNextApplied s front (tasks.Asked asked) back → asked.work ≡ works.Starts principal received → session_of s asked.client ≡ Some session → session.live ≡ true → SweepCase s
-  Started : (front back : List (Waiting Task)) (asked : WaitingRequest) (principal : List ℕ) (received : ℕ) → IsNextApplied s front (tasks.Asked asked) back → asked.work ≡ works.Starts principal received → session_of s asked.client ≡ None → SweepCase s
+  Started : (front back : List (Waiting Task)) (asked : WaitingRequest) (principal : List ℕ) (received : ℕ) → IsNextApplied s front (tasks.Asked asked) back → asked.work ≡ works.Starts principal received → IsUnused s asked.client → SweepCase s
   -- A LOCK
   Reopens : (instance : ℕ) → IsToReopen s instance → SweepCase s
   -- AN EPHEMERAL NODE
@@ -128,10 +129,10 @@ mapped s change = record s { nodes = changed s.nodes change.change; next_instanc
 abbrev pub told : MasterState → List Reply → MasterState
 told s replies = with_kept s (kept_puts replies)
 
--- the session has ended, holds no right any more, and the handles that it had open are forgotten
+-- the session has ended, which is noted, holds no right any more, and the handles that it had open are forgotten
 abbrev pub parted : Parting → MasterState → ℕ → MasterState
 parted parting s client =
-    record s { handles = without_client s.handles client; sessions = with_session s.sessions client of_session.ended; rights = of_rights.ended client (ending_by parting) s.rights }
+    record s { handles = without_client s.handles client; sessions = with_session s.sessions client of_session.ended; departed = with_departed s.departed client; rights = of_rights.ended client (ending_by parting) s.rights }
 
 -- and no lock; its client is answered, where it has asked for that, and who waited for a lock that it held
 abbrev pub without_session : Parting → MasterState → ℕ → List Reply → MasterState
@@ -186,7 +187,7 @@ swept_by s (StartedAgain front back asked principal received session turn work f
   swept_with [] (started_out s asked.client asked.number received ∷ []),
 )
 swept_by s (Started front back asked principal received turn work none) = (
-  rest (record s { sessions = with_new s.sessions asked.client (session_until principal true (s.clock + s.sessions.lease)) }) front back,
+  rest (retired (record s { sessions = with_new s.sessions asked.client (session_until principal true (s.clock + s.sessions.lease)) }) (retiring s)) front back,
   swept_with (lines.Started asked.client ∷ []) (started_out s asked.client asked.number received ∷ []),
 )
 swept_by s (OfEnded front back asked call sequencer turn work gone) = (rest s front back, swept_with [] [])
@@ -226,7 +227,7 @@ parting_edits parting s client principal = relocking s (lapses_puts s (lapses_of
 abbrev pub swept_edits : (s : MasterState) → SweepCase s → List Edit
 swept_edits s (Expires client session due) = parting_edits partings.Expiry s client session.principal
 swept_edits s (Departed front back asked call sequencer session turn work leave found live) = parting_edits partings.Leave s asked.client session.principal
-swept_edits s (Started front back asked principal received turn work none) = PutSession asked.client (record { principal = principal; live = true }) ∷ []
+swept_edits s (Started front back asked principal received turn work none) = PutSession asked.client (record { principal = principal; live = true }) ∷ retire_edits s.ended_below (retiring s)
 swept_edits s (Reopens instance due) = relocking s (puts_of s instance (reopened (lock_at s.locks instance)).lock)
 swept_edits s (Applied front back asked call sequencer _ change answer turn work stays live made) = edit_of change.change ∷ NextInstance change.next_instance ∷ []
 swept_edits s (Deleted front back asked call sequencer change instance waiters answer turn work stays live made) = edit_of change.change ∷ NextInstance change.next_instance ∷ []

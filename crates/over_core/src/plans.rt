@@ -45,6 +45,7 @@ impl Plan {
         Plan {
             update: Update {
                 session,
+                retires: None,
                 kept,
                 note: None,
                 change: None,
@@ -65,6 +66,7 @@ impl Plan {
         Plan {
             update: Update {
                 session,
+                retires: None,
                 kept: Items::new(alloc),
                 note: None,
                 change: None,
@@ -209,11 +211,13 @@ fn plan_session(
     }
     let taken = started(master, client, number, received)?;
     let principal = principal.clone()?;
-    Ok(Plan::of(
+    let mut plan = Plan::of(
         master.alloc(),
         Some(SessionUpdate::Begins(client, principal)),
         taken,
-    ))
+    );
+    plan.update.retires = master.retiring();
+    Ok(plan)
 }
 
 // The client's new session is printed too.
@@ -375,6 +379,7 @@ fn effect_plan(alloc: Global, effect: Effect, told: StepReply) -> Result<Plan, A
     Ok(Plan {
         update: Update {
             session: None,
+            retires: None,
             kept,
             note,
             change,

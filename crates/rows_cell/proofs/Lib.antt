@@ -7,6 +7,7 @@ pub mod SoundChanges
 pub mod SoundRemovals
 pub mod EntriesInOrder
 pub mod SoundEnds
+pub mod SoundForgets
 pub mod StoreLemmas
 pub mod InstanceTables
 pub mod WholeTest

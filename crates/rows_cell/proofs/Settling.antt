@@ -11,11 +11,11 @@ use Rattle.rows_cell.specs.declared.keys.LockKey.{LockKey}
 use Rattle.rows_cell.specs.declared.tables.LockRow.{LockRow}
 use Rattle.rows_cell.specs.declared.tables.Rows.{Rows}
 use Rattle.rows_cell.specs.declared.tables.Edit.{Edit}
-use Rattle.rows_cell.specs.declared.tables.Edit.TheVariants.{Epoch, NextInstance, PutNode, LockGeneration, RemoveNode, PutSession, PutLock, RemoveLock}
+use Rattle.rows_cell.specs.declared.tables.Edit.TheVariants.{Epoch, NextInstance, PutNode, LockGeneration, RemoveNode, PutSession, RemoveSession, EndedBelow, PutLock, RemoveLock}
 use Rattle.rows_cell.specs.contracts.keys.LockKeyOrd.TheImpl.{cmp-value}
 use Rattle.rows_cell.specs.Keys.{lock_order}
 use Rattle.rows_cell.specs.Rows.{StoredLocks, edited}
-use Rattle.rows_cell.specs.Undo.{takes_away, removes_node, is_of_locks, LateKeys, settled}
+use Rattle.rows_cell.specs.Undo.{takes_away, removes_row, is_of_locks, LateKeys, settled}
 use Rattle.rows_cell.proofs.EntriesInOrder.{sorted_put, sorted_gone}
 use Rattle.rows_cell.proofs.SoundEnds.{unlocked_by, unlocked_sorted, locks_total}
 use Rattle.rows_cell.proofs.SortedLookups.{exact_lock, same_lookups, lookup_gone, any_key}
@@ -115,24 +115,27 @@ late_put rows new late less key row sorted late_sorted is are =
     ∙ ap (λ locks. record rows { locks = locks }) (less_late late rows.locks key sorted row late_sorted)
     ∙ sym (ap (λ r. edited r (PutLock key row)) (settled_is rows late))
 
-apart : (rows : Rows) (late : LateKeys) (edit : Edit) → is_of_locks edit ≡ false → removes_node edit ≡ false → record (edited rows edit) { locks = unlocked_by (keys_of late) (edited rows edit).locks } ≡ edited (record rows { locks = unlocked_by (keys_of late) rows.locks }) edit
+apart : (rows : Rows) (late : LateKeys) (edit : Edit) → is_of_locks edit ≡ false → removes_row edit ≡ false → record (edited rows edit) { locks = unlocked_by (keys_of late) (edited rows edit).locks } ≡ edited (record rows { locks = unlocked_by (keys_of late) rows.locks }) edit
 apart rows late (Epoch epoch) h k = refl
 apart rows late (NextInstance next) h k = refl
 apart rows late (PutNode name node) h k = refl
 apart rows late (LockGeneration name generation) h k = refl
 apart rows late (PutSession client session) h k = refl
+apart rows late (EndedBelow next) h k = refl
 apart rows late _ h k = absurd cc
 
-pub late_other : (rows new : Rows) (late : LateKeys) (edit : Edit) → is_of_locks edit ≡ false → removes_node edit ≡ false → new ≡ edited rows edit → settled new late ≡ edited (settled rows late) edit
+pub late_other : (rows new : Rows) (late : LateKeys) (edit : Edit) → is_of_locks edit ≡ false → removes_row edit ≡ false → new ≡ edited rows edit → settled new late ≡ edited (settled rows late) edit
 late_other rows new late edit h k is =
     ap (λ r. settled r late) is ∙ settled_is (edited rows edit) late ∙ apart rows late edit h k ∙ sym (ap (λ r. edited r edit) (settled_is rows late))
 
-pub keeps : (edit : Edit) → is_of_locks edit ≡ false → removes_node edit ≡ false → takes_away edit ≡ false
+pub keeps : (edit : Edit) → is_of_locks edit ≡ false → removes_row edit ≡ false → takes_away edit ≡ false
 keeps (RemoveNode name) h k = absurd cc
+keeps (RemoveSession client) h k = absurd cc
 keeps (RemoveLock key) h k = absurd cc
 keeps (Epoch epoch) h k = refl
 keeps (NextInstance next) h k = refl
 keeps (PutNode name node) h k = refl
 keeps (LockGeneration name generation) h k = refl
 keeps (PutSession client session) h k = refl
+keeps (EndedBelow next) h k = refl
 keeps (PutLock key row) h k = refl

@@ -97,7 +97,7 @@ distinct_gone {K} {V} test number (e ∷ es) h =
     ]
 
 -- what is found at other keys stays
-lookup_elsewhere : {K V : Type 0} (cmp : K → K → Ordering) → CmpEqualImpliesEq cmp → (es : List (K × V)) (k q : K) → (q ≡ k → ⊥) → lookup (is_at (cmp q)) (remove_entry (is_at (cmp k)) es) ≡ lookup (is_at (cmp q)) es
+pub lookup_elsewhere : {K V : Type 0} (cmp : K → K → Ordering) → CmpEqualImpliesEq cmp → (es : List (K × V)) (k q : K) → (q ≡ k → ⊥) → lookup (is_at (cmp q)) (remove_entry (is_at (cmp k)) es) ≡ lookup (is_at (cmp q)) es
 lookup_elsewhere cmp exact [] k q other = refl
 lookup_elsewhere {K} {V} cmp exact (e ∷ es) k q other =
     let found : List (K × V) → Option V = lookup (is_at (cmp q)) in

@@ -40,5 +40,6 @@ opening settings = record {
       ∷ (root_of settings.cell ++ codes "/acl", opening_node Directory 2 (codes "base") [])
       ∷ (root_of settings.cell ++ codes "/acl/base", opening_node File 3 (codes "base") settings.base) ∷ [];
   sessions = [];
+  ended_below = 0;
   locks = [];
 }

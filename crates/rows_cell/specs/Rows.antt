@@ -12,7 +12,7 @@ use Rattle.rows_cell.specs.declared.tables.LockRow.{LockRow}
 use Rattle.rows_cell.specs.declared.keys.LockKey.{LockKey}
 use Rattle.rows_cell.specs.declared.tables.Rows.{Rows}
 use Rattle.rows_cell.specs.declared.tables.Edit.{Edit}
-use Rattle.rows_cell.specs.declared.tables.Edit.TheVariants.{Epoch, NextInstance, PutNode, LockGeneration, RemoveNode, PutSession, PutLock, RemoveLock}
+use Rattle.rows_cell.specs.declared.tables.Edit.TheVariants.{Epoch, NextInstance, PutNode, LockGeneration, RemoveNode, PutSession, RemoveSession, EndedBelow, PutLock, RemoveLock}
 use Rattle.rows_cell.specs.Keys.{lock_order}
 
 -- entries of names and stored nodes
@@ -56,6 +56,8 @@ edited rows (LockGeneration name generation) = record rows { nodes = at_generati
 edited rows (RemoveNode name) =
     record rows { nodes = remove_entry (is_at (slice_cmp nat_cmp name)) rows.nodes; locks = without_locks_of (stored_node rows.nodes name) rows.locks }
 edited rows (PutSession client session) = record rows { sessions = insert_entry nat_cmp rows.sessions client session }
+edited rows (RemoveSession client) = record rows { sessions = remove_entry (is_at (nat_cmp client)) rows.sessions }
+edited rows (EndedBelow next) = record rows { ended_below = next }
 edited rows (PutLock key row) = record rows { locks = insert_entry lock_order rows.locks key row }
 edited rows (RemoveLock key) = record rows { locks = remove_entry (is_at (lock_order key)) rows.locks }
 
@@ -70,5 +72,7 @@ takes_memory (Epoch epoch) = false
 takes_memory (NextInstance next) = false
 takes_memory (LockGeneration name generation) = false
 takes_memory (RemoveNode name) = false
+takes_memory (RemoveSession client) = false
+takes_memory (EndedBelow next) = false
 takes_memory (RemoveLock key) = false
 takes_memory _ = true

@@ -6,9 +6,9 @@ use Rattle.collections.specs.Tables.{with_former}
 use Rattle.rows_cell.specs.declared.tables.Rows.{Rows}
 use Rattle.rows_cell.specs.declared.tables.Edit.{Edit}
 use Rattle.rows_cell.specs.declared.keys.LockKey.{LockKey}
-use Rattle.rows_cell.specs.declared.tables.Edit.TheVariants.{RemoveNode, PutLock, RemoveLock}
+use Rattle.rows_cell.specs.declared.tables.Edit.TheVariants.{RemoveNode, RemoveSession, PutLock, RemoveLock}
 use Rattle.rows_cell.specs.declared.undo.FormerRow.{FormerRow}
-use Rattle.rows_cell.specs.declared.undo.FormerRow.TheVariants.{OldEpoch, OldInstance, OldGeneration, OldNode, OldSession, OldLock}
+use Rattle.rows_cell.specs.declared.undo.FormerRow.TheVariants.{OldEpoch, OldInstance, OldGeneration, OldNode, OldSession, OldEnded, OldLock}
 use Rattle.rows_cell.specs.Keys.{lock_order}
 use Rattle.rows_cell.specs.Rows.{stored_node, at_generation, changed_rows}
 
@@ -19,6 +19,7 @@ restored rows (OldInstance next) = record rows { next_instance = next }
 restored rows (OldGeneration name generation) = record rows { nodes = at_generation rows.nodes name (stored_node rows.nodes name) generation }
 restored rows (OldNode name former) = record rows { nodes = with_former (slice_cmp nat_cmp) rows.nodes name former }
 restored rows (OldSession client former) = record rows { sessions = with_former nat_cmp rows.sessions client former }
+restored rows (OldEnded next) = record rows { ended_below = next }
 restored rows (OldLock key former) = record rows { locks = with_former lock_order rows.locks key former }
 
 -- the rows with all of it put back, the last first
@@ -29,13 +30,15 @@ all_restored rows (former ∷ formers) = restored (all_restored rows formers) fo
 -- whether an edit takes away what can't be put back without memory
 abbrev pub takes_away : Edit → Bool
 takes_away (RemoveNode name) = true
+takes_away (RemoveSession client) = true
 takes_away (RemoveLock key) = true
 takes_away _ = false
 
--- whether it takes a node away, and its locks
-abbrev pub removes_node : Edit → Bool
-removes_node (RemoveNode name) = true
-removes_node _ = false
+-- whether it takes a node away, and its locks, or a session
+abbrev pub removes_row : Edit → Bool
+removes_row (RemoveNode name) = true
+removes_row (RemoveSession client) = true
+removes_row _ = false
 
 -- whether an edit is of a lock's row
 abbrev pub is_of_locks : Edit → Bool

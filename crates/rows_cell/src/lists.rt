@@ -61,6 +61,7 @@ fn opening(alloc: Global, settings: &Settings) -> Result<Rows, AllocError>
         next_instance: 4,
         nodes: opening_nodes(alloc, settings, &base)?,
         sessions: Table::new(alloc),
+        ended_below: 0,
         locks: Table::new(alloc),
     })
 }

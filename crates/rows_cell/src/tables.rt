@@ -8,7 +8,7 @@ ghost use Rattle.std.specs.Cmp.Lexicographic.{slice_cmp};
 ghost use Rattle.std.specs.Ordering.{nat_cmp};
 ghost use Rattle.collections.specs.Tables.{with_former};
 ghost use Rattle.rows_cell.specs.Rows.{edited, changed_rows, takes_memory, map_of, stored_node, put_stored, at_generation, without_locks_of};
-ghost use Rattle.rows_cell.specs.Undo.{removes_node, is_of_locks};
+ghost use Rattle.rows_cell.specs.Undo.{removes_row, is_of_locks};
 
 use crate::keys::LockKey;
 use collections::{Items, Same, Secret, Table};
@@ -39,7 +39,7 @@ impl Same for StoredNode {
     ghost exact = { λ x y h. h };
 }
 
-/// A client's session. One that has ended stays recorded.
+/// A client's session. One that has ended stays recorded until it is removed.
 #[derive(Drop)]
 pub struct SessionRow {
     pub principal: Principal,
@@ -93,6 +93,8 @@ pub struct Rows {
     pub nodes: Table<Name, StoredNode>,
     /// By client number.
     pub sessions: Table<u64, SessionRow>,
+    /// A client number below it that has no session here gets none any more: it had one that ended, or came too late.
+    pub ended_below: u64,
     pub locks: Table<LockKey, LockRow>,
 }
 
@@ -107,6 +109,7 @@ impl Clone for Rows {
             next_instance: self.next_instance,
             nodes: self.nodes.clone()?,
             sessions: self.sessions.clone()?,
+            ended_below: self.ended_below,
             locks: self.locks.clone()?,
         })
     }
@@ -129,6 +132,9 @@ pub enum Edit {
     RemoveNode(Name),
     /// Also to end it.
     PutSession(u64, SessionRow),
+    /// Nothing is recorded any more of a session that has ended.
+    RemoveSession(u64),
+    EndedBelow(u64),
     PutLock(LockKey, LockRow),
     RemoveLock(LockKey),
 }
@@ -144,10 +150,11 @@ impl Edit {
         )
     }
 
-    fn removes_node(&self) -> bool
-        ensures { result ≡ removes_node self.now }
+    // Whether it takes away a row that isn't a lock's.
+    fn removes_row(&self) -> bool
+        ensures { result ≡ removes_row self.now }
     {
-        matches!(self, Edit::RemoveNode(..))
+        matches!(self, Edit::RemoveNode(..) | Edit::RemoveSession(..))
     }
 
     // Whether it is of a lock's row.
@@ -160,7 +167,7 @@ impl Edit {
 
 impl Rows {
     /// Does a change, or leaves the rows where memory is refused. It costs what its edits cost; where one behind the first
-    /// takes memory and another removes a node, what copying all rows costs.
+    /// takes memory and another removes a node or a session, what copying all rows costs.
     pub(crate) fn change(&mut self, alloc: Global, change: &[Edit]) -> Result<(), AllocError>
         ensures ok { OnOk result (self.new ≡ changed_rows self.old change.now) }
         ensures err { OnErr result (self.new ≡ self.old) }
@@ -181,7 +188,7 @@ impl Rows {
         ensures ok { OnOk result (self.new ≡ changed_rows self.old change.now) }
         ensures err { OnErr result (self.new ≡ self.old) }
     {
-        if change.iter().any(Edit::removes_node) {
+        if change.iter().any(Edit::removes_row) {
             *self = self.after(change)?;
             return Ok(());
         }
@@ -218,6 +225,10 @@ impl Rows {
             Edit::NextInstance(next) => self.next_instance = *next,
             Edit::LockGeneration(name, generation) => self.set_generation(name, *generation),
             Edit::RemoveNode(name) => self.remove_node(name),
+            Edit::RemoveSession(client) => {
+                self.sessions.remove(client);
+            }
+            Edit::EndedBelow(next) => self.ended_below = *next,
             Edit::RemoveLock(key) => {
                 self.locks.remove(key);
             }

@@ -21,6 +21,14 @@ fn push_session(text: &mut String, client: u64, session: &SessionRow) -> Result<
     write!(text, "session {client} {principal} {live}\n")
 }
 
+// Below which number clients without a session get none any more, if below any.
+fn push_ended(text: &mut String, ended_below: u64) -> Result<(), AllocError> {
+    if ended_below == 0 {
+        return Ok(());
+    }
+    write!(text, "ended below {ended_below}\n")
+}
+
 fn state_text(state: LockState) -> &'static str {
     match state {
         LockState::Lapsed => "lapsed",
@@ -48,6 +56,7 @@ pub fn text_of(alloc: Global, rows: &Rows) -> Result<String, AllocError> {
     for (client, session) in rows.sessions.as_map() {
         push_session(&mut text, *client, session)?;
     }
+    push_ended(&mut text, rows.ended_below)?;
     for (key, row) in rows.locks.as_map() {
         push_lock(&mut text, key, row)?;
     }

@@ -4,7 +4,7 @@ ghost use Rattle.std.specs.List.{list_any};
 ghost use Rattle.std.specs.BTreeMap.{insert_entry};
 ghost use Rattle.std.specs.Ordering.{nat_cmp};
 ghost use Rattle.rows_cell.specs.Rows.{edited, changed_rows, put_stored, stored_node, at_generation};
-ghost use Rattle.rows_cell.specs.Undo.{restored, all_restored, takes_away, removes_node, settled};
+ghost use Rattle.rows_cell.specs.Undo.{restored, all_restored, takes_away, removes_row, settled};
 
 use crate::keys::LockKey;
 use crate::tables::{Edit, LockRow, Rows, SessionRow, StoredNode, generation_at};
@@ -23,6 +23,7 @@ pub(crate) enum FormerRow {
     OldGeneration(Name, u64),
     OldNode(Name, Option<StoredNode>),
     OldSession(u64, Option<SessionRow>),
+    OldEnded(u64),
     OldLock(LockKey, Option<LockRow>),
 }
 
@@ -30,7 +31,7 @@ impl Rows {
     // Does edits in place, in order, or leaves the rows: where one is refused, those before it are undone. A lock's row that
     // is taken away goes once none is refused any more, if it isn't put again.
     pub(crate) fn edit_all(&mut self, alloc: Global, edits: &[Edit]) -> Result<(), AllocError>
-        requires { list_any removes_node edits.now ≡ false }
+        requires { list_any removes_row edits.now ≡ false }
         ensures ok { OnOk result (self.new ≡ changed_rows self.old edits.now) }
         ensures err { OnErr result (self.new ≡ self.old) }
     {
@@ -57,7 +58,7 @@ impl Rows {
         formers: &mut Vec<FormerRow>,
         late: &mut Table<LockKey, ()>,
     ) -> Result<(), AllocError>
-        requires { removes_node edit.now ≡ false }
+        requires { removes_row edit.now ≡ false }
         ensures ok { OnOk result (settled self.new late.new ≡ edited (settled self.old late.old) edit.now) }
         ensures back { all_restored self.new formers.new.items ≡ all_restored self.old formers.old.items }
     {
@@ -117,6 +118,9 @@ impl Rows {
             Edit::LockGeneration(name, generation) => self.keep_generation(name, *generation),
             Edit::PutNode(name, node) => self.keep_node(name, node),
             Edit::PutSession(client, session) => self.keep_session(*client, session),
+            Edit::EndedBelow(next) => {
+                Ok(FormerRow::OldEnded(mem::replace(&mut self.ended_below, *next)))
+            }
             Edit::PutLock(key, row) => {
                 let former = self.locks.put(*key, *row)?;
                 Ok(FormerRow::OldLock(*key, former))
@@ -175,6 +179,7 @@ impl Rows {
             FormerRow::OldGeneration(name, generation) => self.set_generation(&name, generation),
             FormerRow::OldNode(name, former) => self.nodes.restore(&name, former),
             FormerRow::OldSession(client, former) => self.sessions.restore(&client, former),
+            FormerRow::OldEnded(next) => self.ended_below = next,
             FormerRow::OldLock(key, former) => self.locks.restore(&key, former),
         }
     }

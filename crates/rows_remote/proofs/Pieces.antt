@@ -70,12 +70,13 @@ edits_behind bytes number edits fits e =
 
 -- ---- rows
 
-regroup : (n c s e x k back : List ℕ) → ((n ++ (c ++ (s ++ (e ++ x)))) ++ k) ++ back ≡ n ++ (c ++ (s ++ (e ++ (x ++ (k ++ back)))))
-regroup n c s e x k back =
-    append_assoc (n ++ (c ++ (s ++ (e ++ x)))) k back
-    ∙ append_assoc n (c ++ (s ++ (e ++ x))) (k ++ back)
-    ∙ ap (λ (u : List ℕ). n ++ u) (append_assoc c (s ++ (e ++ x)) (k ++ back)
-    ∙ ap (λ (u : List ℕ). c ++ u) (append_assoc s (e ++ x) (k ++ back) ∙ ap (λ (u : List ℕ). s ++ u) (append_assoc e x (k ++ back))))
+regroup : (n c s e x d k back : List ℕ) → ((n ++ (c ++ (s ++ (e ++ (x ++ d))))) ++ k) ++ back ≡ n ++ (c ++ (s ++ (e ++ (x ++ (d ++ (k ++ back))))))
+regroup n c s e x d k back =
+    append_assoc (n ++ (c ++ (s ++ (e ++ (x ++ d))))) k back
+    ∙ append_assoc n (c ++ (s ++ (e ++ (x ++ d)))) (k ++ back)
+    ∙ ap (λ (u : List ℕ). n ++ u) (append_assoc c (s ++ (e ++ (x ++ d))) (k ++ back)
+    ∙ ap (λ (u : List ℕ). c ++ u) (append_assoc s (e ++ (x ++ d)) (k ++ back)
+    ∙ ap (λ (u : List ℕ). s ++ u) (append_assoc e (x ++ d) (k ++ back) ∙ ap (λ (u : List ℕ). e ++ u) (append_assoc x d (k ++ back)))))
 
 either : (b : Bool) (front back : List ℕ) (m n : ℕ) → m ≡ n
     → (cond b (Ok (front ++ back)) (Err TooLong) >>= λ bytes. Ok (big_bytes 4 m ++ (front ++ back))) ≡ (cond b (Ok (big_bytes 4 n ++ front)) (Err TooLong) >>= λ u. Ok (u ++ back))
@@ -98,8 +99,8 @@ pub rows_behind : (all : Whole) → framed answer (answers.Rows all)
 unfolding answer whole own all_of_rows
 rows_behind all =
     let back : List ℕ = write_all row.write all.rows in
-    let same : (n c s e x k : List ℕ) → version ∷ (0 ∷ (n ++ (c ++ (s ++ (e ++ (x ++ (k ++ back))))))) ≡ (version ∷ (0 ∷ ((n ++ (c ++ (s ++ (e ++ x)))) ++ k))) ++ back =
-    λ n c s e x k. ap (λ (u : List ℕ). version ∷ (0 ∷ u)) (sym (regroup n c s e x k back)) in
+    let same : (n c s e x d k : List ℕ) → version ∷ (0 ∷ (n ++ (c ++ (s ++ (e ++ (x ++ (d ++ (k ++ back)))))))) ≡ (version ∷ (0 ∷ ((n ++ (c ++ (s ++ (e ++ (x ++ d))))) ++ k))) ++ back =
+    λ n c s e x d k. ap (λ (u : List ℕ). version ∷ (0 ∷ u)) (sym (regroup n c s e x d k back)) in
     ap (λ (u : List ℕ). short_of u >>= λ bytes. Ok (counted.write bytes))
-    (same (word.write all.number) (component.write all.cell) (secret.write all.secret) (word.write all.epoch) (word.write all.next_instance) (big_bytes 4 (length all.rows)))
+    (same (word.write all.number) (component.write all.cell) (secret.write all.secret) (word.write all.epoch) (word.write all.next_instance) (word.write all.ended_below) (big_bytes 4 (length all.rows)))
     ∙ framed_pieces (front_before (own_of all) (length all.rows)) back

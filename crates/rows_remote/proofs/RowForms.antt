@@ -88,9 +88,9 @@ all_of_rows_form = listed_form row_room row_form
 pub whole_form : IsForm whole
 unfolding whole
 whole_form =
-    made_form (λ x. record { number = x.0; cell = x.1.0; secret = x.1.1.0; epoch = x.1.1.1.0; next_instance = x.1.1.1.1.0; rows = x.1.1.1.1.1 })
-    (λ w. (w.number, (w.cell, (w.secret, (w.epoch, (w.next_instance, w.rows)))))) (λ a h. refl) (λ b. refl)
-    (pair_form word_form (pair_form component_form (pair_form secret_form (pair_form word_form (pair_form word_form all_of_rows_form)))))
+    made_form (λ x. record { number = x.0; cell = x.1.0; secret = x.1.1.0; epoch = x.1.1.1.0; next_instance = x.1.1.1.1.0; ended_below = x.1.1.1.1.1.0; rows = x.1.1.1.1.1.1 })
+    (λ w. (w.number, (w.cell, (w.secret, (w.epoch, (w.next_instance, (w.ended_below, w.rows))))))) (λ a h. refl) (λ b. refl)
+    (pair_form word_form (pair_form component_form (pair_form secret_form (pair_form word_form (pair_form word_form (pair_form word_form all_of_rows_form))))))
 
 -- ---- edits
 
@@ -111,6 +111,8 @@ edit_any (edits.RemoveNode text) = refl
 edit_any (edits.PutSession client stands) = refl
 edit_any (edits.PutLock key stands) = refl
 edit_any (edits.RemoveLock key) = refl
+edit_any (edits.RemoveSession client) = refl
+edit_any (edits.EndedBelow next) = refl
 
 edit_takes : (k : EditKind) (bytes : List ℕ) (x : Edit) (rest : List ℕ) → (choice all_edits edit_place).is k → IsBytes bytes → edit_behind k bytes ≡ Ok (x, rest)
     → TakesKind edit_kind edit_is edit_bytes k bytes x rest
@@ -122,6 +124,8 @@ edit_takes edit_of.RemoveNode bytes x rest placed fits e = behind_takes edits.Re
 edit_takes edit_of.PutSession bytes x rest placed fits e = behind_takes (λ x. edits.PutSession x.0 x.1) edit_of.PutSession numbered_form (λ a. refl) (λ a h. h) (λ a. refl) bytes x rest fits e
 edit_takes edit_of.PutLock bytes x rest placed fits e = behind_takes (λ x. edits.PutLock x.0 x.1) edit_of.PutLock keyed_form (λ a. refl) (λ a h. h) (λ a. refl) bytes x rest fits e
 edit_takes edit_of.RemoveLock bytes x rest placed fits e = behind_takes edits.RemoveLock edit_of.RemoveLock lock_key_form (λ a. refl) (λ a h. h) (λ a. refl) bytes x rest fits e
+edit_takes edit_of.RemoveSession bytes x rest placed fits e = behind_takes edits.RemoveSession edit_of.RemoveSession word_form (λ a. refl) (λ a h. h) (λ a. refl) bytes x rest fits e
+edit_takes edit_of.EndedBelow bytes x rest placed fits e = behind_takes edits.EndedBelow edit_of.EndedBelow word_form (λ a. refl) (λ a h. h) (λ a. refl) bytes x rest fits e
 
 edit_again : (x : Edit) (rest : List ℕ) → edit_is x → IsShort (edit_bytes x) → edit_behind (edit_kind x) (edit_bytes x ++ rest) ≡ Ok (x, rest)
 edit_again (edits.Epoch epoch) rest holds short = behind_again edits.Epoch word_form epoch rest holds short
@@ -132,6 +136,8 @@ edit_again (edits.RemoveNode text) rest holds short = behind_again edits.RemoveN
 edit_again (edits.PutSession client stands) rest holds short = behind_again (λ x. edits.PutSession x.0 x.1) numbered_form (client, stands) rest holds short
 edit_again (edits.PutLock key stands) rest holds short = behind_again (λ x. edits.PutLock x.0 x.1) keyed_form (key, stands) rest holds short
 edit_again (edits.RemoveLock key) rest holds short = behind_again edits.RemoveLock lock_key_form key rest holds short
+edit_again (edits.RemoveSession client) rest holds short = behind_again edits.RemoveSession word_form client rest holds short
+edit_again (edits.EndedBelow next) rest holds short = behind_again edits.EndedBelow word_form next rest holds short
 
 pub edit_form : IsForm edit
 unfolding edit

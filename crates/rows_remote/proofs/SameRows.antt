@@ -29,6 +29,10 @@ four_parts : (a b c d : Bool) → (a && b && c && d) ≡ true → (a ≡ true) �
 four_parts true true true true h = (refl, refl, refl, refl)
 four_parts _ _ _ _ h = cc
 
+five_parts : (a b c d e : Bool) → (a && b && c && d && e) ≡ true → (a ≡ true) × (b ≡ true) × (c ≡ true) × (d ≡ true) × (e ≡ true)
+five_parts true true true true true h = (refl, refl, refl, refl, refl)
+five_parts _ _ _ _ _ h = cc
+
 same_bytes : (x y : List ℕ) → bytes_eq x y ≡ true → x ≡ y
 same_bytes x y h = (bytes_eq-Decides x y).0 h
 
@@ -130,13 +134,14 @@ all_by {X = X} same each (x ∷ xs) (y ∷ ys) h =
 pub rows_same : (x y : Rows) → same_rows x y ≡ true → x ≡ y
 rows_same x y h =
     let parts = four_parts (same_own x y) (all_same same_stored x.nodes y.nodes) (all_same same_session x.sessions y.sessions) (all_same same_lock x.locks y.locks) h in
-    let os = four_parts (bytes_eq x.cell y.cell) (bytes_eq x.secret y.secret) (x.epoch == y.epoch) (x.next_instance == y.next_instance) parts.0 in
-    let made : List ℕ → List ℕ → ℕ → ℕ → StoredNodes → List (ℕ × SessionRow) → StoredLocks → Rows =
-    λ cell secret epoch next nodes sessions locks. record { cell = cell; secret = secret; epoch = epoch; next_instance = next; nodes = nodes; sessions = sessions; locks = locks } in
-    ap (λ z. made z x.secret x.epoch x.next_instance x.nodes x.sessions x.locks) (same_bytes x.cell y.cell os.0)
-    ∙ ap (λ z. made y.cell z x.epoch x.next_instance x.nodes x.sessions x.locks) (same_bytes x.secret y.secret os.1)
-    ∙ ap (λ z. made y.cell y.secret z x.next_instance x.nodes x.sessions x.locks) (eqb-true _ _ os.2)
-    ∙ ap (λ z. made y.cell y.secret y.epoch z x.nodes x.sessions x.locks) (eqb-true _ _ os.3)
-    ∙ ap (λ z. made y.cell y.secret y.epoch y.next_instance z x.sessions x.locks) (all_by same_stored stored_same x.nodes y.nodes parts.1)
-    ∙ ap (λ z. made y.cell y.secret y.epoch y.next_instance y.nodes z x.locks) (all_by same_session session_same x.sessions y.sessions parts.2)
-    ∙ ap (λ z. made y.cell y.secret y.epoch y.next_instance y.nodes y.sessions z) (all_by same_lock lock_same x.locks y.locks parts.3)
+    let os = five_parts (bytes_eq x.cell y.cell) (bytes_eq x.secret y.secret) (x.epoch == y.epoch) (x.next_instance == y.next_instance) (x.ended_below == y.ended_below) parts.0 in
+    let made : List ℕ → List ℕ → ℕ → ℕ → ℕ → StoredNodes → List (ℕ × SessionRow) → StoredLocks → Rows =
+    λ cell secret epoch next ended nodes sessions locks. record { cell = cell; secret = secret; epoch = epoch; next_instance = next; nodes = nodes; sessions = sessions; ended_below = ended; locks = locks } in
+    ap (λ z. made z x.secret x.epoch x.next_instance x.ended_below x.nodes x.sessions x.locks) (same_bytes x.cell y.cell os.0)
+    ∙ ap (λ z. made y.cell z x.epoch x.next_instance x.ended_below x.nodes x.sessions x.locks) (same_bytes x.secret y.secret os.1)
+    ∙ ap (λ z. made y.cell y.secret z x.next_instance x.ended_below x.nodes x.sessions x.locks) (eqb-true _ _ os.2)
+    ∙ ap (λ z. made y.cell y.secret y.epoch z x.ended_below x.nodes x.sessions x.locks) (eqb-true _ _ os.3)
+    ∙ ap (λ z. made y.cell y.secret y.epoch y.next_instance z x.nodes x.sessions x.locks) (eqb-true _ _ os.4)
+    ∙ ap (λ z. made y.cell y.secret y.epoch y.next_instance y.ended_below z x.sessions x.locks) (all_by same_stored stored_same x.nodes y.nodes parts.1)
+    ∙ ap (λ z. made y.cell y.secret y.epoch y.next_instance y.ended_below y.nodes z x.locks) (all_by same_session session_same x.sessions y.sessions parts.2)
+    ∙ ap (λ z. made y.cell y.secret y.epoch y.next_instance y.ended_below y.nodes y.sessions z) (all_by same_lock lock_same x.locks y.locks parts.3)

@@ -102,16 +102,16 @@ all_of_rows = listed row
 -- the number of the last commit, the cell's own row, and all others
 unfoldable pub whole : Form Whole
 whole =
-    made (λ x. record { number = x.0; cell = x.1.0; secret = x.1.1.0; epoch = x.1.1.1.0; next_instance = x.1.1.1.1.0; rows = x.1.1.1.1.1 })
-    (λ w. (w.number, (w.cell, (w.secret, (w.epoch, (w.next_instance, w.rows))))))
-    (word ⊗ component ⊗ secret ⊗ word ⊗ word ⊗ all_of_rows)
+    made (λ x. record { number = x.0; cell = x.1.0; secret = x.1.1.0; epoch = x.1.1.1.0; next_instance = x.1.1.1.1.0; ended_below = x.1.1.1.1.1.0; rows = x.1.1.1.1.1.1 })
+    (λ w. (w.number, (w.cell, (w.secret, (w.epoch, (w.next_instance, (w.ended_below, w.rows)))))))
+    (word ⊗ component ⊗ secret ⊗ word ⊗ word ⊗ word ⊗ all_of_rows)
 
 -- what is told before the rows, but for their count
 unfoldable pub own : Form Own
 own =
-    made (λ x. record { number = x.0; cell = x.1.0; secret = x.1.1.0; epoch = x.1.1.1.0; next_instance = x.1.1.1.1 })
-    (λ o. (o.number, (o.cell, (o.secret, (o.epoch, o.next_instance)))))
-    (word ⊗ component ⊗ secret ⊗ word ⊗ word)
+    made (λ x. record { number = x.0; cell = x.1.0; secret = x.1.1.0; epoch = x.1.1.1.0; next_instance = x.1.1.1.1.0; ended_below = x.1.1.1.1.1 })
+    (λ o. (o.number, (o.cell, (o.secret, (o.epoch, (o.next_instance, o.ended_below))))))
+    (word ⊗ component ⊗ secret ⊗ word ⊗ word ⊗ word)
 
 -- ---- edits
 
@@ -125,7 +125,7 @@ generation_set = name ⊗ word
 abbrev pub all_edits : List EditKind
 all_edits =
     edit_of.Epoch ∷ edit_of.NextInstance ∷ edit_of.PutNode ∷ edit_of.LockGeneration ∷ edit_of.RemoveNode ∷ edit_of.PutSession ∷ edit_of.PutLock
-    ∷ edit_of.RemoveLock ∷ []
+    ∷ edit_of.RemoveLock ∷ edit_of.RemoveSession ∷ edit_of.EndedBelow ∷ []
 
 abbrev pub edit_place : EditKind → ℕ
 edit_place edit_of.Epoch = 0
@@ -136,6 +136,8 @@ edit_place edit_of.RemoveNode = 4
 edit_place edit_of.PutSession = 5
 edit_place edit_of.PutLock = 6
 edit_place edit_of.RemoveLock = 7
+edit_place edit_of.RemoveSession = 8
+edit_place edit_of.EndedBelow = 9
 
 abbrev pub edit_kind : Edit → EditKind
 edit_kind (edits.Epoch epoch) = edit_of.Epoch
@@ -146,6 +148,8 @@ edit_kind (edits.RemoveNode text) = edit_of.RemoveNode
 edit_kind (edits.PutSession client stands) = edit_of.PutSession
 edit_kind (edits.PutLock key stands) = edit_of.PutLock
 edit_kind (edits.RemoveLock key) = edit_of.RemoveLock
+edit_kind (edits.RemoveSession client) = edit_of.RemoveSession
+edit_kind (edits.EndedBelow next) = edit_of.EndedBelow
 
 abbrev pub edit_is : Edit → Type 0
 edit_is (edits.Epoch epoch) = word.is epoch
@@ -156,6 +160,8 @@ edit_is (edits.RemoveNode text) = name.is text
 edit_is (edits.PutSession client stands) = numbered.is (client, stands)
 edit_is (edits.PutLock key stands) = keyed.is (key, stands)
 edit_is (edits.RemoveLock key) = lock_key.is key
+edit_is (edits.RemoveSession client) = word.is client
+edit_is (edits.EndedBelow next) = word.is next
 
 abbrev pub edit_bytes : Edit → List ℕ
 edit_bytes (edits.Epoch epoch) = word.write epoch
@@ -166,6 +172,8 @@ edit_bytes (edits.RemoveNode text) = name.write text
 edit_bytes (edits.PutSession client stands) = numbered.write (client, stands)
 edit_bytes (edits.PutLock key stands) = keyed.write (key, stands)
 edit_bytes (edits.RemoveLock key) = lock_key.write key
+edit_bytes (edits.RemoveSession client) = word.write client
+edit_bytes (edits.EndedBelow next) = word.write next
 
 abbrev pub edit_behind : EditKind → List ℕ → Result (Edit × List ℕ) WireFault
 edit_behind edit_of.Epoch rest = behind edits.Epoch word rest
@@ -176,6 +184,8 @@ edit_behind edit_of.RemoveNode rest = behind edits.RemoveNode name rest
 edit_behind edit_of.PutSession rest = behind (λ x. edits.PutSession x.0 x.1) numbered rest
 edit_behind edit_of.PutLock rest = behind (λ x. edits.PutLock x.0 x.1) keyed rest
 edit_behind edit_of.RemoveLock rest = behind edits.RemoveLock lock_key rest
+edit_behind edit_of.RemoveSession rest = behind edits.RemoveSession word rest
+edit_behind edit_of.EndedBelow rest = behind edits.EndedBelow word rest
 
 -- the kind of the edit, and its fields
 unfoldable pub edit : Form Edit

@@ -127,7 +127,7 @@ row_written told = short_of (row.write told)
 
 -- what is told before the rows
 abbrev pub own_of : Whole → Own
-own_of all = record { number = all.number; cell = all.cell; secret = all.secret; epoch = all.epoch; next_instance = all.next_instance }
+own_of all = record { number = all.number; cell = all.cell; secret = all.secret; epoch = all.epoch; next_instance = all.next_instance; ended_below = all.ended_below }
 
 -- bytes with their number in front, to which so many more belong that stand after; or that there would be too many
 abbrev pub framed_front : List ℕ → ℕ → Result (List ℕ) WireFault

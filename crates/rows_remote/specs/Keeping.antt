@@ -36,7 +36,7 @@ with_rows all [] = all
 with_rows all (row ∷ others) = with_rows (with_row all row) others
 
 abbrev pub own_row : Whole → Rows
-own_row whole = record { cell = whole.cell; secret = whole.secret; epoch = whole.epoch; next_instance = whole.next_instance; nodes = []; sessions = []; locks = [] }
+own_row whole = record { cell = whole.cell; secret = whole.secret; epoch = whole.epoch; next_instance = whole.next_instance; nodes = []; sessions = []; ended_below = whole.ended_below; locks = [] }
 
 abbrev pub told_rows : Whole → Rows
 told_rows whole = with_rows (own_row whole) whole.rows
@@ -70,7 +70,7 @@ all_same same (x ∷ xs) (y ∷ ys) = same x y && all_same same xs ys
 all_same same _ _ = false
 
 abbrev pub same_own : Rows → Rows → Bool
-same_own x y = bytes_eq x.cell y.cell && bytes_eq x.secret y.secret && x.epoch == y.epoch && x.next_instance == y.next_instance
+same_own x y = bytes_eq x.cell y.cell && bytes_eq x.secret y.secret && x.epoch == y.epoch && x.next_instance == y.next_instance && x.ended_below == y.ended_below
 
 abbrev pub same_rows : Rows → Rows → Bool
 same_rows x y = same_own x y && all_same same_stored x.nodes y.nodes && all_same same_session x.sessions y.sessions && all_same same_lock x.locks y.locks
@@ -88,7 +88,7 @@ pub record Stood : Type 0 where
   pub doubt : ℕ
 
 abbrev pub no_rows : Rows
-no_rows = record { cell = []; secret = []; epoch = 0; next_instance = 0; nodes = []; sessions = []; locks = [] }
+no_rows = record { cell = []; secret = []; epoch = 0; next_instance = 0; nodes = []; sessions = []; ended_below = 0; locks = [] }
 
 -- the first rows that are told stand alone, and rows that are told later stand from then on; a change stands alone once it is kept, and where it is refused a crash may leave it beside all that it could leave before
 abbrev pub noted : KeeperHistory → List Edit → Stood → Stood

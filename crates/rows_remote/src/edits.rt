@@ -73,6 +73,14 @@ fn put_edit(out: &mut Vec<u8>, done: &Edit) -> Result<(), AllocError>
             put_byte(out, 7)?;
             put_lock_key(out, *key)
         }
+        Edit::RemoveSession(client) => {
+            put_byte(out, 8)?;
+            put_word(out, *client)
+        }
+        Edit::EndedBelow(next) => {
+            put_byte(out, 9)?;
+            put_word(out, *next)
+        }
     }
 }
 
@@ -118,6 +126,8 @@ fn edit_of(alloc: Global, input: &mut AnswerInput, kind: EditKind) -> Result<Edi
         EditKind::PutSession => Edit::PutSession(input.word()?, read_session(alloc, input)?),
         EditKind::PutLock => Edit::PutLock(read_lock_key(input)?, read_lock_row(input)?),
         EditKind::RemoveLock => Edit::RemoveLock(read_lock_key(input)?),
+        EditKind::RemoveSession => Edit::RemoveSession(input.word()?),
+        EditKind::EndedBelow => Edit::EndedBelow(input.word()?),
     })
 }
 

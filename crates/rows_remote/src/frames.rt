@@ -23,6 +23,8 @@ pub struct Whole {
     pub epoch: u64,
     /// The instance of the next node.
     pub next_instance: u64,
+    /// A client number below it that has no session gets none any more.
+    pub ended_below: u64,
     pub rows: Items<Row>,
 }
 
@@ -37,6 +39,8 @@ pub struct Own {
     pub epoch: u64,
     /// The instance of the next node.
     pub next_instance: u64,
+    /// A client number below it that has no session gets none any more.
+    pub ended_below: u64,
 }
 
 /// What is asked of the program that keeps the rows.

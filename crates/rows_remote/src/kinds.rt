@@ -22,9 +22,11 @@ pub enum EditKind {
     PutSession,
     PutLock,
     RemoveLock,
+    RemoveSession,
+    EndedBelow,
 }
 
-pub(crate) const EDIT_KINDS: [EditKind; 8] = [
+pub(crate) const EDIT_KINDS: [EditKind; 10] = [
     EditKind::Epoch,
     EditKind::NextInstance,
     EditKind::PutNode,
@@ -33,6 +35,8 @@ pub(crate) const EDIT_KINDS: [EditKind; 8] = [
     EditKind::PutSession,
     EditKind::PutLock,
     EditKind::RemoveLock,
+    EditKind::RemoveSession,
+    EditKind::EndedBelow,
 ];
 
 /// Of which kind it is what is asked.

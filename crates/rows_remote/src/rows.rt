@@ -88,6 +88,7 @@ pub(crate) fn read_all_rows(alloc: Global, input: &mut AnswerInput) -> Result<Wh
         secret: read_secret(input)?,
         epoch: input.word()?,
         next_instance: input.word()?,
+        ended_below: input.word()?,
         rows: read_rows(alloc, input)?,
     })
 }
@@ -102,6 +103,7 @@ pub(crate) fn rows_of(alloc: Global, whole: Whole) -> Result<(u64, Rows), AllocE
         secret,
         epoch,
         next_instance,
+        ended_below,
         rows: others,
     } = whole;
     let mut rows = Rows {
@@ -111,6 +113,7 @@ pub(crate) fn rows_of(alloc: Global, whole: Whole) -> Result<(u64, Rows), AllocE
         next_instance,
         nodes: Table::new(alloc),
         sessions: Table::new(alloc),
+        ended_below,
         locks: Table::new(alloc),
     };
     put_all(&mut rows, others)?;

@@ -137,5 +137,6 @@ fn put_own(out: &mut Vec<u8>, told: &Own) -> Result<(), AllocError>
     put_component(out, &told.cell)?;
     put_block(out, told.secret.as_bytes())?;
     put_word(out, told.epoch)?;
-    put_word(out, told.next_instance)
+    put_word(out, told.next_instance)?;
+    put_word(out, told.ended_below)
 }

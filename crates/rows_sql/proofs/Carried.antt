@@ -127,7 +127,7 @@ carries version epoch a b c d leaves adds set earlier was rows h =
     let four = leaves earlier was in
     let view = adds four.schema in
     let store = viewed_store version a b c was four view in
-    record { store = set.store store; said = set.says store version rows (viewed_says version a b c was four view rows h) }
+    record { store = set.store store; said = set.says store version earlier rows (viewed_says version a b c was four view rows h) }
 
 -- ---- the ends of the transaction
 

@@ -27,6 +27,7 @@ pub mod Entries
 pub mod Counts
 pub mod LockKeys
 pub mod RemoveLock
+pub mod RemoveSession
 pub mod PutLock
 pub mod PutSession
 pub mod NodeKeys

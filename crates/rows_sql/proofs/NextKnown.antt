@@ -3,7 +3,7 @@ use Rattle.std.proofs.Common.{◌≡◌, ℕ, false, List, [], ◌∷◌, ◌++�
 use Rattle.std.specs.List.{list_any}
 use Rattle.rows_cell.specs.declared.tables.Rows.{Rows}
 use Rattle.rows_cell.specs.declared.tables.Edit.{Edit}
-use Rattle.rows_cell.specs.declared.tables.Edit.TheVariants.{Epoch, NextInstance, PutNode, LockGeneration, RemoveNode, PutSession, PutLock, RemoveLock}
+use Rattle.rows_cell.specs.declared.tables.Edit.TheVariants.{Epoch, NextInstance, PutNode, LockGeneration, RemoveNode, PutSession, RemoveSession, EndedBelow, PutLock, RemoveLock}
 use Rattle.rows_cell.specs.Rows.{changed_rows, edited}
 use Rattle.rows_sql.specs.Overtaken.{sets_next}
 use Rattle.rows_sql.specs.Known.{HasNext, IsSaid}
@@ -22,6 +22,8 @@ next_stays (PutNode name node ∷ edits) rows none = next_stays edits (edited ro
 next_stays (LockGeneration name generation ∷ edits) rows none = next_stays edits (edited rows (LockGeneration name generation)) none
 next_stays (RemoveNode name ∷ edits) rows none = next_stays edits (edited rows (RemoveNode name)) none
 next_stays (PutSession client session ∷ edits) rows none = next_stays edits (edited rows (PutSession client session)) none
+next_stays (RemoveSession client ∷ edits) rows none = next_stays edits (edited rows (RemoveSession client)) none
+next_stays (EndedBelow next ∷ edits) rows none = next_stays edits (edited rows (EndedBelow next)) none
 next_stays (PutLock key row ∷ edits) rows none = next_stays edits (edited rows (PutLock key row)) none
 next_stays (RemoveLock key ∷ edits) rows none = next_stays edits (edited rows (RemoveLock key)) none
 

@@ -6,7 +6,7 @@ use Rattle.std.proofs.lemmas.Bool.{and_parts}
 use Rattle.sqlite.specs.State.{State, HasCleanDisk, KeepsCommit, Survives}
 use Rattle.rows_cell.specs.declared.tables.Rows.{Rows}
 use Rattle.rows_cell.specs.declared.tables.Edit.{Edit}
-use Rattle.rows_cell.specs.declared.tables.Edit.TheVariants.{Epoch, NextInstance, PutNode, LockGeneration, RemoveNode, PutSession, PutLock, RemoveLock}
+use Rattle.rows_cell.specs.declared.tables.Edit.TheVariants.{Epoch, NextInstance, PutNode, LockGeneration, RemoveNode, PutSession, RemoveSession, EndedBelow, PutLock, RemoveLock}
 use Rattle.rows_cell.specs.Rows.{changed_rows, edited}
 use Rattle.rows_sql.specs.Ongoing.{Changed}
 use Rattle.rows_sql.specs.Overtaken.{sets_next, is_overtaken, GoesOver}
@@ -21,6 +21,8 @@ said_again n (PutNode name node ∷ later) rows some = said_again n later (edite
 said_again n (LockGeneration name generation ∷ later) rows some = said_again n later (edited rows (LockGeneration name generation)) some
 said_again n (RemoveNode name ∷ later) rows some = said_again n later (edited rows (RemoveNode name)) some
 said_again n (PutSession client session ∷ later) rows some = said_again n later (edited rows (PutSession client session)) some
+said_again n (RemoveSession client ∷ later) rows some = said_again n later (edited rows (RemoveSession client)) some
+said_again n (EndedBelow next ∷ later) rows some = said_again n later (edited rows (EndedBelow next)) some
 said_again n (PutLock key row ∷ later) rows some = said_again n later (edited rows (PutLock key row)) some
 said_again n (RemoveLock key ∷ later) rows some = said_again n later (edited rows (RemoveLock key)) some
 
@@ -31,6 +33,8 @@ overtaken_rows (PutNode name node) later rows next some = absurd (true≢false (
 overtaken_rows (LockGeneration name generation) later rows next some = absurd (true≢false (sym next))
 overtaken_rows (RemoveNode name) later rows next some = absurd (true≢false (sym next))
 overtaken_rows (PutSession client session) later rows next some = absurd (true≢false (sym next))
+overtaken_rows (RemoveSession client) later rows next some = absurd (true≢false (sym next))
+overtaken_rows (EndedBelow below) later rows next some = absurd (true≢false (sym next))
 overtaken_rows (PutLock key row) later rows next some = absurd (true≢false (sym next))
 overtaken_rows (RemoveLock key) later rows next some = absurd (true≢false (sym next))
 

@@ -148,7 +148,7 @@ cell_there settings named long old new_state run none =
     let only : new_state.now.trees 0 ≡ new settings.cell settings.secret ∷ [] = one_permutation put.last (new_state.now.trees 0) rows ∙ ap (λ r. r ∷ []) last in
     let cell = settings.cell in
     let secret = settings.secret in
-    let says : meta_in (meta_shown (new cell secret)) ≡ Some (meta_of (bare_rows settings)) = λ j. meta_from true (Some 0) (Some 4) (secret_reads secret long j) (component_reads cell named j) in
+    let says : meta_in (meta_shown (new cell secret)) ≡ Some (meta_of (bare_rows settings)) = λ j. meta_from true (Some 0) (Some 0) (Some 4) (secret_reads secret long j) (component_reads cell named j) in
     record {
       store = done.1.store;
       said = record {

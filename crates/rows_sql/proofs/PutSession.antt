@@ -68,7 +68,7 @@ unfolding same_name joined
 nor_none = refl
 
 -- the client that a row says
-client_said : (o : Option ℕ) (b : Option Bool) (p : Option (List ℕ)) (e : ℕ × SessionRow) → session_from o b p ≡ Some e → o ≡ Some e.0
+pub client_said : (o : Option ℕ) (b : Option Bool) (p : Option (List ℕ)) (e : ℕ × SessionRow) → session_from o b p ≡ Some e → o ≡ Some e.0
 client_said (Some client) (Some live) (Some principal) e is = ap (λ (x : ℕ × SessionRow). Some x.0) (same_some is)
 client_said _ _ _ e is = absurd cc
 

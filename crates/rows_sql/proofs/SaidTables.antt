@@ -55,6 +55,7 @@ one_said version tables a b c d s t =
       secret = (m i).secret;
       epoch = (m i).epoch;
       next_instance = (m i).next_instance;
+      ended_below = (m i).ended_below;
       nodes = n i;
       sessions = k i;
       locks = l i;

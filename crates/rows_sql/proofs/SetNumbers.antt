@@ -23,11 +23,11 @@ use Rattle.sqlite.specs.Edit.{id_in}
 use Rattle.sqlite.specs.Effect.{Database}
 use Rattle.sqlite.specs.State.{State, Executes}
 use Rattle.rows_sql.specs.OurSchema.{the_schema, meta}
-use Rattle.rows_sql.specs.WriteTexts.{set_epoch_text, set_next_instance_text}
+use Rattle.rows_sql.specs.WriteTexts.{set_epoch_text, set_next_instance_text, set_ended_below_text}
 use Rattle.rows_sql.specs.WriteCommands.{is, isnt}
 use Rattle.rows_sql.specs.Carrying.{set_version_text}
 use Rattle.rows_sql.specs.Ongoing.{IsStore}
-use Rattle.rows_sql.proofs.WriteMeaning.{set_epoch_is, set_epoch_plain, set_next_instance_is, set_next_instance_plain, set_version_is, set_version_plain}
+use Rattle.rows_sql.proofs.WriteMeaning.{set_epoch_is, set_epoch_plain, set_next_instance_is, set_next_instance_plain, set_ended_below_is, set_ended_below_plain, set_version_is, set_version_plain}
 use Rattle.rows_sql.proofs.Columns.{equal-Int, differ-Int}
 use Rattle.rows_sql.proofs.Casts.{cast_null, cast_int, int_stays, text_stays}
 use Rattle.rows_sql.proofs.Query.{passes}
@@ -50,6 +50,9 @@ epoch_project = col 1 0 ∷ col 1 0 ∷ lit Null ∷ col 1 2 ∷ col 1 3 ∷ col
 abbrev pub next_project : List Term
 next_project = col 1 0 ∷ col 1 0 ∷ lit Null ∷ col 1 2 ∷ col 1 3 ∷ col 1 4 ∷ col 1 5 ∷ col 0 0 ∷ []
 
+abbrev pub ended_project : List Term
+ended_project = col 1 0 ∷ col 1 0 ∷ lit Null ∷ col 0 0 ∷ col 1 3 ∷ col 1 4 ∷ col 1 5 ∷ col 1 6 ∷ []
+
 abbrev pub version_project : List Term
 version_project = col 1 0 ∷ col 1 0 ∷ lit Null ∷ lit (Int (pos 3)) ∷ col 1 3 ∷ col 1 4 ∷ col 0 0 ∷ col 1 6 ∷ []
 
@@ -70,6 +73,9 @@ module _ (n : ℤ) where
 
   abbrev pub with_next : Row → Row
   with_next r = column r 0 ∷ Null ∷ column r 2 ∷ column r 3 ∷ column r 4 ∷ column r 5 ∷ Int n ∷ []
+
+  abbrev pub with_ended : Row → Row
+  with_ended r = column r 0 ∷ Null ∷ Int n ∷ column r 3 ∷ column r 4 ∷ column r 5 ∷ column r 6 ∷ []
 
   abbrev pub with_version : Row → Row
   with_version r = column r 0 ∷ Null ∷ Int (pos 3) ∷ column r 3 ∷ column r 4 ∷ Int n ∷ column r 6 ∷ []
@@ -130,6 +136,21 @@ module _ (n : ℤ) where
         idle = nor_none;
       } in
       (ran_update 0 meta refl set_next_instance_text next_terms next_project params old new refl set_next_instance_is set_next_instance_plain with_next store how count ran).1
+
+  pub set_ended_done : (old new : State) (count : ℕ) → IsStore old.now → Executes set_ended_below_text params old new (Ok count) → Rewrote 0 (map (renewed (passes 0 terms ended_project params) with_ended) (old.now.trees 0)) old.now new.now
+  set_ended_done old new count store ran =
+      let how : updates.Renews old.step_limit meta params params old.now.trees terms ended_project refl with_ended = record {
+        shaped = store.metas;
+        shown = λ r h t. refl;
+        same_id = λ r h t. refl;
+        fits = λ r h t.
+            let typed = meta_rows old.now store r h in
+            λ j. int_stays (column r 0) (int_is (rowid r) (int_at old.now store ended_project r h)) j ∷ cast_null j ∷ cast_int n j ∷ text_stays (column r 3) typed.cell j ∷ column r 4 ∷ int_stays (column r 5) typed.epoch j ∷ int_stays (column r 6) typed.next_instance j ∷ [];
+        one = one_first old.now store ended_project;
+        alone = no_action;
+        idle = nor_none;
+      } in
+      (ran_update 0 meta refl set_ended_below_text terms ended_project params old new refl set_ended_below_is set_ended_below_plain with_ended store how count ran).1
 
   pub set_version_done : (old new : State) (count : ℕ) → IsStore old.now → Executes set_version_text params old new (Ok count) → Rewrote 0 (map (renewed (passes 0 terms version_project params) with_version) (old.now.trees 0)) old.now new.now
   set_version_done old new count store ran =

@@ -45,7 +45,7 @@ LeavesFour version old new = IsEarlier version → IsStoreBy (schema_of version)
 -- the number of the version was set, and the epoch
 pub record SetsVersion (epoch : ℕ) (old new : State) : Type 0 where
   pub store : IsStore old.now → IsStore new.now
-  pub says : IsStore old.now → (version : Version) (rows : Rows) → SaysWith version (tables_of old.now.trees) rows [] → Says (tables_of new.now.trees) (record rows { epoch = epoch })
+  pub says : IsStore old.now → (version : Version) → IsEarlier version → (rows : Rows) → SaysWith version (tables_of old.now.trees) rows [] → Says (tables_of new.now.trees) (record rows { epoch = epoch })
 
 -- whatever rows a store of an earlier version says, it becomes one of now of the same rows with this epoch
 abbrev pub Carries : Version → ℕ → State → State → Type 0

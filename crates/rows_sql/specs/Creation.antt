@@ -87,7 +87,7 @@ AddsView old new = old.now.schema ≡ first_schema → HasView old.now new.now
 
 -- the rows of a new cell, before its nodes are put
 abbrev pub bare_rows : Settled → Rows
-bare_rows settings = record { cell = settings.cell; secret = settings.secret; epoch = 0; next_instance = 4; nodes = []; sessions = []; locks = [] }
+bare_rows settings = record { cell = settings.cell; secret = settings.secret; epoch = 0; next_instance = 4; ended_below = 0; nodes = []; sessions = []; locks = [] }
 
 -- the edits that put these nodes
 abbrev pub puts_of : StoredNodes → List Edit

@@ -1,5 +1,5 @@
 -- What the rows of a store say.
-use Rattle.std.specs.Prelude.{ℕ, ℤ, pos, unsigned_abs, Bool, true, false, ◌&&◌, ◌==◌, List, length, Option, Some, None, if◌then◌else◌, int_lt}
+use Rattle.std.specs.Prelude.{ℕ, ℤ, pos, unsigned_abs, ◌-◌, Bool, true, false, ◌==◌, nat_lt, List, length, Option, Some, None, if◌then◌else◌, int_lt}
 use Rattle.std.specs.Ordering.{int_eq}
 use Rattle.sqlite_value.specs.declared.value.Value.{Value}
 use Rattle.sqlite_value.specs.Order.{Row, column, bytes}
@@ -16,7 +16,7 @@ use Rattle.rows_cell.specs.declared.tables.LockState.{LockState}
 use Rattle.rows_cell.specs.declared.tables.LockState.TheVariants.{Lapsed, Exclusive, Shared}
 use Rattle.rows_cell.specs.declared.keys.LockKey.{LockKey}
 use Rattle.rows_sql.specs.declared.schema.ours.Version.{Version}
-use Rattle.rows_sql.specs.declared.schema.ours.Version.TheVariants.{Third}
+use Rattle.rows_sql.specs.declared.schema.ours.Version.TheVariants.{First, Unindexed, Second, Third}
 use Rattle.rows_sql.specs.Versions.{number_of}
 use Rattle.rows_sql.specs.declared.reading.stored.Numbers.{Numbers}
 use Rattle.rows_sql.specs.declared.reading.stored.Acls.{Acls}
@@ -113,17 +113,34 @@ lock_in r = lock_from (count_in (column r 0)) (count_in (column r 1)) (count_in 
 
 -- ---- the cell
 
-abbrev pub meta_from : Bool → Option ℕ → Option ℕ → Option (List ℕ) → Option (List ℕ) → Option Meta
-meta_from true (Some epoch) (Some next_instance) (Some secret) (Some cell) = Some (record { cell = cell; secret = secret; epoch = epoch; next_instance = next_instance })
-meta_from _ _ _ _ _ = None
+abbrev pub meta_from : Bool → Option ℕ → Option ℕ → Option ℕ → Option (List ℕ) → Option (List ℕ) → Option Meta
+meta_from true (Some ended_below) (Some epoch) (Some next_instance) (Some secret) (Some cell) =
+    Some (record { cell = cell; secret = secret; epoch = epoch; next_instance = next_instance; ended_below = ended_below })
+meta_from _ _ _ _ _ _ = None
 
--- it is the row of a cell, with the number of this version
-abbrev pub is_row_of : Version → Row → Bool
-is_row_of version r = int_eq (id_in (column r 0)) (pos 1) && int_eq (id_in (column r 1)) (number_of version)
+-- the number is that of the version, which knows of no session that is forgotten
+abbrev pub none_below : Version → ℤ → Option ℕ
+none_below version n = if int_eq n (number_of version) then Some 0 else None
+
+-- by how much it is above the number of the version of now
+abbrev pub above_third : Option ℕ → Option ℕ
+above_third None = None
+above_third (Some n) = if nat_lt n 3 then None else Some (n - 3)
+
+-- below which number the sessions that the rows don't name have ended: a store of now adds it to the number of its version
+abbrev pub ended_of : Version → ℤ → Option ℕ
+ended_of First n = none_below First n
+ended_of Unindexed n = none_below Unindexed n
+ended_of Second n = none_below Second n
+ended_of Third n = above_third (count_of n)
+
+-- it is the row of a cell
+abbrev pub is_row_of : Row → Bool
+is_row_of r = int_eq (id_in (column r 0)) (pos 1)
 
 -- id, version, cell, secret, epoch, next_instance
 abbrev pub meta_as : Version → Row → Option Meta
-meta_as version r = meta_from (is_row_of version r) (count_in (column r 4)) (count_in (column r 5)) (secret_in (column r 3)) (component_in (column r 2))
+meta_as version r = meta_from (is_row_of r) (ended_of version (id_in (column r 1))) (count_in (column r 4)) (count_in (column r 5)) (secret_in (column r 3)) (component_in (column r 2))
 
 -- in a store of now
 abbrev pub meta_in : Row → Option Meta

@@ -37,7 +37,7 @@ abbrev pub HoldsLocks : List Row → List (LockKey × LockRow) → Type 0
 HoldsLocks = Holds lock_order lock_in
 
 abbrev pub meta_of : Rows → Meta
-meta_of rows = record { cell = rows.cell; secret = rows.secret; epoch = rows.epoch; next_instance = rows.next_instance }
+meta_of rows = record { cell = rows.cell; secret = rows.secret; epoch = rows.epoch; next_instance = rows.next_instance; ended_below = rows.ended_below }
 
 abbrev pub HoldsChildren : List Row → Parents → Type 0
 HoldsChildren = Holds (slice_cmp nat_cmp) child_in

@@ -22,7 +22,7 @@ pub record Stood : Type 0 where
   pub left : List Rows
 
 abbrev pub no_rows : Rows
-no_rows = record { cell = []; secret = []; epoch = 0; next_instance = 0; nodes = []; sessions = []; locks = [] }
+no_rows = record { cell = []; secret = []; epoch = 0; next_instance = 0; ended_below = 0; nodes = []; sessions = []; locks = [] }
 
 -- rows that are taken over stand alone; those of a read stand from then on; a change stands alone once it is committed, and where it is refused a crash may leave it beside all that it could leave before
 abbrev pub noted : StoreHistory → List Edit → Stood → Stood

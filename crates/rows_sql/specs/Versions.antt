@@ -11,7 +11,7 @@ schema_of Unindexed = unindexed_schema
 schema_of Second = second_schema
 schema_of Third = the_schema
 
--- the number that the row of the cell has
+-- the number that the row of the cell has, in a store of now at least
 abbrev pub number_of : Version → ℤ
 number_of First = pos 1
 number_of Unindexed = pos 2

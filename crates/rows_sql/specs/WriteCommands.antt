@@ -23,6 +23,9 @@ set_epoch_command = Update 0 (record { lets = []; body = over 0 (is (col 1 0) (l
 abbrev pub set_next_instance_command : Command
 set_next_instance_command = Update 0 (record { lets = []; body = over 0 (is (col 1 0) (lit (Int (pos 1))) ∷ isnt (col 1 6) (col 0 0) ∷ []) (col 1 0 ∷ col 1 0 ∷ lit Null ∷ col 1 2 ∷ col 1 3 ∷ col 1 4 ∷ col 1 5 ∷ col 0 0 ∷ []) })
 
+abbrev pub set_ended_below_command : Command
+set_ended_below_command = Update 0 (record { lets = []; body = over 0 (is (col 1 0) (lit (Int (pos 1))) ∷ []) (col 1 0 ∷ col 1 0 ∷ lit Null ∷ col 0 0 ∷ col 1 3 ∷ col 1 4 ∷ col 1 5 ∷ col 1 6 ∷ []) })
+
 abbrev pub renew_node_command : Command
 renew_node_command = Update 1 (record { lets = []; body = over 1 (is (col 1 1) (col 0 0) ∷ []) (col 1 0 ∷ col 1 0 ∷ col 1 1 ∷ col 0 1 ∷ col 0 2 ∷ col 0 3 ∷ col 0 4 ∷ col 0 5 ∷ col 1 7 ∷ col 0 6 ∷ col 0 7 ∷ col 0 8 ∷ col 0 9 ∷ []) })
 
@@ -40,6 +43,9 @@ put_session_command = InsertOr 2 Abort (Values (col 0 0 ∷ lit Null ∷ col 0 1
   target = Some (0 ∷ []);
   update = Some (record { lets = []; body = over 4 (is (col 1 0) (col 0 3) ∷ []) (col 1 0 ∷ col 1 0 ∷ lit Null ∷ col 0 6 ∷ col 0 7 ∷ []) });
 } ∷ [])
+
+abbrev pub remove_session_command : Command
+remove_session_command = Delete 2 (record { lets = []; body = over 4 (is (col 1 0) (col 0 0) ∷ []) (col 1 0 ∷ []) })
 
 abbrev pub put_lock_command : Command
 put_lock_command = InsertOr 3 Abort (Values (lit Null ∷ col 0 0 ∷ col 0 1 ∷ col 0 2 ∷ col 0 3 ∷ col 0 4 ∷ []) 6) (record {

@@ -1,4 +1,4 @@
--- The statements that do the eight edits.
+-- The statements that do the ten edits.
 use Rattle.std.specs.Prelude.{List, ℕ, codes}
 
 abbrev pub set_epoch_text : List ℕ
@@ -6,6 +6,9 @@ set_epoch_text = codes "UPDATE meta SET epoch = ?1 WHERE id = 1"
 
 abbrev pub set_next_instance_text : List ℕ
 set_next_instance_text = codes "UPDATE meta SET next_instance = ?1 WHERE id = 1 AND next_instance <> ?1"
+
+abbrev pub set_ended_below_text : List ℕ
+set_ended_below_text = codes "UPDATE meta SET version = ?1 WHERE id = 1"
 
 abbrev pub renew_node_text : List ℕ
 renew_node_text = codes "UPDATE nodes SET instance = ?2, kind = ?3, life = ?4, content_gen = ?5, acl_gen = ?6, acl_read = ?7, acl_write = ?8, acl_change = ?9, content = ?10 WHERE name = ?1"
@@ -21,6 +24,9 @@ remove_node_text = codes "DELETE FROM nodes WHERE name = ?1"
 
 abbrev pub put_session_text : List ℕ
 put_session_text = codes "INSERT INTO sessions (client, principal, live) VALUES (?1, ?2, ?3) ON CONFLICT (client) DO UPDATE SET principal = excluded.principal, live = excluded.live"
+
+abbrev pub remove_session_text : List ℕ
+remove_session_text = codes "DELETE FROM sessions WHERE client = ?1"
 
 abbrev pub put_lock_text : List ℕ
 put_lock_text = codes "INSERT INTO locks (instance, client, handle, mode, delay) VALUES (?1, ?2, ?3, ?4, ?5) ON CONFLICT (instance, client, handle) DO UPDATE SET mode = excluded.mode, delay = excluded.delay"

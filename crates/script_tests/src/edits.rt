@@ -93,6 +93,8 @@ fn edit_of(alloc: Global, words: &[&str]) -> Result<Edit, Trouble> {
         }
         ["remove", name] => Ok(Edit::RemoveNode(name_of(alloc, name)?)),
         ["session", client, principal, state] => session(alloc, client, principal, state),
+        ["forget", client] => Ok(Edit::RemoveSession(number_of(client)?)),
+        ["ended", next] => Ok(Edit::EndedBelow(number_of(next)?)),
         ["lock", key @ .., state, delay] => Ok(Edit::PutLock(key_of(key)?, row_of(state, delay)?)),
         ["unlock", key @ ..] => Ok(Edit::RemoveLock(key_of(key)?)),
         _ => Err(NO_EDIT),

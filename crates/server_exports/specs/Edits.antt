@@ -64,6 +64,8 @@ parts_of (edits.PutSession client session) taken =
     record (bare_edit (edit_number (edits.PutSession client session)) taken) { client = client; live = flag session.live; name_length = length session.principal }
 parts_of (edits.PutLock key row) taken = record (keyed_edit (edit_number (edits.PutLock key row)) key taken) { state = state_place row.state; delay = row.delay }
 parts_of (edits.RemoveLock key) taken = keyed_edit (edit_number (edits.RemoveLock key)) key taken
+parts_of (edits.RemoveSession client) taken = record (bare_edit (edit_number (edits.RemoveSession client)) taken) { client = client }
+parts_of (edits.EndedBelow next) taken = record (bare_edit (edit_number (edits.EndedBelow next)) taken) { number = next }
 
 abbrev pub edit_parts : Edit × ℕ → EditParts
 edit_parts read = parts_of read.0 read.1

@@ -78,7 +78,7 @@ lock_row parts =
 -- ---- in front of them
 
 abbrev pub own_in : OwnParts → (cell secret : List ℕ) → Own
-own_in parts cell secret = record { number = parts.number; cell = cell; secret = secret; epoch = parts.epoch; next_instance = parts.next_instance }
+own_in parts cell secret = record { number = parts.number; cell = cell; secret = secret; epoch = parts.epoch; next_instance = parts.next_instance; ended_below = parts.ended_below }
 
 abbrev pub front_in : OwnParts → (cell secret : List ℕ) → Result (List ℕ) WireFault
 front_in parts cell secret = component_in cell >>= λ c. secret_in secret >>= λ s. rows_front (own_in parts c s) parts.rows parts.length

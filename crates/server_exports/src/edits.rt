@@ -22,7 +22,8 @@ use std::alloc::{AllocError, Global};
 #[repr(C)]
 #[derive(Clone, Copy)]
 pub struct EditParts {
-    /// 1 to 8: epoch, next instance, put node, lock generation, remove node, put session, put lock, remove lock.
+    /// 1 to 10: epoch, next instance, put node, lock generation, remove node, put session, put lock, remove lock, remove session,
+    /// ended below.
     pub what: u32,
     /// Of a node: 0 a file, 1 a directory.
     pub kind: u32,
@@ -30,7 +31,7 @@ pub struct EditParts {
     pub life: u32,
     /// Of a lock: 0 lapsed, 1 exclusive, 2 shared.
     pub state: u32,
-    /// The epoch, the next instance, or the generation of the lock.
+    /// The epoch, the next instance, the generation of the lock, or below which number sessions have ended.
     pub number: u64,
     pub client: u64,
     /// Of a session: 1 where it is live.
@@ -139,6 +140,14 @@ fn parts_of(done: &Edit, taken: u64) -> EditParts
             ..keyed_edit(7, *key, taken)
         },
         Edit::RemoveLock(key) => keyed_edit(8, *key, taken),
+        Edit::RemoveSession(client) => EditParts {
+            client: *client,
+            ..bare_edit(9, taken)
+        },
+        Edit::EndedBelow(next) => EditParts {
+            number: *next,
+            ..bare_edit(10, taken)
+        },
     }
 }
 

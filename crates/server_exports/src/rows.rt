@@ -49,6 +49,8 @@ pub struct OwnParts {
     pub epoch: u64,
     /// The instance of the next node.
     pub next_instance: u64,
+    /// A client number below it that has no session gets none any more.
+    pub ended_below: u64,
     /// How many rows follow.
     pub rows: u64,
     /// How many bytes these have together.
@@ -163,6 +165,7 @@ pub(crate) fn front_in(
         secret,
         epoch: parts.epoch,
         next_instance: parts.next_instance,
+        ended_below: parts.ended_below,
     };
     let written = write_front(alloc, &told, parts.rows as usize, parts.length as usize);
     drop(told);

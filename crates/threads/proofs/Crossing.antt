@@ -33,6 +33,7 @@ use Rattle.master_parts.specs.contracts.tasks.Tasks.TheInside as tasks_in
 use Rattle.master_parts.specs.contracts.tables.Tables as Tables
 use Rattle.master_parts.specs.contracts.tables.Tables.TheInside as tables_in
 use Rattle.master_parts.proofs.candidates.Candidates.TheSendSync as candidates
+use Rattle.master_state.proofs.departed.Departed.TheSendSync as departed
 use Rattle.master_state.specs.contracts.masters.Master as Master
 use Rattle.master_state.specs.contracts.masters.Master.TheInside as master_in
 use Rattle.cell_core.specs.contracts.cells.MemoryMaster as MemoryMaster
@@ -95,7 +96,7 @@ master_inside : IsSend master_in.the_row
 master_inside =
     recorded_send (master_in.the_field).row _ _ (master_in.the_type).to_one
     (struct_send (shape master_in.the_type)
-    (search (heap.the_field_send, component.the_send, secret.the_send, tables_send, locks.the_send, both, sendable) depth 40))
+    (search (heap.the_field_send, component.the_send, secret.the_send, tables_send, locks.the_send, departed.the_send, both, sendable) depth 40))
 
 master_send : IsSend Master.the_row
 master_send = view_send master_in.the_row _ _ _ _ master_inside

@@ -65,7 +65,7 @@ fresh_hands zero = []
 fresh_hands (suc n) = fresh_hands n ++ fresh (n + 1) ∷ []
 
 abbrev no_rows : Rows
-no_rows = record { cell = []; secret = []; epoch = 0; next_instance = 0; nodes = []; sessions = []; locks = [] }
+no_rows = record { cell = []; secret = []; epoch = 0; next_instance = 0; nodes = []; sessions = []; ended_below = 0; locks = [] }
 
 -- a master over no rows
 abbrev pub nowhere : WatchedState

@@ -3,13 +3,16 @@ use Rattle.std.proofs.Common.{◌≡◌, ℕ, ◌+◌, List, [], ◌∷◌, ◌+
 use Rattle.std.specs.Prelude.{◌-◌, ◌&&◌, not, fold}
 use Rattle.std.specs.Option.{option_map, option_map_or}
 use Rattle.std.specs.List.{AllByRecursion, slice_get}
-use Rattle.std.specs.Map.{lookup}
+use Rattle.std.specs.Map.{lookup, keys_of}
+use Rattle.std.specs.List.Sorted.{IsStrictlySortedBy}
 use Rattle.std.specs.BTreeMap.{is_at}
 use Rattle.std.specs.Ordering.{nat_cmp}
+use Rattle.std.specs.Cmp.{nat_cmp_total}
 use Rattle.node_core.specs.declared.refusals.Fault.TheVariants as faults
 use Rattle.node_core.specs.declared.events.Event.{Event}
 use Rattle.node_core.specs.declared.events.Event.TheVariants as events
 use Rattle.rows_cell.specs.declared.tables.SessionRow as stored
+use Rattle.rows_cell.proofs.EntriesInOrder.{sorted_put}
 use Rattle.tags_cell.specs.Numbers.{is_client_number}
 use Rattle.tags_cell.specs.declared.messages.beats.NumberedEvent.{NumberedEvent}
 use Rattle.tags_cell.specs.declared.messages.calls.Call.{Call}
@@ -41,7 +44,7 @@ use Rattle.master_state.specs.State.{MasterState}
 use Rattle.master_parts.specs.StoredSessions.{taken_over}
 use Rattle.master_state.specs.Lookups.{kept_of, reply_of, stamped_reply, repeated_reply}
 use Rattle.master_parts.specs.Answered.{answered_by}
-use Rattle.master_state.specs.Updates.{with_note, with_kept_put}
+use Rattle.master_state.specs.Updates.{with_note, with_kept_put, without_ended}
 use Rattle.node_core.specs.Nodes.{with_parent}
 use Rattle.cell_core.specs.Step.{queued as queued_in, with_call, asking, asking_for, names_of}
 use Rattle.cell_core.specs.Cases.{TakeCase, taken_by}
@@ -51,9 +54,10 @@ use Rattle.cell_core.specs.Effect.{effect}
 use Rattle.master_state.specs.CallsWaiting.{has_call}
 use Rattle.master_state.specs.Replies.{kept_puts, sent, replies_to, reply_to, turn_replies}
 use Rattle.master_state.specs.Lapses.{lapses_replies, lapses_of}
+use Rattle.over_core.proofs.Retired.{by_retiring}
 use Rattle.over_core.specs.SweepCase.{SweepCase, swept_by, gone_replies}
 use Rattle.over_core.specs.SweepCase.SweepCase.{Quiet, Recovers, Expires, Reopens, Tidies, Spared, Tidied, AnswersBeat, StartedAgain, Started, OfEnded, Ended, Applied, Deleted, Locked, Awaited, Left, Departed}
-use Rattle.world_cell.proofs.OneSession.{kept_in, each_session, each_with_new, each_issued}
+use Rattle.world_cell.proofs.OneSession.{kept_in, each_session, each_with_new, each_gone, each_issued}
 use Rattle.world_cell.proofs.EffectContents.{IsShown, IsShownIf, answer_shown, effect_faithful}
 use Rattle.lock_core.specs.declared.partings.Parting.TheVariants as partings
 
@@ -304,38 +308,42 @@ module _ (R : Reply → Type 0) (E : Event → Type 0) where
   )
   swept_outs_hold s _ shows h = (tt, tt)
 
-  pub swept_hold : (s : MasterState) (c : SweepCase s) → OfSessions s.sessions → OfOuts (swept_by s c).1.outs → OfSessions (swept_by s c).0.sessions
-  swept_hold s (Expires client session due) h k =
+  pub swept_hold : (s : MasterState) → IsStrictlySortedBy nat_cmp (keys_of s.sessions.sessions) → (c : SweepCase s) → OfSessions s.sessions → OfOuts (swept_by s c).1.outs → OfSessions (swept_by s c).0.sessions
+  swept_hold s order (Expires client session due) h k =
       replies_hold (with_session s.sessions client of_session.ended) (lapses_replies s (lapses_of partings.Expiry s client)) (stepped_holds s.sessions h client of_session.ended (λ session g. (g.0, tt))) k
-  swept_hold s (Departed front back asked call sequencer session turn work leave found live) h k =
+  swept_hold s order (Departed front back asked call sequencer session turn work leave found live) h k =
       let over = with_session s.sessions asked.client of_session.ended in
       let reply = reply_of s asked.client asked.number results.Done in
       replies_hold (with_session over asked.client (keeping (answered_by reply))) (lapses_replies s (lapses_of partings.Leave s asked.client))
       (keeping_holds over (stepped_holds s.sessions h asked.client of_session.ended (λ session g. (g.0, tt))) asked.client (answered_by reply) k.0) k.1
-  swept_hold s (Reopens instance due) h k = replies_hold s.sessions (turn_replies s (reopened (lock_at s.locks instance))) h k
-  swept_hold s (Tidies idle due) h k = asking_holds (queued_in s (with_parent idle.name) (tasks.Tidies idle)) (with_parent idle.name) h
-  swept_hold s (Tidied front back idle turn still) h k = replies_hold s.sessions (gone_replies s idle) h k
-  swept_hold s (AnswersBeat client session beat due) h k = stepped_holds s.sessions h client (answered s.sessions.lease s.clock) (answered_holds s.sessions.lease s.clock)
-  swept_hold s (StartedAgain front back asked principal received session turn work found live) h k =
+  swept_hold s order (Reopens instance due) h k = replies_hold s.sessions (turn_replies s (reopened (lock_at s.locks instance))) h k
+  swept_hold s order (Tidies idle due) h k = asking_holds (queued_in s (with_parent idle.name) (tasks.Tidies idle)) (with_parent idle.name) h
+  swept_hold s order (Tidied front back idle turn still) h k = replies_hold s.sessions (gone_replies s idle) h k
+  swept_hold s order (AnswersBeat client session beat due) h k = stepped_holds s.sessions h client (answered s.sessions.lease s.clock) (answered_holds s.sessions.lease s.clock)
+  swept_hold s order (StartedAgain front back asked principal received session turn work found live) h k =
       stepped_holds s.sessions h asked.client (prolonged (s.clock + s.sessions.lease)) (λ session g. g)
-  swept_hold s (Started front back asked principal received turn work none) h k = begun_holds s.sessions h asked.client principal (s.clock + s.sessions.lease)
-  swept_hold s (Ended front back asked call sequencer None answer turn work stays live made) h k =
+  swept_hold s order (Started front back asked principal received turn work none) h k =
+      let new : Session Reply = session_until principal true (s.clock + s.sessions.lease) in
+      let begun = begun_holds s.sessions h asked.client principal (s.clock + s.sessions.lease) in
+      by_retiring s (λ gone. OfSessions (without_ended (with_new s.sessions asked.client new) gone)) begun
+      (λ client gone. each_gone (λ q o. OfSession o) (with_new s.sessions asked.client new) client (sorted_put nat_cmp nat_cmp_total s.sessions.sessions asked.client new order) begun tt)
+  swept_hold s order (Ended front back asked call sequencer None answer turn work stays live made) h k =
       keeping_holds s.sessions h asked.client (answered_by (reply_of s asked.client asked.number answer)) k.0
-  swept_hold s (Ended front back asked call sequencer (Some note) answer turn work stays live made) h k =
+  swept_hold s order (Ended front back asked call sequencer (Some note) answer turn work stays live made) h k =
       keeping_holds s.sessions h asked.client (answered_by (reply_of s asked.client asked.number answer)) k.0
-  swept_hold s (Applied front back asked call sequencer None change answer turn work stays live made) h k =
+  swept_hold s order (Applied front back asked call sequencer None change answer turn work stays live made) h k =
       keeping_holds s.sessions h asked.client (answered_by (reply_of s asked.client asked.number answer)) k.0
-  swept_hold s (Applied front back asked call sequencer (Some note) change answer turn work stays live made) h k =
+  swept_hold s order (Applied front back asked call sequencer (Some note) change answer turn work stays live made) h k =
       keeping_holds s.sessions h asked.client (answered_by (reply_of s asked.client asked.number answer)) k.0
-  swept_hold s (Deleted front back asked call sequencer change instance waiters answer turn work stays live made) h k =
+  swept_hold s order (Deleted front back asked call sequencer change instance waiters answer turn work stays live made) h k =
       replies_hold (with_session s.sessions asked.client (keeping (answered_by (reply_of s asked.client asked.number answer)))) (replies_to s (results.Refused faults.StaleInstance) waiters)
       (keeping_holds s.sessions h asked.client (answered_by (reply_of s asked.client asked.number answer)) k.0) k.1
-  swept_hold s (Locked front back asked call sequencer put claim answer turn work stays live made) h k =
+  swept_hold s order (Locked front back asked call sequencer put claim answer turn work stays live made) h k =
       keeping_holds s.sessions h asked.client (answered_by (reply_of s asked.client asked.number answer)) k.0
-  swept_hold s (Left front back asked call sequencer None leave answer turn work stays live made) h k =
+  swept_hold s order (Left front back asked call sequencer None leave answer turn work stays live made) h k =
       replies_hold (with_session s.sessions asked.client (keeping (answered_by (reply_of s asked.client asked.number answer)))) (turn_replies s leave.turn)
       (keeping_holds s.sessions h asked.client (answered_by (reply_of s asked.client asked.number answer)) k.0) k.1
-  swept_hold s (Left front back asked call sequencer (Some note) leave answer turn work stays live made) h k =
+  swept_hold s order (Left front back asked call sequencer (Some note) leave answer turn work stays live made) h k =
       replies_hold (with_session s.sessions asked.client (keeping (answered_by (reply_of s asked.client asked.number answer)))) (turn_replies s leave.turn)
       (keeping_holds s.sessions h asked.client (answered_by (reply_of s asked.client asked.number answer)) k.0) k.1
-  swept_hold s _ h k = h
+  swept_hold s order _ h k = h

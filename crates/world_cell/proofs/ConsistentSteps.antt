@@ -22,7 +22,7 @@ use Rattle.rows_cell.specs.declared.settings.Limits.{Limits}
 use Rattle.rows_cell.specs.declared.settings.MasterTerms.{MasterTerms}
 use Rattle.rows_cell.specs.declared.tables.Rows.{Rows}
 use Rattle.rows_cell.specs.declared.tables.SessionRow as stored
-use Rattle.rows_cell.specs.declared.tables.Edit.TheVariants.{NextInstance}
+use Rattle.rows_cell.specs.declared.tables.Edit.TheVariants.{NextInstance, PutSession}
 use Rattle.rows_cell.specs.Rows.{changed_rows, map_of}
 use Rattle.tags_cell.specs.declared.messages.requests.Request.{Request}
 use Rattle.tags_cell.specs.declared.messages.requests.Request.TheVariants as requests
@@ -44,11 +44,12 @@ use Rattle.lock_core.specs.Locks.{lock_at}
 use Rattle.master_parts.specs.declared.pending.Task.TheVariants as tasks
 use Rattle.master_state.specs.State.{MasterState, master_of}
 use Rattle.master_parts.specs.StoredSessions.{taken_over}
-use Rattle.master_state.specs.Lookups.{session_of, repeated_reply, noted}
-use Rattle.master_state.specs.Updates.{with_note, edit_of, lock_changes}
+use Rattle.master_state.specs.Lookups.{session_of, repeated_reply, retiring, noted}
+use Rattle.master_state.specs.Updates.{with_note, edit_of, retire_edits, lock_changes}
 use Rattle.cell_core.proofs.AskedFor.{asks_only}
 use Rattle.cell_core.specs.Step.{with_call, asking_for, queued, names_of}
 use Rattle.cell_core.specs.Cases.{TakeCase, taken_by}
+use Rattle.over_core.proofs.KeptBySweeps.{sessions_ordered}
 use Rattle.over_core.specs.SweepCase.{SweepCase, swept_by, swept_edits, gone_replies}
 use Rattle.over_core.proofs.KeptByTakes.{clock_kept}
 use Rattle.over_core.proofs.Limited.{taken_same, case_within}
@@ -679,6 +680,8 @@ swept_epoch rows s (Tidied front back idle turn still) = mod_epoch rows (Gone id
 swept_epoch rows s (Locked front back asked call sequencer put claim answer turn work stays live made) = (relocked_rows rows (lock_changes s (put ∷ []))).beside.epoch
 swept_epoch rows s (Awaited front back asked call sequencer put turn work stays live made) = (relocked_rows rows (lock_changes s (put ∷ []))).beside.epoch
 swept_epoch rows s (Left front back asked call sequencer _ leave answer turn work stays live made) = (relocked_rows rows (lock_changes s (left_put leave ∷ []))).beside.epoch
+swept_epoch rows s (StartedFirst front back asked principal received turn work none) =
+    elim (retiring s) as (λ gone. (changed_rows rows (PutSession asked.client (record { principal = principal; live = true }) ∷ retire_edits s.ended_below gone)).epoch ≡ rows.epoch) [ None ↦ refl | Some client ↦ refl ]
 swept_epoch rows s _ = refl
 
 -- ---- the moment that a master knows
@@ -733,11 +736,12 @@ module _ (w : WorldState) (h : IsConsistent w) (s : MasterState) (up : w.master 
       let stays : new.rows.epoch ≡ w.rows.epoch = swept_epoch w.rows (noted s w.clock) c in
       let epoch : s.epoch ≡ new.rows.epoch = (agrees_at w w.master s up h.master).epoch ∙ sym stays in
       let telling : AreTellingIn new.rows.epoch sent = subst (λ n. AreTellingIn n sent) epoch (swept_tells (noted s w.clock) c) in
-      let fits = tellings_fit w.messages (swept_by (noted s w.clock) c).0 (action_tellings (noted s w.clock) action) (sweep_fits w.messages (noted s w.clock) c (noted_fits w h s up)) in
+      let kept = clock_kept w.cell w.rows s (max s.clock w.clock) (agrees_at w w.master s up h.master) in
+      let order = sessions_ordered w.cell w.rows (noted s w.clock) kept in
+      let fits = tellings_fit w.messages (swept_by (noted s w.clock) c).0 (action_tellings (noted s w.clock) action) (sweep_fits w.messages (noted s w.clock) order c (noted_fits w h s up)) in
       let no_less : w.rows.epoch ≤ new.rows.epoch = omega (arith, stays) in
       let clock = swept_clock (noted s w.clock) c in
       let early = within in
-      let kept = clock_kept w.cell w.rows s (max s.clock w.clock) (agrees_at w w.master s up h.master) in
       let swept = case_within w.cell w.rows (noted s w.clock) kept c in
       let limits : (swept_by (noted s w.clock) c).0.limits ≡ w.terms.limits = swept.limits ∙ limits_at w.terms.limits w.master s up h.limits in
       all_consistent w new (map ToClient sent) h (same_clients w new refl no_less refl) (outs_fresh w new sent refl telling) (same_members w new h refl no_less)

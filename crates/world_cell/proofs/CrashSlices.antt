@@ -1,9 +1,12 @@
 -- To each client, and of each name, what a crash leaves where a commit was refused before.
-use Rattle.std.proofs.Common.{◌≡◌, ◌-◌, ◌<◌, ◌≤◌, true, false, [], ◌∷◌, inl, inr, refl, sym, subst}
+use Rattle.std.proofs.Common.{◌≡◌, ◌-◌, ◌<◌, ◌≤◌, true, false, [], ◌∷◌, inl, inr, refl, sym, ◌∙◌, subst}
 use Rattle.std.specs.Prelude.{◌⊎◌}
 use Rattle.coherence.specs.Slice as one
-use Rattle.coherence.specs.Slice.{Slice, GoDown, Apply, Expire, Leave, Admit, Reached, Live, Never, Ended, nobody}
+use Rattle.coherence.specs.Slice.{Slice, GoDown, Apply, Expire, Leave, Retire, Admit, Reached, Live, Never, Ended, nobody}
 use Rattle.coherence.proofs.Reached.{reached_led}
+
+never_lives : (session : one.Session) → session ≡ Never → session ≡ Live → ⊥
+never_lives session never live = let both : Never ≡ Live = sym never ∙ live in cc
 
 module _ {V : Type 0} where
   -- what the name may show then: what it shows, or anything where a change of it waits and the client holds no right
@@ -16,7 +19,7 @@ module _ {V : Type 0} where
 
   -- what the rows may say of the client's session then
   abbrev pub MayStand : Slice V → one.Session → Type 0
-  MayStand slice session = (session ≡ slice.session) ⊎ (((session ≡ Ended) × (slice.session ≡ Live) × MayEnd slice) ⊎ ((session ≡ Live) × (slice.session ≡ Never)))
+  MayStand slice session = (session ≡ slice.session) ⊎ (((session ≡ Ended) × (slice.session ≡ Live) × MayEnd slice) ⊎ (((session ≡ Live) × (slice.session ≡ Never)) ⊎ ((session ≡ Ended) × (slice.session ≡ Never))))
 
   abbrev pub fallen : Slice V → V → one.Session → Slice V
   fallen slice present session = record slice { present = present; session = session; master = nobody }
@@ -36,7 +39,10 @@ module _ {V : Type 0} where
       subst (λ (z : one.Session). Reached (fallen slice slice.present z)) (sym same)
       (reached_led slice (fallen slice slice.present slice.session) (GoDown ∷ []) reached (record { allowed = record { first = up; rest = tt }; leads_there = refl }))
   stands_so slice session up (inr (inl e)) reached = subst (λ (z : one.Session). Reached (fallen slice slice.present z)) (sym e.0) (ends_so slice up e.1 e.2 reached)
-  stands_so slice session up (inr (inr b)) reached =
+  stands_so slice session up (inr (inr (inr late))) reached =
+      subst (λ (z : one.Session). Reached (fallen slice slice.present z)) (sym late.0)
+      (reached_led slice (fallen slice slice.present Ended) (Retire ∷ GoDown ∷ []) reached (record { allowed = record { first = record { up = up; over = never_lives slice.session late.1 }; rest = record { first = up; rest = tt } }; leads_there = refl }))
+  stands_so slice session up (inr (inr (inl b))) reached =
       subst (λ (z : one.Session). Reached (fallen slice slice.present z)) (sym b.0)
       (reached_led slice (fallen slice slice.present Live) (Admit ∷ GoDown ∷ []) reached (record { allowed = record { first = record { up = up; new = b.1 }; rest = record { first = up; rest = tt } }; leads_there = refl }))
 

@@ -625,7 +625,7 @@ module _ (instance client : ℕ) (mode : LockMode) (cell : List ℕ) (rows : Row
       parting_fold instance client mode parting (seen_in instance client mode rows) (numbers_ending whose (ending_by parting) s.rights) others whose
       ∙ ap (λ b. cond b (record (fold (seen_by instance client mode) (seen_in instance client mode rows) others) { holds = 0 }) (fold (seen_by instance client mode) (seen_in instance client mode rows) others)) own in
       let dead : is_live_in new client ≡ false =
-      lives_by_sweep client rows s c ∙ ap (λ (all_lines : List Line). live_at client (is_live_in rows client) all_lines) printed
+      lives_by_sweep client cell rows s k c ∙ ap (λ (all_lines : List Line). live_at client (is_live_in rows client) all_lines) printed
       ∙ parting_lives parting client (is_live_in rows client) (numbers_ending whose (ending_by parting) s.rights) others whose (quiet_silent others (lapses_of_locks parting whose (lapses_of parting s whose)).quiet)
       ∙ ap (λ b. cond b false (is_live_in rows client)) own in
       equal_seen (seen_in instance client mode new) (fold (seen_by instance client mode) (seen_in instance client mode rows) all)

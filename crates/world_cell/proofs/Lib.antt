@@ -20,6 +20,7 @@ pub mod ClientHolds
 pub mod HoldsOn
 pub mod InstalledGrants
 pub mod EntryFacts
+pub mod ForgottenRows
 pub mod OnceByRuns
 pub mod RowsByRuns
 pub mod CallsByRuns

@@ -360,6 +360,7 @@ noted_kept cell rows s now k = record {
   secret = k.secret;
   epoch = k.epoch;
   next_instance = k.next_instance;
+  ended_below = k.ended_below;
   nodes = k.nodes;
   sessions = k.sessions;
   sound_rows = k.sound_rows;

@@ -3,6 +3,10 @@ use Rattle.std.proofs.Common.{◌≡◌, ◌≢◌, ℕ, ◌+◌, List, [], ◌�
 use Rattle.std.specs.Prelude.{◌⊎◌, ◌==◌, ◌&&◌, ◌||◌}
 use Rattle.std.specs.Option.{option_map_or}
 use Rattle.std.specs.List.{AllByRecursion}
+use Rattle.std.specs.List.Sorted.{IsStrictlySortedBy}
+use Rattle.std.specs.Map.{keys_of}
+use Rattle.std.specs.Ordering.{nat_cmp}
+use Rattle.std.specs.Cmp.{nat_cmp_total}
 use Rattle.std.proofs.lemmas.Bool.Decides.{nat_tests}
 use Rattle.std.proofs.lemmas.List.{append-nil}
 use Rattle.tags_cell.specs.declared.messages.calls.Call.{Call}
@@ -48,7 +52,8 @@ use Rattle.master_parts.specs.Answered.{answered_by}
 use Rattle.node_core.specs.Nodes.{with_parent}
 use Rattle.cell_core.specs.declared.asking.TouchedNames.{TouchedNames}
 use Rattle.cell_core.specs.Step.{recorded, queued, names_of, task_of, with_call, with_right, asking_for, parked, replied, granting, waits, asking}
-use Rattle.master_state.specs.Updates.{with_note, with_locks, without_lock}
+use Rattle.master_state.specs.Departed.{with_departed}
+use Rattle.master_state.specs.Updates.{with_note, with_locks, without_lock, retired}
 use Rattle.cell_core.specs.Ephemerals.{tidied}
 use Rattle.cell_core.specs.Cases.{IsBehind, TakeCase, taken_by}
 use Rattle.cell_core.specs.Names.{name_asked}
@@ -59,6 +64,8 @@ use Rattle.master_state.specs.CallsWaiting.{is_by, is_call, has_call}
 use Rattle.master_state.specs.Replies.{replies_to, turn_replies, puts_of}
 use Rattle.cell_core.specs.Outcomes.{left_put}
 use Rattle.master_state.specs.Lapses.{lapses_of, lapses_puts, lapses_replies}
+use Rattle.rows_cell.proofs.EntriesInOrder.{sorted_put}
+use Rattle.over_core.proofs.Retired.{by_retiring}
 use Rattle.over_core.specs.SweepCase.{IsNextApplied, SweepCase, swept_by, rest, ended, mapped, told, parted, gone_change, gone_replies}
 use Rattle.over_core.specs.SweepCase.SweepCase.{Quiet, Recovers, Expires, Reopens, Tidies, Spared, Tidied, AnswersBeat, TurnedAway, StartedAgain, Started as StartedFirst, OfEnded, Ended, Applied, Deleted, Locked, Awaited, Left, Departed}
 use Rattle.world_steps.specs.declared.mail.Message.{Message}
@@ -69,7 +76,7 @@ use Rattle.world_cell.proofs.MessagesGrow.{call_stays}
 use Rattle.world_cell.proofs.LateReplies.{IsLate, AreLate, replies_late, application_late, lapses_late}
 use Rattle.world_cell.proofs.OpensNamed.{answer_opens}
 use Rattle.world_cell.proofs.AnswersSent.{answer_stays, plain_answer, told_answer, answered_opens, applied_opens}
-use Rattle.world_cell.proofs.OneSession.{at_each, same, kept_in, each_apart, each_session, each_with_new, each_issued, answered_so}
+use Rattle.world_cell.proofs.OneSession.{at_each, same, kept_in, each_apart, each_session, each_with_new, each_gone, each_issued, answered_so}
 use Rattle.world_cell.proofs.MembersFound.{some_same}
 use Rattle.lock_core.specs.declared.partings.Parting.{Parting}
 use Rattle.lock_core.specs.declared.partings.Parting.TheVariants as partings
@@ -149,6 +156,10 @@ right_fits sent s rights h = record { queue = h.queue; kept = h.kept; replies = 
 -- nor what is known of handles
 known_fits : (sent : List Message) (s : MasterState) (handles : List (HandleKey × HandleState)) → FitsMessages sent s → FitsMessages sent (record s { handles = handles })
 known_fits sent s handles h = record { queue = h.queue; kept = h.kept; replies = h.replies; answers = h.answers; turns = h.turns }
+
+-- nor who has departed
+departed_fits : (sent : List Message) (s : MasterState) (departed : List ℕ) → FitsMessages sent s → FitsMessages sent (record s { departed = departed })
+departed_fits sent s departed h = record { queue = h.queue; kept = h.kept; replies = h.replies; answers = h.answers; turns = h.turns }
 
 -- ---- the queue
 
@@ -311,6 +322,13 @@ none_called q [] h = refl
 none_called q (w ∷ ws) h =
     let t = neither (is_by is_call q w.change.body) (has_call q ws) h in
     not_tasked q w.change.body (waiting q ws) t.0 ∙ none_called q ws t.1
+
+-- one of which none waits goes
+gone_fits : (sent : List Message) (s : MasterState) → FitsMessages sent s → (client : ℕ) → IsStrictlySortedBy nat_cmp (keys_of s.sessions.sessions) → has_call client s.gate.waiting ≡ false → FitsMessages sent (retired s (Some client))
+gone_fits sent s h client order quiet =
+    fits_by sent (retired s (Some client)) h.queue
+    (each_gone (λ q o. IsKeptSent sent s.epoch s.secret q o) s.sessions client order (all_kept sent s h) (λ was e. cc))
+    (each_gone (λ q o. IsInTurn o (waiting q s.gate.waiting)) s.sessions client order h.turns (none_called client s.gate.waiting quiet))
 
 all_late : (sent : List Message) (s t : MasterState) (replies : List Reply) → FitsMessages sent s → t.epoch ≡ s.epoch → t.secret ≡ s.secret → ((q : ℕ) → waiting q s.gate.waiting ≡ [] → waiting q t.gate.waiting ≡ []) → AreLate s replies → AllByRecursion (IsKeptLate sent t) replies
 all_late sent s t [] h epoch secret fewer late = tt
@@ -638,32 +656,34 @@ module _ (sent : List Message) (s : MasterState) (front : List (Waiting Task)) (
           let t : MasterState = parted parting r asked.client in
           let puts = lapses_puts s (lapses_of parting s asked.client) in
           let over =
-          known_fits sent (record r { sessions = with_session r.sessions asked.client of_session.ended; rights = of_rights.ended asked.client (ending_by parting) s.rights }) (without_client s.handles asked.client)
-          (right_fits sent (record r { sessions = with_session r.sessions asked.client of_session.ended }) (of_rights.ended asked.client (ending_by parting) s.rights) (expired_fits sent r call_left asked.client)) in
+          departed_fits sent (record r { handles = without_client s.handles asked.client; sessions = with_session r.sessions asked.client of_session.ended; rights = of_rights.ended asked.client (ending_by parting) s.rights }) (with_departed s.departed asked.client)
+          (known_fits sent (record r { sessions = with_session r.sessions asked.client of_session.ended; rights = of_rights.ended asked.client (ending_by parting) s.rights }) (without_client s.handles asked.client)
+          (right_fits sent (record r { sessions = with_session r.sessions asked.client of_session.ended }) (of_rights.ended asked.client (ending_by parting) s.rights) (expired_fits sent r call_left asked.client))) in
           answered_by_fits sent (with_locks t puts) (locks_fit sent t over puts) asked.client reply its_reply none_left
 
-pub sweep_fits : (sent : List Message) (s : MasterState) (c : SweepCase s) → FitsMessages sent s → FitsMessages sent (swept_by s c).0
-sweep_fits sent s (Quiet none) h = h
-sweep_fits sent s (Recovers recovering heard) h = record { queue = h.queue; kept = h.kept; replies = h.replies; answers = h.answers; turns = h.turns }
-sweep_fits sent s (Expires client session due) h =
+pub sweep_fits : (sent : List Message) (s : MasterState) → IsStrictlySortedBy nat_cmp (keys_of s.sessions.sessions) → (c : SweepCase s) → FitsMessages sent s → FitsMessages sent (swept_by s c).0
+sweep_fits sent s order (Quiet none) h = h
+sweep_fits sent s order (Recovers recovering heard) h = record { queue = h.queue; kept = h.kept; replies = h.replies; answers = h.answers; turns = h.turns }
+sweep_fits sent s order (Expires client session due) h =
     let t = parted partings.Expiry s client in
     let puts = lapses_puts s (lapses_of partings.Expiry s client) in
     let replies = lapses_replies s (lapses_of partings.Expiry s client) in
     let ended =
-    known_fits sent (record s { sessions = with_session s.sessions client of_session.ended; rights = of_rights.ended client endings.Expiry s.rights }) (without_client s.handles client)
-    (right_fits sent (record s { sessions = with_session s.sessions client of_session.ended }) (of_rights.ended client endings.Expiry s.rights) (expired_fits sent s h client)) in
+    departed_fits sent (record s { handles = without_client s.handles client; sessions = with_session s.sessions client of_session.ended; rights = of_rights.ended client endings.Expiry s.rights }) (with_departed s.departed client)
+    (known_fits sent (record s { sessions = with_session s.sessions client of_session.ended; rights = of_rights.ended client endings.Expiry s.rights }) (without_client s.handles client)
+    (right_fits sent (record s { sessions = with_session s.sessions client of_session.ended }) (of_rights.ended client endings.Expiry s.rights) (expired_fits sent s h client))) in
     told_fits sent (with_locks t puts) replies (locks_fit sent t ended puts)
     (all_late sent s (with_locks t puts) replies h refl refl (λ q none. none) (lapses_late s (lapses_of partings.Expiry s client)))
-sweep_fits sent s (Reopens instance due) h =
+sweep_fits sent s order (Reopens instance due) h =
     let lock = lock_at s.locks instance in
     let turn = reopened lock in
     let puts = puts_of s instance turn.lock in
     told_fits sent (with_locks s puts) (turn_replies s turn)
     (locks_fit sent s h puts)
     (all_late sent s (with_locks s puts) (turn_replies s turn) h refl refl (λ q none. none) (application_late s turn))
-sweep_fits sent s (Tidies idle due) h = tidies_fits sent s idle h
-sweep_fits sent s (Spared front back idle turn held) h = tidied_left sent s front idle back turn h
-sweep_fits sent s (Tidied front back idle turn still) h =
+sweep_fits sent s order (Tidies idle due) h = tidies_fits sent s idle h
+sweep_fits sent s order (Spared front back idle turn held) h = tidied_left sent s front idle back turn h
+sweep_fits sent s order (Tidied front back idle turn still) h =
     let t : MasterState = mapped (rest s front back) (gone_change s idle) in
     let replies = gone_replies s idle in
     without_fits sent (told t replies)
@@ -671,29 +691,34 @@ sweep_fits sent s (Tidied front back idle turn still) h =
     (all_late sent s t replies h refl refl (fewer sent s front (tasks.Tidies idle) back turn h)
     (replies_late s (results.Refused faults.StaleInstance) (lock_at s.locks idle.instance).waiters (λ x. tt))))
     (Some idle.instance)
-sweep_fits sent s (AnswersBeat client session beat due) h = answered_fits sent s h client s.sessions.lease s.clock
-sweep_fits sent s (TurnedAway front back asked principal received turn work may) h = start_left sent s front asked back turn h principal received work
-sweep_fits sent s (StartedAgain front back asked principal received session turn work found live) h =
+sweep_fits sent s order (AnswersBeat client session beat due) h = answered_fits sent s h client s.sessions.lease s.clock
+sweep_fits sent s order (TurnedAway front back asked principal received turn work may) h = start_left sent s front asked back turn h principal received work
+sweep_fits sent s order (StartedAgain front back asked principal received session turn work found live) h =
     let t : MasterState = record s { sessions = with_session s.sessions asked.client (prolonged (s.clock + s.sessions.lease)) } in
     start_left sent t front asked back (record { number = turn.number; touched = turn.touched; waited = turn.waited; free = turn.free }) (prolonged_fits sent s h asked.client (s.clock + s.sessions.lease)) principal received work
-sweep_fits sent s (StartedFirst front back asked principal received turn work none) h =
-    let t : MasterState = record s { sessions = with_new s.sessions asked.client (session_until principal true (s.clock + s.sessions.lease)) } in
-    start_left sent t front asked back (record { number = turn.number; touched = turn.touched; waited = turn.waited; free = turn.free }) (begun_fits sent s h asked.client principal (s.clock + s.sessions.lease) none) principal received work
-sweep_fits sent s (OfEnded front back asked call sequencer turn work gone) h = call_left sent s front asked back turn h call sequencer work
-sweep_fits sent s (Departed front back asked call sequencer session turn work leave found live) h =
+sweep_fits sent s order (StartedFirst front back asked principal received turn work none) h =
+    let new : Session Reply = session_until principal true (s.clock + s.sessions.lease) in
+    let t : MasterState = record s { sessions = with_new s.sessions asked.client new } in
+    let f : FitsMessages sent t = begun_fits sent s h asked.client principal (s.clock + s.sessions.lease) none.0 in
+    by_retiring s (λ o. FitsMessages sent (rest (retired t o) front back))
+    (start_left sent t front asked back (record { number = turn.number; touched = turn.touched; waited = turn.waited; free = turn.free }) f principal received work)
+    (λ client gone. start_left sent (retired t (Some client)) front asked back (record { number = turn.number; touched = turn.touched; waited = turn.waited; free = turn.free })
+    (gone_fits sent t f client (sorted_put nat_cmp nat_cmp_total s.sessions.sessions asked.client new order) gone.quiet) principal received work)
+sweep_fits sent s order (OfEnded front back asked call sequencer turn work gone) h = call_left sent s front asked back turn h call sequencer work
+sweep_fits sent s order (Departed front back asked call sequencer session turn work leave found live) h =
     let puts = lapses_puts s (lapses_of partings.Leave s asked.client) in
     let replies = lapses_replies s (lapses_of partings.Leave s asked.client) in
     let t : MasterState = recorded (with_locks (parted partings.Leave (rest s front back) asked.client) puts) asked.client (answered_by (reply_of s asked.client asked.number results.Done)) in
     told_fits sent t replies
     (parted_left sent s front asked back turn h call sequencer work results.Done tt partings.Leave)
     (all_late sent s t replies h refl refl (fewer sent s front (tasks.Asked asked) back turn h) (lapses_late s (lapses_of partings.Leave s asked.client)))
-sweep_fits sent s (Ended front back asked call sequencer note answer turn work stays live made) h =
+sweep_fits sent s order (Ended front back asked call sequencer note answer turn work stays live made) h =
     fits_note sent (recorded (rest s front back) asked.client (answered_by (reply_of s asked.client asked.number answer))) note
     (replied_left sent s front asked back turn h call sequencer work answer (applied_opens s asked.client asked.number call sequencer _ answer made refl) [])
-sweep_fits sent s (Applied front back asked call sequencer note change answer turn work stays live made) h =
+sweep_fits sent s order (Applied front back asked call sequencer note change answer turn work stays live made) h =
     let f = replied_left sent s front asked back turn h call sequencer work answer (applied_opens s asked.client asked.number call sequencer _ answer made refl) [] in
     fits_note sent (recorded (mapped (rest s front back) change) asked.client (answered_by (reply_of s asked.client asked.number answer))) note (mapped_fits sent _ change f)
-sweep_fits sent s (Deleted front back asked call sequencer change instance waiters answer turn work stays live made) h =
+sweep_fits sent s order (Deleted front back asked call sequencer change instance waiters answer turn work stays live made) h =
     let f = replied_left sent s front asked back turn h call sequencer work answer (applied_opens s asked.client asked.number call sequencer _ answer made refl) [] in
     let t : MasterState = ended (mapped (rest s front back) change) asked None answer in
     let replies = replies_to s (results.Refused faults.StaleInstance) waiters in
@@ -702,11 +727,11 @@ sweep_fits sent s (Deleted front back asked call sequencer change instance waite
     (all_late sent s t replies h refl refl (fewer sent s front (tasks.Asked asked) back turn h)
     (replies_late s (results.Refused faults.StaleInstance) waiters (λ x. tt))))
     (Some instance)
-sweep_fits sent s (Locked front back asked call sequencer put claim answer turn work stays live made) h =
+sweep_fits sent s order (Locked front back asked call sequencer put claim answer turn work stays live made) h =
     replied_left sent s front asked back turn h call sequencer work answer (applied_opens s asked.client asked.number call sequencer _ answer made refl) (put ∷ [])
-sweep_fits sent s (Awaited front back asked call sequencer put turn work stays live made) h =
+sweep_fits sent s order (Awaited front back asked call sequencer put turn work stays live made) h =
     locks_fit sent (rest s front back) (call_left sent s front asked back turn h call sequencer work) (put ∷ [])
-sweep_fits sent s (Left front back asked call sequencer note leave answer turn work stays live made) h =
+sweep_fits sent s order (Left front back asked call sequencer note leave answer turn work stays live made) h =
     let t : MasterState = recorded (with_locks (rest s front back) (left_put leave ∷ [])) asked.client (answered_by (reply_of s asked.client asked.number answer)) in
     told_fits sent (with_note t note) (turn_replies s leave.turn)
     (fits_note sent t note (replied_left sent s front asked back turn h call sequencer work answer (applied_opens s asked.client asked.number call sequencer _ answer made refl) (left_put leave ∷ [])))

@@ -1,6 +1,6 @@
 -- Why each call is applied at most once.
 use Rattle.std.proofs.Common.{◌≡◌, ℕ, ◌+◌, ◌≤◌, ◌<◌, List, [], ◌∷◌, ◌++◌, Bool, true, false, cond, Option, Some, None, Result, Ok, Err, refl, sym, ap, ◌∙◌, inl, inr, arith, eqb, subst, map}
-use Rattle.std.specs.Prelude.{◌==◌, ◌&&◌, not}
+use Rattle.std.specs.Prelude.{◌⊎◌, ◌==◌, ◌&&◌, not}
 use Rattle.std.specs.Option.{option_map_or}
 use Rattle.std.specs.List.{AllByRecursion}
 use Rattle.tags_cell.specs.Numbers.{is_client_number}
@@ -24,6 +24,7 @@ use Rattle.rights_core.specs.Rights.{grant_answer, clients_to_ask, numbers_endin
 use Rattle.tags_cell.specs.declared.messages.outs.Reply.{Reply}
 use Rattle.master_parts.specs.declared.handles.HandleNote.{HandleNote}
 use Rattle.session_core.specs.declared.records.LastCall.{LastCall}
+use Rattle.session_core.specs.declared.records.Session.{Session}
 use Rattle.session_core.specs.Session.{beaten, keeping, prolonged, answered, session_until}
 use Rattle.session_core.specs.Session as of_session
 use Rattle.session_core.specs.Sessions as of_sessions
@@ -41,7 +42,7 @@ use Rattle.master_parts.specs.declared.notices.SessionEvent.{SessionEvent}
 use Rattle.master_state.specs.Notices.{with_tellings}
 use Rattle.master_state.specs.State.{MasterState}
 use Rattle.master_state.specs.Updates.{with_locks, with_note}
-use Rattle.master_state.specs.Lookups.{kept_of, is_live, reply_of, stamped_reply, granted_lines, acknowledgement, repeated_reply, noted}
+use Rattle.master_state.specs.Lookups.{session_of, kept_of, is_live, reply_of, stamped_reply, granted_lines, acknowledgement, repeated_reply, noted}
 use Rattle.master_parts.specs.Answered.{answered_by}
 use Rattle.node_core.specs.Nodes.{with_parent}
 use Rattle.cell_core.specs.Step.{recorded, queued, with_call, asking, asking_for, names_of}
@@ -69,16 +70,18 @@ use Rattle.world_steps.specs.Made.{Does}
 use Rattle.world_cell.proofs.SilentLines.{IsSilentLine, IsSilent, quiet_silent, silent_numbers}
 use Rattle.world_cell.proofs.LockLines.{reopened_of_locks, left_of_locks, lapses_of_locks}
 use Rattle.world_cell.proofs.MessagesGrow.{call_more, no_call, one_call}
-use Rattle.world_cell.proofs.OneSession.{same, other, kept_in, each_session, kept_own, kept_other, kept_stays, kept_issued, kept_begins, answered_so}
+use Rattle.world_cell.proofs.OneSession.{same, other, kept_in, each_session, kept_own, kept_other, kept_stays, kept_issued, answered_so}
 use Rattle.world_cell.proofs.MasterFits.{application_sent, call_application, WasAsked, live_note, behind_note, epoch_note}
-use Rattle.world_cell.proofs.WorldCases.{swept_master, WorldCase, world_case}
+use Rattle.world_cell.proofs.WorldCases.{swept_master, IsSweep, WorldCase, world_case}
 use Rattle.world_cell.proofs.ToldSweeps.{told_kept}
 use Rattle.world_cell.proofs.WorldCases.WorldCase.{ComesUp, Joins, Asks, Beats, Gives, Ticks, Takes, Sweeps, GoesDown, CutsSweep, CutsUp, LosesUp}
 use Rattle.world_cell.proofs.CutLines.{cut_applied}
 use Rattle.world_cell.proofs.OwnSteps.{IsNextCall, Sends, sending, IsOwn, own_silent, asks_own, beats_own, gives_own}
 use Rattle.world_cell.proofs.OwnSteps.Sends.{Nothing, NoCall, NextCall}
 use Rattle.world_cell.proofs.MembersFound.{some_same}
-use Rattle.world_cell.proofs.ConsistentSteps.{Later, own_goes, case_later, noted_fits, no_call_found, all_first}
+use Rattle.world_cell.proofs.ForgottenRows.{IsGoneIn, HasGone, UnlessGone, gone_session, gone_on, settled, kept_unless}
+use Rattle.world_cell.proofs.LocksByCases.{noted_kept}
+use Rattle.world_cell.proofs.ConsistentSteps.{agrees_at, Later, own_goes, case_later, noted_fits, no_call_found, all_first}
 use Rattle.lock_core.specs.declared.partings.Parting.{Parting}
 use Rattle.lock_core.specs.declared.partings.Parting.TheVariants as partings
 use Rattle.master_state.specs.Partings.{right_line, ending_by}
@@ -426,7 +429,7 @@ module _ (sent : List Message) (s : MasterState) (client : ℕ) (last : Option �
   none_on : (printed : List Line) (new : MasterState) → applied client printed ≡ [] → PastMaster sent client new last → SweptOn sent client last printed new
   none_on printed new none past = record { rises = rw none tt; past = rw none past }
 
-  sweep_past : (c : SweepCase s) → SweptOn sent client last (swept_by s c).1.lines (swept_by s c).0
+  sweep_past : (c : SweepCase s) → UnlessGone s client c (SweptOn sent client last (swept_by s c).1.lines (swept_by s c).0)
   sweep_past (Quiet none) = record { rises = tt; past = h }
   sweep_past (Recovers recovering heard) = record { rises = tt; past = h }
   sweep_past (Expires whose session due) =
@@ -462,7 +465,7 @@ module _ (sent : List Message) (s : MasterState) (client : ℕ) (last : Option �
   sweep_past (StartedAgain front back asked principal received session turn work found live) =
       record { rises = tt; past = same_past sent s.epoch client (kept_of s client) _ last (kept_stays s.sessions asked.client (prolonged (s.clock + s.sessions.lease)) (λ session. refl) client) h }
   sweep_past (StartedFirst front back asked principal received turn work none) =
-      record { rises = tt; past = same_past sent s.epoch client (kept_of s client) _ last (kept_begins s.sessions asked.client (session_until principal true (s.clock + s.sessions.lease)) none refl client) h }
+      λ stays. record { rises = tt; past = same_past sent s.epoch client (kept_of s client) _ last (kept_unless s asked.client client (session_until principal true (s.clock + s.sessions.lease)) none.0 refl stays) h }
   sweep_past (OfEnded front back asked call sequencer turn work gone) = record { rises = tt; past = h }
   sweep_past (Ended front back asked call sequencer note answer turn work stays live made) =
       record { rises = tt; past = unapplied_past (rest s front back) front back asked call sequencer note answer refl refl live turn work }
@@ -490,13 +493,17 @@ telling_past sent s client last tellings h = same_past sent s.epoch client (kept
 
 -- ---- a step
 
+-- what it was, or nothing is known of the client any more
+abbrev Lasts : WorldState → ℕ → Option ℕ → Type 0
+Lasts w client last = Past w client last ⊎ IsGoneIn w.rows client
+
 record StepsOn (client : ℕ) (last : Option ℕ) (printed : List Line) (new : WorldState) : Type 0 where
   rises : RisesFrom last (applied client printed)
-  past : Past new client (last_after last (applied client printed))
+  past : Lasts new client (last_after last (applied client printed))
 
 silent_on : (client : ℕ) (new : WorldState) (printed : List Line) (last : Option ℕ) → IsSilent printed → Past new client last → StepsOn client last printed new
 silent_on client new printed last silent h =
-    let e = none_applied client printed silent in record { rises = rw e tt; past = rw e h }
+    let e = none_applied client printed silent in record { rises = rw e tt; past = inl (rw e h) }
 
 -- what a sweep applied was sent
 counted_put : (w : WorldState) (h : IsConsistent w) (s : MasterState) (front back : List (Waiting Task)) (asked : WaitingRequest) (call : Call) (sequencer : Option (List ℕ)) (client : ℕ) (last : Option ℕ) → IsNextApplied s front (tasks.Asked asked) back → asked.work ≡ works.Calls call sequencer → FitsMessages w.messages s → IsCounted w client last → IsCounted w client (last_after last (cond (asked.client == client) (asked.number ∷ []) []))
@@ -564,12 +571,20 @@ module _ (client : ℕ) (last : Option ℕ) (old : WorldState) (step : Step) (ne
         master = same_master (sending o.sent) o.grown (ap (λ (w : WorldState). w.master) o.is) (λ number call is. sending_above old h o.number client o.member o.client o.sent last o.found o.sends p.counted number call is);
       })
 
+  -- a sweep, unless the client goes
+  swept_on : {mid : WorldState} {at : Step} {told : List Line} (t : IsSweep old at mid told) → SweptOn old.messages client last (swept_by (noted t.master old.clock) t.case).1.lines (swept_by (noted t.master old.clock) t.case).0 ⊎ HasGone old.rows (noted t.master old.clock) client t.case
+  swept_on t =
+      let s = noted t.master old.clock in
+      let k = noted_kept old.cell old.rows t.master old.clock (agrees_at old old.master t.master t.is_up h.master) in
+      settled old.cell old.rows s k client t.case (SweptOn old.messages client last (swept_by s t.case).1.lines (swept_by s t.case).0)
+      (sweep_past old.messages s client last (noted_fits old h t.master t.is_up) (past_master old.messages client last old.master t.master t.is_up p.master) some t.case)
+
   step_on : WorldCase old step new printed → StepsOn client last printed new
   step_on (ComesUp u) =
       let past : PastIn new.messages client new.master last = subst (λ (x : WorldState). PastIn x.messages client x.master last) (sym u.is)
       (same_past old.messages (old.rows.epoch + 1) client None _ last (all_first u.now old.rows.sessions client).0
       (λ number call is of. let before = (h.sent client number call is).past in absurd (omega arith))) in
-      record { rises = rw u.tells tt; past = rw u.tells (record { counted = counted_on (ComesUp u); master = past }) }
+      record { rises = rw u.tells tt; past = inl (rw u.tells (record { counted = counted_on (ComesUp u); master = past })) }
   step_on (Joins j) =
       silent_on client new printed last (rw j.tells tt) (record { counted = counted_on (Joins j); master = same_master [] (rw j.is (sym (append-nil old.messages))) (rw j.is refl) (λ number call is. cc) })
   step_on (Asks a) = own_on (asks_own old step new printed a)
@@ -589,42 +604,108 @@ module _ (client : ℕ) (last : Option ℕ) (old : WorldState) (step : Step) (ne
   step_on (Sweeps t) =
       let s = noted t.master old.clock in
       let fits = noted_fits old h t.master t.is_up in
-      let on = sweep_past old.messages s client last fits (past_master old.messages client last old.master t.master t.is_up p.master) some t.case in
       let next : Option ℕ = last_after last (applied client (swept_by s t.case).1.lines) in
-      let later = outs_later old.messages (swept_by s t.case).1.outs client (swept_master s t.case t.action) next (telling_past old.messages (swept_by s t.case).0 client next (action_tellings s t.action) on.past) in
-      rw t.tells (record {
-        rises = on.rises;
-        past = record {
-          counted = counted_later old new client next (case_later old step new printed h (Sweeps t)) (applied_counted old h s t.case client last some fits p.counted);
-          master = subst (λ (x : WorldState). PastIn x.messages client x.master next) (sym t.is) later;
-        };
-      })
+      elim (swept_on t) [
+        | inl on ↦ (
+            let later = outs_later old.messages (swept_by s t.case).1.outs client (swept_master s t.case t.action) next (telling_past old.messages (swept_by s t.case).0 client next (action_tellings s t.action) on.past) in
+            rw t.tells (record {
+              rises = on.rises;
+              past = inl (record {
+                counted = counted_later old new client next (case_later old step new printed h (Sweeps t)) (applied_counted old h s t.case client last some fits p.counted);
+                master = subst (λ (x : WorldState). PastIn x.messages client x.master next) (sym t.is) later;
+              });
+            }))
+        | inr goes ↦ record {
+          rises = subst (λ ls. RisesFrom last (applied client ls)) (sym (t.tells ∙ goes.printed)) tt;
+          past = inr (subst (λ (x : WorldState). IsGoneIn x.rows client) (sym t.is) goes.gone);
+        }
+      ]
   step_on (GoesDown d) =
       silent_on client new printed last (rw d.tells (tt, tt)) (record { counted = counted_on (GoesDown d); master = subst (λ (x : WorldState). PastIn x.messages client x.master last) (sym d.is) tt })
   step_on (CutsSweep k) =
       let t = k.sweeps in
       let s = noted t.master old.clock in
       let fits = noted_fits old h t.master t.is_up in
-      let on = sweep_past old.messages s client last fits (past_master old.messages client last old.master t.master t.is_up p.master) some t.case in
       let next : Option ℕ = last_after last (applied client (swept_by s t.case).1.lines) in
       let same : applied client printed ≡ applied client (swept_by s t.case).1.lines = ap (applied client) k.tells ∙ cut_applied client k.told ∙ ap (applied client) t.tells in
       let past : Past new client next = record {
         counted = counted_later old new client next (case_later old step new printed h (CutsSweep k)) (applied_counted old h s t.case client last some fits p.counted);
         master = subst (λ (x : WorldState). PastIn x.messages client x.master next) (sym k.is) tt;
       } in
-      record { rises = subst (RisesFrom last) (sym same) on.rises; past = subst (λ numbers. Past new client (last_after last numbers)) (sym same) past }
+      elim (swept_on t) [
+        | inl on ↦ record { rises = subst (RisesFrom last) (sym same) on.rises; past = inl (subst (λ numbers. Past new client (last_after last numbers)) (sym same) past) }
+        | inr goes ↦ record {
+          rises = subst (RisesFrom last) (sym (same ∙ ap (applied client) goes.printed)) tt;
+          past = inr (
+              let there : IsGoneIn k.mid.rows client = subst (λ (x : WorldState). IsGoneIn x.rows client) (sym t.is) goes.gone in
+              subst (λ (x : WorldState). IsGoneIn x.rows client) (sym k.is) there
+              );
+        }
+      ]
   step_on (CutsUp k) =
       let u = k.comes in
       let none : new.master ≡ None = ap (λ (w : WorldState). w.master) k.is ∙ u.none in
-      rw (k.tells, u.tells) (record { rises = tt; past = record { counted = counted_on (CutsUp k); master = rw none tt } })
+      rw (k.tells, u.tells) (record { rises = tt; past = inl (record { counted = counted_on (CutsUp k); master = rw none tt }) })
   step_on (LosesUp k) =
       let none : new.master ≡ None = ap (λ (w : WorldState). w.master) k.is ∙ k.none in
       silent_on client new printed last (rw k.tells (tt, tt)) (record { counted = counted_on (LosesUp k); master = rw none tt })
 
-does_on : (client : ℕ) (last : Option ℕ) (old : WorldView) (step : Step) (new : WorldView) (printed : List Line) → IsConsistent old.world → Past old.world client last → 1 ≤ client → Does old step new printed → StepsOn client last printed new.world
-does_on client last old step new printed h p some (inl m) = step_on client last old.world step new.world printed h p some (world_case old.world step new.world printed h.master m.is_step)
-does_on client last old step new printed h p some (inr r) =
+-- ---- of a client of which nothing is known nothing is applied
+
+none_put : (s : MasterState) (client whose number : ℕ) → session_of s client ≡ None → is_live s whose ≡ true → cond (whose == client) (number ∷ []) [] ≡ []
+none_put s client whose number none live =
+    (elim (whose == client) as (λ b. (whose == client) ≡ b → cond b (number ∷ []) [] ≡ []) [
+      | true ↦ (λ e.
+          let lives : is_live s client ≡ true = subst (λ q. is_live s q ≡ true) (same whose client e) live in
+          let never : false ≡ true = sym (ap (λ (o : Option (Session Reply)). option_map_or (λ (x : Session Reply). x.live) o false) none) ∙ lives in
+          absurd (cc))
+      | false ↦ (λ e. refl)
+    ]) refl
+
+none_swept : (s : MasterState) (client : ℕ) → session_of s client ≡ None → 1 ≤ client → (c : SweepCase s) → applied client (swept_by s c).1.lines ≡ []
+none_swept s client none some (Applied front back asked call sequencer _ change answer turn work stays live made) = none_put s client asked.client asked.number none live
+none_swept s client none some (Deleted front back asked call sequencer change instance waiters answer turn work stays live made) = none_put s client asked.client asked.number none live
+none_swept s client none some (Expires whose session due) = lapses_applied partings.Expiry client s whose
+none_swept s client none some (Departed front back asked call sequencer session turn work leave found live) = lapses_applied partings.Leave client s asked.client
+none_swept s client none some (Reopens instance due) = reopened_applied client instance (reopened (lock_at s.locks instance))
+none_swept s client none some (Left front back asked call sequencer _ leave answer turn work stays live made) = left_applied client asked.client leave
+none_swept s client none some (Tidied front back idle turn still) = own_applied client (gone_change s idle).change [] some
+none_swept s client none some _ = refl
+
+none_applied_on : (client : ℕ) (old : WorldState) (step : Step) (new : WorldState) (printed : List Line) → IsConsistent old → IsGoneIn old.rows client → 1 ≤ client → WorldCase old step new printed → applied client printed ≡ []
+none_applied_on client old step new printed h goes some c = on c
+  where
+    by_sweep : {mid : WorldState} {at : Step} {told : List Line} (t : IsSweep old at mid told) → applied client (swept_by (noted t.master old.clock) t.case).1.lines ≡ []
+    by_sweep t =
+        let s = noted t.master old.clock in
+        let k = noted_kept old.cell old.rows t.master old.clock (agrees_at old old.master t.master t.is_up h.master) in
+        none_swept s client (gone_session old.cell old.rows s k client goes) some t.case
+
+    on : WorldCase old step new printed → applied client printed ≡ []
+    on (ComesUp u) = rw u.tells refl
+    on (Joins j) = none_applied client printed (rw j.tells tt)
+    on (Asks a) = none_applied client printed (own_silent old new printed (asks_own old step new printed a))
+    on (Beats b) = none_applied client printed (own_silent old new printed (beats_own old step new printed b))
+    on (Gives g) = none_applied client printed (own_silent old new printed (gives_own old step new printed g))
+    on (Ticks t) = none_applied client printed (rw t.tells tt)
+    on (Takes t) = none_applied client printed (rw t.tells (taken_silent (noted t.master old.clock) t.request t.case))
+    on (Sweeps t) = ap (applied client) t.tells ∙ by_sweep t
+    on (GoesDown d) = none_applied client printed (rw d.tells (tt, tt))
+    on (CutsSweep k) = ap (applied client) k.tells ∙ cut_applied client k.told ∙ ap (applied client) k.sweeps.tells ∙ by_sweep k.sweeps
+    on (CutsUp k) = let u = k.comes in rw (k.tells, u.tells) refl
+    on (LosesUp k) = none_applied client printed (rw k.tells (tt, tt))
+
+does_on : (client : ℕ) (last : Option ℕ) (old : WorldView) (step : Step) (new : WorldView) (printed : List Line) → IsConsistent old.world → Lasts old.world client last → 1 ≤ client → Does old step new printed → StepsOn client last printed new.world
+does_on client last old step new printed h (inl p) some (inl m) = step_on client last old.world step new.world printed h p some (world_case old.world step new.world printed h.master m.is_step)
+does_on client last old step new printed h (inl p) some (inr r) =
     silent_on client new.world printed last (rw r.line (tt, tt)) (subst (λ (x : WorldState). Past x client last) (sym r.left.same) p)
+does_on client last old step new printed h (inr goes) some (inl m) =
+    let c = world_case old.world step new.world printed h.master m.is_step in
+    let e = none_applied_on client old.world step new.world printed h goes some c in
+    record { rises = rw e tt; past = inr (gone_on client old.world step new.world printed h.master goes c) }
+does_on client last old step new printed h (inr goes) some (inr r) =
+    let e = none_applied client printed (rw r.line (tt, tt)) in
+    record { rises = rw e tt; past = inr (subst (λ (x : WorldState). IsGoneIn x.rows client) (sym r.left.same) goes) }
 
 -- ---- a run
 
@@ -632,7 +713,7 @@ rises_more : (last : Option ℕ) (xs ys : List ℕ) → RisesFrom last xs → Ri
 rises_more last [] ys h k = k
 rises_more last (x ∷ xs) ys h k = (h.0, rises_more (Some x) xs ys h.1 k)
 
-run_on : (client : ℕ) (old : WorldView) (steps : List Step) (printed : List Line) (new : WorldView) (last : Option ℕ) → Run old steps printed new → IsConsistent old.world → Past old.world client last → 1 ≤ client → RisesFrom last (applied client printed)
+run_on : (client : ℕ) (old : WorldView) (steps : List Step) (printed : List Line) (new : WorldView) (last : Option ℕ) → Run old steps printed new → IsConsistent old.world → Lasts old.world client last → 1 ≤ client → RisesFrom last (applied client printed)
 run_on client old [] printed new last run h p some = rw run.0 tt
 run_on client old (step ∷ steps) printed new last run h p some =
     let first = does_on client last old step run.0 run.1 h p some run.3 in
@@ -654,4 +735,4 @@ first_in sent client (Some s) = first_kept sent s.epoch client (kept_of s client
 -- the numbers of a client's applied calls rise
 pub run_once : (client : ℕ) (old : WorldView) (steps : List Step) (printed : List Line) (new : WorldView) → Run old steps printed new → IsConsistent old.world → 1 ≤ client → Rises (applied client printed)
 run_once client old steps printed new run h some =
-    run_on client old steps printed new None run h (record { counted = tt; master = first_in old.world.messages client old.world.master }) some
+    run_on client old steps printed new None run h (inl (record { counted = tt; master = first_in old.world.messages client old.world.master })) some

@@ -3,12 +3,15 @@ use Rattle.std.proofs.Common.{◌≡◌, ◌≢◌, ℕ, ◌+◌, List, [], ◌�
 use Rattle.std.specs.Prelude.{is_some}
 use Rattle.std.specs.Option.{option_map, option_map_or, option_and_then}
 use Rattle.std.proofs.lemmas.Bool.Decides.{nat_tests}
-use Rattle.collections.proofs.OneKey.{lookup_put, lookup_put_apart}
+use Rattle.std.specs.List.Sorted.{IsStrictlySortedBy}
+use Rattle.std.specs.Map.{keys_of}
+use Rattle.std.specs.Ordering.{nat_cmp}
+use Rattle.collections.proofs.OneKey.{lookup_put, lookup_put_apart, lookup_removed, lookup_removed_apart}
 use Rattle.tags_cell.specs.declared.messages.outs.Reply.{Reply}
 use Rattle.session_core.specs.declared.records.LastCall.{LastCall}
 use Rattle.session_core.specs.declared.records.Session.{Session}
 use Rattle.session_core.specs.Session.{keeping, answered, prolonged, issued_through, unparked}
-use Rattle.session_core.specs.Sessions.{SessionTable, session_of, kept_of, is_live, with_session, with_new, with_issued, issued_by}
+use Rattle.session_core.specs.Sessions.{SessionTable, session_of, kept_of, is_live, with_session, with_new, without, with_issued, issued_by}
 use Rattle.session_core.proofs.OneClient.{own_session, kept_session, other_session}
 
 -- a master's sessions
@@ -48,6 +51,13 @@ module _ (P : ℕ → Option (Session Reply) → Type 0) (table : Sessions) (cli
       at_each (λ n. P n (session_of (with_new table client session) n)) client
       (subst (λ o. P client o) (sym (lookup_put client table.sessions session)) own)
       (λ n apart. subst (λ o. P n o) (sym (lookup_put_apart client n apart table.sessions session)) (all n)) q
+
+  -- one that goes
+  pub each_gone : IsStrictlySortedBy nat_cmp (keys_of table.sessions) → ((q : ℕ) → P q (session_of table q)) → P client None → (q : ℕ) → P q (session_of (without table client) q)
+  each_gone order all none q =
+      at_each (λ n. P n (session_of (without table client) n)) client
+      (subst (λ o. P client o) (sym (lookup_removed client table.sessions order)) none)
+      (λ n apart. subst (λ o. P n o) (sym (lookup_removed_apart client n apart table.sessions)) (all n)) q
 
 -- invalidations are issued to some clients
 pub each_issued : (P : ℕ → Option (Session Reply) → Type 0) → ((q number : ℕ) (session : Session Reply) → P q (Some session) → P q (Some (issued_through number session))) → (asked : List (ℕ × ℕ)) (table : Sessions) → ((q : ℕ) → P q (session_of table q)) → (q : ℕ) → P q (session_of (issued_by asked table) q)

@@ -1,11 +1,11 @@
 -- Of a consistent world, after each step, each reply that was sent is to a call that was sent before.
-use Rattle.std.proofs.Common.{◌≡◌, ℕ, false, List, [], ◌∷◌, ◌++◌, Option, Some, None, refl, sym, ap, ◌∙◌, inl, inr, subst, map}
+use Rattle.std.proofs.Common.{◌≡◌, ℕ, true, false, List, [], ◌∷◌, ◌++◌, Option, Some, None, refl, sym, ap, ◌∙◌, inl, inr, subst, map}
 use Rattle.node_core.specs.declared.refusals.Fault.TheVariants as faults
 use Rattle.node_core.specs.declared.lines.Line.{Line}
 use Rattle.node_core.specs.declared.views.Mod.{Mod}
 use Rattle.node_core.specs.declared.views.Mod.TheVariants.{Put, Gone}
 use Rattle.rows_cell.specs.declared.tables.Rows.{Rows}
-use Rattle.rows_cell.specs.declared.tables.Edit.TheVariants.{NextInstance}
+use Rattle.rows_cell.specs.declared.tables.Edit.TheVariants.{NextInstance, PutSession}
 use Rattle.rows_cell.specs.Rows.{changed_rows}
 use Rattle.tags_cell.specs.declared.messages.calls.Call.{Call}
 use Rattle.tags_cell.specs.declared.messages.requests.Request.{Request}
@@ -21,8 +21,8 @@ use Rattle.cell_core.proofs.Told.{told_is_shown}
 use Rattle.lock_core.specs.Turns.{reopened}
 use Rattle.lock_core.specs.Locks.{lock_at}
 use Rattle.master_state.specs.State.{MasterState}
-use Rattle.master_state.specs.Updates.{edit_of, lock_changes, with_note}
-use Rattle.master_state.specs.Lookups.{kept_of, reply_of, stamped_reply, repeated_reply, noted}
+use Rattle.master_state.specs.Updates.{edit_of, retire_edits, lock_changes, with_note}
+use Rattle.master_state.specs.Lookups.{kept_of, reply_of, stamped_reply, repeated_reply, retiring, noted}
 use Rattle.cell_core.specs.Cases.{TakeCase, taken_by}
 use Rattle.cell_core.specs.Cases.TakeCase.{StartQueued, BeatParked, LeftBefore, Repeated, LeavesBeside, Recovering, Answered, Granted, Waits}
 use Rattle.master_parts.specs.declared.pending.WaitingRequest.{WaitingRequest}
@@ -34,7 +34,7 @@ use Rattle.over_core.specs.SweepCase.{IsNextApplied, SweepCase, swept_by, swept_
 use Rattle.cell_core.specs.Outcomes.{left_put}
 use Rattle.master_state.specs.Replies.{turn_replies, puts_of, replies_to}
 use Rattle.master_state.specs.Lapses.{lapses_of, lapses_puts, lapses_replies}
-use Rattle.over_core.specs.SweepCase.SweepCase.{Quiet, Recovers, Expires, Reopens, Tidies, Spared, Tidied, OfEnded, Ended, Applied, Deleted, Locked, Awaited, Left, Departed}
+use Rattle.over_core.specs.SweepCase.SweepCase.{Quiet, Recovers, Expires, Reopens, Tidies, Spared, Tidied, Started, OfEnded, Ended, Applied, Deleted, Locked, Awaited, Left, Departed}
 use Rattle.world_steps.specs.declared.mail.Message.{Message}
 use Rattle.world_steps.specs.declared.mail.Message.TheVariants.{ToMaster, ToClient}
 use Rattle.world_steps.specs.declared.steps.Step.{Step}
@@ -158,6 +158,8 @@ swept_secret rows s (Tidied front back idle turn still) = mod_secret rows (Gone 
 swept_secret rows s (Locked front back asked call sequencer put claim answer turn work stays live made) = (relocked_rows rows (lock_changes s (put ∷ []))).beside.secret
 swept_secret rows s (Awaited front back asked call sequencer put turn work stays live made) = (relocked_rows rows (lock_changes s (put ∷ []))).beside.secret
 swept_secret rows s (Left front back asked call sequencer _ leave answer turn work stays live made) = (relocked_rows rows (lock_changes s (left_put leave ∷ []))).beside.secret
+swept_secret rows s (Started front back asked principal received turn work none) =
+    elim (retiring s) as (λ gone. (changed_rows rows (PutSession asked.client (record { principal = principal; live = true }) ∷ retire_edits s.ended_below gone)).secret ≡ rows.secret) [ None ↦ refl | Some client ↦ refl ]
 swept_secret rows s _ = refl
 
 -- ---- the messages after a step

@@ -1,5 +1,5 @@
 -- What the printed lines tell of the rows.
-use Rattle.std.proofs.Common.{◌≡◌, ℕ, List, [], ◌∷◌, ◌++◌, false, refl, sym, ap, ◌∙◌, inl, inr, map}
+use Rattle.std.proofs.Common.{◌≡◌, ℕ, Some, None, List, [], ◌∷◌, ◌++◌, true, false, refl, sym, ap, ◌∙◌, inl, inr, map}
 use Rattle.node_core.specs.declared.lines.Line.{Line}
 use Rattle.node_core.specs.declared.lines.Line.TheVariants as lines
 use Rattle.node_core.specs.declared.views.Mod.{Mod}
@@ -15,13 +15,13 @@ use Rattle.rights_core.specs.Rights.{numbers_ending}
 use Rattle.lock_core.specs.Turns.{reopened}
 use Rattle.lock_core.specs.Locks.{lock_at}
 use Rattle.master_state.specs.State.{MasterState}
-use Rattle.master_state.specs.Lookups.{noted}
-use Rattle.master_state.specs.Updates.{edit_of, lock_changes}
+use Rattle.master_state.specs.Lookups.{retiring, noted}
+use Rattle.master_state.specs.Updates.{edit_of, retire_edits, lock_changes}
 use Rattle.master_state.specs.Replies.{locked_line, locked_lines, puts_of}
 use Rattle.cell_core.specs.Outcomes.{put_listing, leave_lines, left_put}
 use Rattle.master_state.specs.Lapses.{lapses_lines, lapses_of, lapses_puts, parting_lines}
 use Rattle.over_core.specs.SweepCase.{SweepCase, swept_by, swept_edits, parting_edits}
-use Rattle.over_core.specs.SweepCase.SweepCase.{Expires, Reopens, Tidied, Applied, Deleted, Locked, Awaited, Left, Departed}
+use Rattle.over_core.specs.SweepCase.SweepCase.{Expires, Reopens, Tidied, Started, Applied, Deleted, Locked, Awaited, Left, Departed}
 use Rattle.world_steps.specs.declared.steps.Step.{Step}
 use Rattle.world_steps.specs.World.{WorldState, WorldView}
 use Rattle.world_cell.specs.Consistent.{IsConsistent}
@@ -130,6 +130,11 @@ swept_tells rows s (Locked front back asked call sequencer put claim answer turn
 swept_tells rows s (Awaited front back asked call sequencer put turn work stays live made) = relocked_tells rows (lock_changes s (put ∷ [])) [] (record { quiet = tt; others = tt; kept = refl })
 swept_tells rows s (Left front back asked call sequencer _ leave answer turn work stays live made) =
     relocked_tells rows (lock_changes s (left_put leave ∷ [])) (leave_lines asked.client leave) (left_of_locks asked.client leave)
+swept_tells rows s (Started front back asked principal received turn work none) =
+    elim (retiring s) as (λ gone. Tells rows (changed_rows rows (PutSession asked.client (record { principal = principal; live = true }) ∷ retire_edits s.ended_below gone)) (lines.Started asked.client ∷ [])) [
+      | None ↦ record { is_map = refl; is_epoch = refl }
+      | Some client ↦ record { is_map = refl; is_epoch = refl }
+    ]
 swept_tells rows s _ = record { is_map = refl; is_epoch = refl }
 
 own_tells : (old new : WorldState) (printed : List Line) → IsOwn old new printed → Tells old.rows new.rows printed

@@ -1,19 +1,21 @@
 -- What the printed lines tell of sessions.
-use Rattle.std.proofs.Common.{◌≡◌, ℕ, List, [], ◌∷◌, ◌++◌, Bool, true, false, cond, refl, sym, ap, ◌∙◌, inl, inr, subst, arith, map}
+use Rattle.std.proofs.Common.{◌≡◌, ℕ, ◌+◌, max, List, [], ◌∷◌, ◌++◌, Bool, true, false, cond, refl, sym, ap, ◌∙◌, inl, inr, subst, arith, map}
 use Rattle.std.specs.Prelude.{◌==◌}
 use Rattle.std.specs.Option.{option_map_or}
-use Rattle.std.specs.Map.{lookup}
+use Rattle.std.specs.Map.{lookup, keys_of}
+use Rattle.std.specs.List.Sorted.{IsStrictlySortedBy}
 use Rattle.std.specs.BTreeMap.{is_at}
 use Rattle.std.specs.Ordering.{nat_cmp}
+use Rattle.std.specs.Cmp.{nat_cmp_total}
 use Rattle.std.proofs.lemmas.Bool.Decides.{nat_tests}
-use Rattle.collections.proofs.OneKey.{lookup_put, lookup_put_apart}
+use Rattle.collections.proofs.OneKey.{lookup_put, lookup_put_apart, lookup_removed, lookup_removed_apart}
 use Rattle.node_core.specs.declared.lines.Line.{Line}
 use Rattle.node_core.specs.declared.lines.Line.TheVariants as lines
 use Rattle.node_core.specs.declared.views.Mod.{Mod}
 use Rattle.node_core.specs.declared.views.Mod.TheVariants.{Put, Gone}
 use Rattle.rows_cell.specs.declared.tables.Rows.{Rows}
 use Rattle.rows_cell.specs.declared.tables.SessionRow.{SessionRow}
-use Rattle.rows_cell.specs.declared.tables.Edit.TheVariants.{NextInstance, PutSession}
+use Rattle.rows_cell.specs.declared.tables.Edit.TheVariants.{NextInstance, PutSession, RemoveSession, EndedBelow}
 use Rattle.rows_cell.specs.Rows.{changed_rows, edited}
 use Rattle.rows_cell.specs.LockRows.{LockChange, locks_edits}
 use Rattle.rows_cell.specs.Sound.{is_live_in}
@@ -22,14 +24,20 @@ use Rattle.lock_core.specs.Turns.{reopened}
 use Rattle.lock_core.specs.Locks.{lock_at}
 use Rattle.master_state.specs.State.{MasterState}
 use Rattle.master_state.specs.Lookups.{noted}
-use Rattle.master_state.specs.Updates.{edit_of, lock_changes}
+use Rattle.master_state.specs.Updates.{edit_of, retire_edits, lock_changes}
 use Rattle.master_state.specs.Replies.{locked_line, locked_lines, puts_of}
 use Rattle.cell_core.specs.Outcomes.{leave_lines, left_put}
 use Rattle.master_state.specs.Lapses.{lapses_lines, lapses_of, lapses_puts, parting_lines}
+use Rattle.rows_cell.proofs.EntriesInOrder.{sorted_put}
+use Rattle.over_core.specs.Kept.{IsKept}
+use Rattle.over_core.proofs.KeptBySweeps.{sessions_ordered}
+use Rattle.over_core.proofs.Retired.{by_retiring, other_begins, dead_row}
 use Rattle.over_core.specs.SweepCase.{SweepCase, swept_by, swept_edits, parting_edits}
 use Rattle.over_core.specs.SweepCase.SweepCase.{Expires, Reopens, Tidied, Started as StartedFirst, Applied, Deleted, Locked, Awaited, Left, Departed}
 use Rattle.world_steps.specs.declared.steps.Step.{Step}
-use Rattle.world_steps.specs.World.{WorldState, WorldView}
+use Rattle.world_steps.specs.World.{Agrees, WorldState, WorldView}
+use Rattle.world_cell.proofs.ConsistentSteps.{agrees_at}
+use Rattle.world_cell.proofs.LocksByCases.{noted_kept}
 use Rattle.world_cell.proofs.StepsHold.{does_holds}
 use Rattle.world_cell.specs.Consistent.{IsConsistent}
 use Rattle.world_cell.specs.Runs.{Run, live_by, live_at}
@@ -95,6 +103,16 @@ put_lives client whose session rows =
       | false ↦ (λ e. ap (λ o. option_map_or (λ (x : SessionRow). x.live) o false) (lookup_put_apart whose client (is_other whose client e) rows.sessions session))
     ]) refl
 
+-- one that has ended goes
+gone_lives : (client whose next : ℕ) (rows : Rows) → IsStrictlySortedBy nat_cmp (keys_of rows.sessions) → is_live_in rows whose ≡ false → is_live_in (changed_rows rows (RemoveSession whose ∷ EndedBelow next ∷ [])) client ≡ is_live_in rows client
+gone_lives client whose next rows order dead =
+    (elim (whose == client) as (λ b. (whose == client) ≡ b → is_live_in (changed_rows rows (RemoveSession whose ∷ EndedBelow next ∷ [])) client ≡ is_live_in rows client) [
+      | true ↦ (λ e.
+          subst (λ n. is_live_in (changed_rows rows (RemoveSession whose ∷ EndedBelow next ∷ [])) n ≡ is_live_in rows n) (sym (is_same whose client e))
+          (ap (λ o. option_map_or (λ (x : SessionRow). x.live) o false) (lookup_removed whose rows.sessions order) ∙ sym dead))
+      | false ↦ (λ e. ap (λ o. option_map_or (λ (x : SessionRow). x.live) o false) (lookup_removed_apart whose client (is_other whose client e) rows.sessions))
+    ]) refl
+
 mod_lives : (client : ℕ) (rows : Rows) (change : Mod) (next : ℕ) → is_live_in (changed_rows rows (edit_of change ∷ NextInstance next ∷ [])) client ≡ is_live_in rows client
 mod_lives client rows (Put name view) next = refl
 mod_lives client rows (Gone name) next = refl
@@ -119,46 +137,53 @@ ended_tells : (parting : Parting) (client : ℕ) (rows : Rows) (s : MasterState)
 ended_tells parting client rows s whose principal =
     parting_tells parting client rows (lock_changes s (lapses_puts s (lapses_of parting s whose))) whose principal (numbers_ending whose (ending_by parting) s.rights) (lapses_lines parting whose (lapses_of parting s whose)) (lapses_of_locks parting whose (lapses_of parting s whose))
 
-pub swept_tells : (client : ℕ) (rows : Rows) (s : MasterState) (c : SweepCase s) → Tells client rows (changed_rows rows (swept_edits s c)) (swept_by s c).1.lines
-swept_tells client rows s (Expires whose session due) = ended_tells partings.Expiry client rows s whose session.principal
-swept_tells client rows s (Departed front back asked call sequencer session turn work leave found live) = ended_tells partings.Leave client rows s asked.client session.principal
-swept_tells client rows s (Reopens instance due) =
+pub swept_tells : (client : ℕ) (cell : List ℕ) (rows : Rows) (s : MasterState) → IsKept cell rows s → (c : SweepCase s) → Tells client rows (changed_rows rows (swept_edits s c)) (swept_by s c).1.lines
+swept_tells client cell rows s k (Expires whose session due) = ended_tells partings.Expiry client rows s whose session.principal
+swept_tells client cell rows s k (Departed front back asked call sequencer session turn work leave found live) = ended_tells partings.Leave client rows s asked.client session.principal
+swept_tells client cell rows s k (Reopens instance due) =
     let turn = reopened (lock_at s.locks instance) in
     relocked_tells client rows (lock_changes s (puts_of s instance turn.lock)) (lines.Reopened instance ∷ locked_lines instance turn) (reopened_of_locks instance turn)
-swept_tells client rows s (StartedFirst front back asked principal received turn work none) = put_lives client asked.client (record { principal = principal; live = true }) rows
-swept_tells client rows s (Applied front back asked call sequencer _ change answer turn work stays live made) = mod_lives client rows change.change change.next_instance
-swept_tells client rows s (Deleted front back asked call sequencer change instance waiters answer turn work stays live made) = mod_lives client rows change.change change.next_instance
-swept_tells client rows s (Tidied front back idle turn still) = mod_lives client rows (Gone idle.name) s.next_instance
-swept_tells client rows s (Locked front back asked call sequencer put claim answer turn work stays live made) =
+swept_tells client cell rows s k (StartedFirst front back asked principal received turn work none) =
+    let row : SessionRow = record { principal = principal; live = true } in
+    let put : Rows = edited rows (PutSession asked.client row) in
+    let begun = put_lives client asked.client row rows in
+    by_retiring s (λ gone. Tells client rows (changed_rows rows (PutSession asked.client row ∷ retire_edits s.ended_below gone)) (lines.Started asked.client ∷ [])) begun
+    (λ q gone. gone_lives client q (max s.ended_below (q + 1)) put (sorted_put nat_cmp nat_cmp_total rows.sessions asked.client row k.sessions_in_order)
+    (ap (λ o. option_map_or (λ (x : SessionRow). x.live) o false) (lookup_put_apart asked.client q (other_begins s q asked.client gone none.0) rows.sessions row) ∙ dead_row cell rows s q gone.session gone.found gone.ended (sessions_ordered cell rows s k) k)
+    ∙ begun)
+swept_tells client cell rows s k (Applied front back asked call sequencer _ change answer turn work stays live made) = mod_lives client rows change.change change.next_instance
+swept_tells client cell rows s k (Deleted front back asked call sequencer change instance waiters answer turn work stays live made) = mod_lives client rows change.change change.next_instance
+swept_tells client cell rows s k (Tidied front back idle turn still) = mod_lives client rows (Gone idle.name) s.next_instance
+swept_tells client cell rows s k (Locked front back asked call sequencer put claim answer turn work stays live made) =
     relocked_tells client rows (lock_changes s (put ∷ [])) (locked_line put.instance put.lock.generation claim ∷ []) (record { quiet = (tt, tt, tt); others = (tt, tt); kept = refl })
-swept_tells client rows s (Awaited front back asked call sequencer put turn work stays live made) = relocked_tells client rows (lock_changes s (put ∷ [])) [] (record { quiet = tt; others = tt; kept = refl })
-swept_tells client rows s (Left front back asked call sequencer _ leave answer turn work stays live made) =
+swept_tells client cell rows s k (Awaited front back asked call sequencer put turn work stays live made) = relocked_tells client rows (lock_changes s (put ∷ [])) [] (record { quiet = tt; others = tt; kept = refl })
+swept_tells client cell rows s k (Left front back asked call sequencer _ leave answer turn work stays live made) =
     relocked_tells client rows (lock_changes s (left_put leave ∷ [])) (leave_lines asked.client leave) (left_of_locks asked.client leave)
-swept_tells client rows s _ = refl
+swept_tells client cell rows s k _ = refl
 
 own_tells : (client : ℕ) (old new : WorldState) (printed : List Line) → IsOwn old new printed → Tells client old.rows new.rows printed
 own_tells client old new printed o = silent_tells client old.rows new.rows printed (own_silent old new printed o) (ap (λ (w : WorldState). w.rows) o.is)
 
-case_tells : (client : ℕ) (old : WorldState) (step : Step) (new : WorldState) (printed : List Line) → WorldCase old step new printed → Tells client old.rows new.rows printed
-case_tells client old step new printed (ComesUp u) = rw (u.tells, u.is) refl
-case_tells client old step new printed (Joins j) = silent_tells client old.rows new.rows printed (rw j.tells tt) (rw j.is refl)
-case_tells client old step new printed (Asks a) = own_tells client old new printed (asks_own old step new printed a)
-case_tells client old step new printed (Beats b) = own_tells client old new printed (beats_own old step new printed b)
-case_tells client old step new printed (Gives g) = own_tells client old new printed (gives_own old step new printed g)
-case_tells client old step new printed (Ticks t) = silent_tells client old.rows new.rows printed (rw t.tells tt) (rw t.is refl)
-case_tells client old step new printed (Takes t) =
+case_tells : (client : ℕ) (old : WorldState) (step : Step) (new : WorldState) (printed : List Line) → Agrees old old.master → WorldCase old step new printed → Tells client old.rows new.rows printed
+case_tells client old step new printed agrees (ComesUp u) = rw (u.tells, u.is) refl
+case_tells client old step new printed agrees (Joins j) = silent_tells client old.rows new.rows printed (rw j.tells tt) (rw j.is refl)
+case_tells client old step new printed agrees (Asks a) = own_tells client old new printed (asks_own old step new printed a)
+case_tells client old step new printed agrees (Beats b) = own_tells client old new printed (beats_own old step new printed b)
+case_tells client old step new printed agrees (Gives g) = own_tells client old new printed (gives_own old step new printed g)
+case_tells client old step new printed agrees (Ticks t) = silent_tells client old.rows new.rows printed (rw t.tells tt) (rw t.is refl)
+case_tells client old step new printed agrees (Takes t) =
     silent_tells client old.rows new.rows printed (rw t.tells (taken_silent (noted t.master old.clock) t.request t.case)) (rw t.is refl)
-case_tells client old step new printed (Sweeps t) = rw (t.tells, t.is) (swept_tells client old.rows (noted t.master old.clock) t.case)
-case_tells client old step new printed (GoesDown d) = silent_tells client old.rows new.rows printed (rw d.tells (tt, tt)) (rw d.is refl)
-case_tells client old step new printed (CutsSweep k) =
+case_tells client old step new printed agrees (Sweeps t) = rw (t.tells, t.is) (swept_tells client old.cell old.rows (noted t.master old.clock) (noted_kept old.cell old.rows t.master old.clock (agrees_at old old.master t.master t.is_up agrees)) t.case)
+case_tells client old step new printed agrees (GoesDown d) = silent_tells client old.rows new.rows printed (rw d.tells (tt, tt)) (rw d.is refl)
+case_tells client old step new printed agrees (CutsSweep k) =
     let t = k.sweeps in
-    let h : Tells client old.rows k.mid.rows k.told = rw (t.tells, t.is) (swept_tells client old.rows (noted t.master old.clock) t.case) in
+    let h : Tells client old.rows k.mid.rows k.told = rw (t.tells, t.is) (swept_tells client old.cell old.rows (noted t.master old.clock) (noted_kept old.cell old.rows t.master old.clock (agrees_at old old.master t.master t.is_up agrees)) t.case) in
     rw (k.tells, k.is) (h ∙ sym (cut_lives client (is_live_in old.rows client) k.told))
-case_tells client old step new printed (CutsUp k) = let u = k.comes in rw (k.tells, k.is, u.tells, u.is) refl
-case_tells client old step new printed (LosesUp k) = silent_tells client old.rows new.rows printed (rw k.tells (tt, tt)) (rw k.is refl)
+case_tells client old step new printed agrees (CutsUp k) = let u = k.comes in rw (k.tells, k.is, u.tells, u.is) refl
+case_tells client old step new printed agrees (LosesUp k) = silent_tells client old.rows new.rows printed (rw k.tells (tt, tt)) (rw k.is refl)
 
 step_tells : (client : ℕ) (old : WorldView) (step : Step) (new : WorldView) (printed : List Line) → IsConsistent old.world → Does old step new printed → Tells client old.world.rows new.world.rows printed
-step_tells client old step new printed h (inl m) = case_tells client old.world step new.world printed (world_case old.world step new.world printed h.master m.is_step)
+step_tells client old step new printed h (inl m) = case_tells client old.world step new.world printed h.master (world_case old.world step new.world printed h.master m.is_step)
 step_tells client old step new printed h (inr r) = silent_tells client old.world.rows new.world.rows printed (rw r.line (tt, tt)) (ap (λ (w : WorldState). w.rows) r.left.same)
 
 -- ---- a run

@@ -46,12 +46,11 @@ use Rattle.cell_core.specs.declared.asking.TouchedNames.{TouchedNames}
 use Rattle.cell_core.specs.Step.{queued, replied, is_cachable, granting, asking, asking_for, names_of, task_of, with_call, waits}
 use Rattle.cell_core.specs.Names.{name_asked, shown_by}
 use Rattle.cell_core.specs.Ephemerals.{tidied}
-use Rattle.over_core.specs.Kept.{AreIssued, AreOwned}
-use Rattle.over_core.proofs.OwnedRights.{none_issued}
+use Rattle.over_core.specs.Kept.{AreIssued}
 use Rattle.world_steps.specs.declared.mail.Message.TheVariants.{ToClient}
 use Rattle.world_steps.specs.Messages.{call_of}
 use Rattle.world_steps.specs.World.{WorldState}
-use Rattle.world_cell.specs.Slices.{Shown, Grants, SeenRight, standing_so, standing_of, seen_of, heard_from, right_of, start_of, starts_of, put_offer, offers_of, asks_for, stamped_grant, grant_of, grants_of}
+use Rattle.world_cell.specs.Slices.{Shown, Grants, SeenRight, standing_so, standing_of, is_late, seen_of, heard_from, right_of, start_of, starts_of, put_offer, offers_of, asks_for, stamped_grant, grant_of, grants_of}
 use Rattle.world_cell.specs.Consistent.{HasGranted, IsReplyTo}
 use Rattle.world_cell.proofs.GrantsSent.{grant_front, unstamped}
 use Rattle.world_cell.proofs.SliceRights.{is_asked_now, other_is_issued, other_stays, own_is_asked, own_stays, granted_to_another, granted_to_own}
@@ -327,9 +326,9 @@ pub record IsGranting (w : WorldState) (s : MasterState) (client number : ℕ) (
   pub asks : name_asked s.secret message.call ≡ Some name
   pub shows : shown_by result ≡ view_at s.nodes name
 
-live_standing : (o : Option (Session Reply)) → option_map_or (λ session. session.live) o false ≡ true → standing_of (option_map row_of o) ≡ Live
-live_standing None h = absurd (let e : false ≡ true = h in cc)
-live_standing (Some session) h = ap standing_so h
+live_standing : (late : Bool) (o : Option (Session Reply)) → option_map_or (λ session. session.live) o false ≡ true → standing_of late (option_map row_of o) ≡ Live
+live_standing late None h = absurd (let e : false ≡ true = h in cc)
+live_standing late (Some session) h = ap standing_so h
 
 no_change : (u r : Bool) → (not u && r) ≡ true → u ≡ false
 no_change true r h = cc
@@ -363,9 +362,9 @@ yes_both : (a b : Bool) → a ≡ true → b ≡ true → (a && b) ≡ true
 yes_both true b h k = k
 yes_both false b h k = cc
 
-issued_is : (c : ℕ) (s : MasterState) → AreIssued s.sessions s.rights → AreOwned s.sessions s.rights → (o : Option (Session Reply)) → session_of s c ≡ o → option_map_or (λ session. session.invalidations.issued) o 0 ≡ invalidations_of c s.rights
-issued_is c s issued owned None is = sym (none_issued c s.rights (owned c is))
-issued_is c s issued owned (Some session) is = issued c session is
+issued_is : (c : ℕ) (s : MasterState) → AreIssued s.sessions s.rights → (o : Option (Session Reply)) → session_of s c ≡ o → option_map_or (λ session. session.live) o false ≡ true → option_map_or (λ session. session.invalidations.issued) o 0 ≡ invalidations_of c s.rights
+issued_is c s issued None is live = absurd (let e : false ≡ true = live in cc)
+issued_is c s issued (Some session) is live = issued c session is
 
 module _ (w : WorldState) (s : MasterState) (knows : IsKnown w s) (handles : List (HandleKey × HandleState)) (client number : ℕ) (message : CallMessage) (result : CallResult) (name : List ℕ) (g : IsGranting w s client number message result name) where
   abbrev granted_then : MasterState
@@ -406,7 +405,7 @@ module _ (w : WorldState) (s : MasterState) (knows : IsKnown w s) (handles : Lis
       (yes_both (client == client) (asks_for w.rows.secret name (call_of w.messages client number)) (same_number client) (asks_name name ∙ bytes_self name))
       ∙ ap (λ z. z ∷ grants_of client name w.rows.secret w.messages)
       (grant_is s.epoch w.rows.epoch (issued_to s client) (invalidations_of client s.rights) (shown_by result) (view_at (map_of w.rows) name)
-      knows.epoch (issued_is client s knows.issued knows.owned (session_of s client) refl) (g.shows ∙ ap (λ nodes. view_at nodes name) knows.nodes))
+      knows.epoch (issued_is client s knows.issued (session_of s client) refl g.live) (g.shows ∙ ap (λ nodes. view_at nodes name) knows.nodes))
 
   own_grant : Comes client name w s granted_then sent_then
   own_grant = goes client name w s w.rows granted_then sent_then (SendGrant ∷ []) (here client name w s) (record (here client name w s) { right = record (right_of client name s.rights) { held = true }; grants = grant_sent ∷ grants_of client name w.rows.secret w.messages }) (alike (here client name w s))
@@ -430,7 +429,7 @@ module _ (w : WorldState) (s : MasterState) (knows : IsKnown w s) (handles : Lis
           first = record {
             up = refl;
             serving = g.serving;
-            live = standing_kept client name w s knows.sessions ∙ live_standing (session_of s client) g.live;
+            live = standing_kept client name w s knows.sessions ∙ live_standing (is_late w.rows client) (session_of s client) g.live;
             quiet = (uncachable_is_touched name s.gate.waiting).1 unpending;
           };
           rest = tt;

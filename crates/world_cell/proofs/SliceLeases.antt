@@ -14,7 +14,7 @@ use Rattle.master_state.specs.State.{MasterState}
 use Rattle.master_state.specs.Lookups.{session_of}
 use Rattle.world_steps.specs.declared.members.WorldClient.{WorldClient}
 use Rattle.world_steps.specs.World.{WorldState, member_of}
-use Rattle.world_cell.specs.Slices.{slice, standing_so, standing_of, seen_of, client_of, master_of, lease_shown}
+use Rattle.world_cell.specs.Slices.{slice, standing_so, standing_of, is_late, seen_of, client_of, master_of, lease_shown}
 use Rattle.world_cell.specs.Consistent.{IsConsistent}
 use Rattle.world_cell.specs.Runs.{LeasesKeepSessions, AreJoint}
 
@@ -22,9 +22,10 @@ is_live : (live : Bool) → standing_so live ≡ Live → live ≡ true
 is_live true h = refl
 is_live false h = cc
 
-live_row : (row : Option of_rows.SessionRow) → standing_of row ≡ Live → option_map_or (λ session. session.live) row false ≡ true
-live_row None h = cc
-live_row (Some session) h = is_live session.live h
+live_row : (late : Bool) (row : Option of_rows.SessionRow) → standing_of late row ≡ Live → option_map_or (λ session. session.live) row false ≡ true
+live_row true None h = cc
+live_row false None h = cc
+live_row late (Some session) h = is_live session.live h
 
 -- where the master is up, it may not end the session yet
 in_time : (w : WorldState) (number : ℕ) (name : List ℕ) (master : MasterState) (session : Session Reply) → ((slice number name w).master.up ≡ true → (slice number name w).master.now < (slice number name w).master.timeout) → w.master ≡ Some master → session_of master number ≡ Some session → w.clock < session.timeout
@@ -39,7 +40,7 @@ leases_keep_sessions w fits number member found on unexpired =
     subst (λ (b : Bool). IsUnexpired (lease_shown b member.client.cache.lease).sent (lease_shown b member.client.cache.lease).span member.clock) (sym on) unexpired in
     let lives = joint.session_outlives_lease (subst (λ (o : Option WorldClient). IsUnexpired (client_of [] o).lease_sent (client_of [] o).lease_span (client_of [] o).now) (sym found) shown) in
     record {
-      live = live_row (lookup (is_at (nat_cmp number)) w.rows.sessions) lives.live;
+      live = live_row (is_late w.rows number) (lookup (is_at (nat_cmp number)) w.rows.sessions) lives.live;
       in_time = λ master session up there. in_time w number [] master session lives.before_timeout up there;
     }
 

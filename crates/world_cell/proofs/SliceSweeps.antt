@@ -1,11 +1,12 @@
 -- To each client, and of each name, what a sweep of the master is.
-use Rattle.std.proofs.Common.{◌≡◌, ℕ, ◌+◌, ◌-◌, ◌<◌, ◌≤◌, Bool, true, false, cond, max, List, [], ◌∷◌, ◌++◌, map, Option, Some, None, inl, inr, arith, refl, sym, ap, ◌∙◌, subst}
-use Rattle.std.specs.Prelude.{◌⊎◌, ◌==◌, ◌&&◌, ◌||◌, not, nat_le, fold, All}
+use Rattle.std.proofs.Common.{◌≡◌, ◌≢◌, ℕ, ◌+◌, ◌-◌, ◌<◌, ◌≤◌, Bool, true, false, cond, max, List, [], ◌∷◌, ◌++◌, map, Option, Some, None, inl, inr, arith, refl, sym, ap, ◌∙◌, subst}
+use Rattle.std.specs.Prelude.{◌⊎◌, ◌==◌, ◌&&◌, ◌||◌, not, nat_lt, nat_le, fold, All}
 use Rattle.std.specs.Option.{option_map, option_and_then}
 use Rattle.std.specs.List.{list_any}
 use Rattle.std.specs.Map.{lookup}
 use Rattle.std.specs.BTreeMap.{is_at, insert_entry}
 use Rattle.std.specs.Ordering.{nat_cmp}
+use Rattle.std.specs.Cmp.{nat_cmp_total}
 use Rattle.std.specs.Str.{bytes_eq}
 use Rattle.std.proofs.lemmas.Bool.Decides.{nat_tests}
 use Rattle.coherence.specs.Slice as one
@@ -19,7 +20,9 @@ use Rattle.rows_cell.specs.declared.tables.Rows.{Rows}
 use Rattle.rows_cell.specs.declared.tables.Edit.TheVariants.{NextInstance, PutSession}
 use Rattle.rows_cell.specs.Rows.{changed_rows, map_of}
 use Rattle.rows_cell.specs.LockRows.{LockChange, locks_edits}
+use Rattle.collections.proofs.OneKey.{lookup_removed, lookup_removed_apart}
 use Rattle.rows_cell.proofs.RowNodes.{nodes_put, nodes_gone}
+use Rattle.rows_cell.proofs.EntriesInOrder.{sorted_put}
 use Rattle.tags_cell.specs.declared.messages.outs.Out.{Out}
 use Rattle.tags_cell.specs.declared.messages.outs.CallResult.{CallResult}
 use Rattle.tags_cell.specs.declared.messages.outs.CallResult.TheVariants as results
@@ -51,12 +54,12 @@ use Rattle.master_state.specs.declared.updates.LockPut.{LockPut}
 use Rattle.master_state.specs.NameSpace.{name_space, caller}
 use Rattle.master_state.specs.State.{MasterState}
 use Rattle.master_parts.specs.StoredSessions.{row_of}
-use Rattle.master_state.specs.Lookups.{session_of, noted, reply_of, turned_away}
+use Rattle.master_state.specs.Lookups.{session_of, noted, reply_of, turned_away, IsUnused, retiring}
 use Rattle.master_parts.specs.Answered.{answered_by}
 use Rattle.cell_core.specs.Step.{names_of, touched_by}
 use Rattle.cell_core.specs.Names.{call_touched, names_touched}
 use Rattle.cell_core.specs.Ephemerals.{is_ok, spared_for}
-use Rattle.master_state.specs.Updates.{edit_of, with_kept_put, with_locks, without_lock, lock_changes}
+use Rattle.master_state.specs.Updates.{edit_of, retired, retire_edits, with_kept_put, with_locks, without_lock, lock_changes}
 use Rattle.client_core.specs.Invalidations.{last_number}
 use Rattle.cell_core.specs.Effect.{effect}
 use Rattle.over_core.specs.Plans.{started_out, alive_out, invalidations_for}
@@ -67,20 +70,22 @@ use Rattle.over_core.specs.SweepCase.{IsNextApplied, IsDueToEnd, IsDue, SweepCas
 use Rattle.over_core.specs.SweepCase.SweepCase.{Quiet, Recovers, Expires, Reopens, Tidies, Spared, Tidied, AnswersBeat, TurnedAway, StartedAgain, Started, OfEnded, Ended, Applied, Deleted, Locked, Awaited, Left, Departed}
 use Rattle.over_core.specs.Kept.{IsKept}
 use Rattle.over_core.proofs.SweepCases.{action_tellings}
+use Rattle.over_core.proofs.Retired.{IsGone, by_retiring, other_begins, not_below, at_least, above_least}
 use Rattle.over_core.proofs.Touching.{change_is_touched}
 use Rattle.over_core.proofs.Unacknowledged.{IsAskedFor, each_is_asked, asked_is_named}
 use Rattle.world_steps.specs.declared.mail.Message.TheVariants.{ToClient}
 use Rattle.world_steps.specs.World.{WorldState, member_of}
-use Rattle.world_cell.specs.Slices.{Shown, slice, standing_so, standing_of, standing_in, parked_list, seen_of, heard_from, right_of, put_start, start_of, starts_of, beats_of, name_number, put_offer, offers_of, grants_of, client_of}
+use Rattle.world_cell.specs.Slices.{Shown, slice, standing_so, standing_late, standing_of, is_late, standing_in, parked_list, seen_of, heard_from, right_of, put_start, start_of, starts_of, beats_of, name_number, put_offer, offers_of, grants_of, client_of}
 use Rattle.world_cell.proofs.RelockedRows.{IsBeside, HasRow, let_go, relocked_rows}
 use Rattle.world_cell.proofs.LockReplies.{AreUnstamped, waiters_unstamped, application_unstamped, lapses_unstamped, replies_offer_none, replies_grant_none, told_lease, told_seen}
 use Rattle.world_cell.proofs.SliceCalls.{tidy_asks}
+use Rattle.world_cell.proofs.SliceTicks.{late_not_live}
 use Rattle.world_cell.proofs.SliceRights.{no_right, unowned_right, right_of_another, freed_right, expiry_frees, leave_frees, given_back_right}
 use Rattle.world_cell.proofs.WorldCases.{swept_master}
 use Rattle.world_cell.proofs.ToldSweeps.{told_goes}
 use Rattle.world_cell.proofs.ViewsStay.{view_stays}
 use Rattle.world_cell.proofs.SweptNames.{touching_less, free_of_holders, all_at, last_is_issued, named_number}
-use Rattle.world_cell.proofs.Slices.{LeadsTo, reached_stays, by_test, is_same, is_other, same_test, in_front, in_back, in_either, all_found, beats_stay, grants_then, grants_more, offers_more, UpParts, AreSame, here, there, Goes, goes, goes_unseen, standing_kept, with_found, is_found, with_master, lease_stays, seen_stays, own_found, IsKnown, known, first_of, none_more}
+use Rattle.world_cell.proofs.Slices.{LeadsTo, reached_stays, by_test, is_same, is_other, same_test, in_front, in_back, in_either, all_found, beats_stay, grants_then, grants_more, offers_more, UpParts, AreSame, here, there, Goes, goes, goes_unseen, standing_kept, lookup_rows, with_found, is_found, with_master, lease_stays, seen_stays, own_found, IsKnown, known, first_of, none_more}
 use Rattle.tags_cell.specs.Messages.{is_leave}
 use Rattle.tags_cell.specs.declared.messages.calls.Call.TheVariants as calls
 use Rattle.lock_core.specs.declared.partings.Parting.TheVariants as partings
@@ -113,14 +118,16 @@ record IsMapped (rows new : Rows) (change : Mod) : Type 0 where
   sessions : new.sessions ≡ rows.sessions
   secret : new.secret ≡ rows.secret
   epoch : new.epoch ≡ rows.epoch
+  ended_below : new.ended_below ≡ rows.ended_below
   map : map_of new ≡ changed (map_of rows) change
 
 mapped_rows : (rows : Rows) (change : Mod) (next : ℕ) → IsMapped rows (changed_rows rows (edit_of change ∷ NextInstance next ∷ [])) change
-mapped_rows rows (Put name view) next = record { sessions = refl; secret = refl; epoch = refl; map = nodes_put rows.nodes name view }
-mapped_rows rows (Gone name) next = record { sessions = refl; secret = refl; epoch = refl; map = nodes_gone rows.nodes name }
+mapped_rows rows (Put name view) next = record { sessions = refl; secret = refl; epoch = refl; ended_below = refl; map = nodes_put rows.nodes name view }
+mapped_rows rows (Gone name) next = record { sessions = refl; secret = refl; epoch = refl; ended_below = refl; map = nodes_gone rows.nodes name }
 
-pub standing_by : (c : ℕ) (rows : Rows) (sessions : List (ℕ × of_rows.SessionRow)) → rows.sessions ≡ sessions → standing_in rows c ≡ standing_of (lookup (is_at (nat_cmp c)) sessions)
-standing_by c rows sessions is = ap (λ es. standing_of (lookup (is_at (nat_cmp c)) es)) is
+pub standing_by : (c : ℕ) (old rows : Rows) (sessions : List (ℕ × of_rows.SessionRow)) → rows.ended_below ≡ old.ended_below → rows.sessions ≡ sessions → standing_in rows c ≡ standing_of (is_late old c) (lookup (is_at (nat_cmp c)) sessions)
+standing_by c old rows sessions ended is =
+    ap (λ es. standing_of (is_late rows c) (lookup (is_at (nat_cmp c)) es)) is ∙ ap (λ n. standing_of (nat_lt c n) (lookup (is_at (nat_cmp c)) sessions)) ended
 
 -- ---- who was heard from
 
@@ -153,6 +160,25 @@ turned a b e = grind (arith, nat_tests, e)
 is_serving : (recovering long_ago room : Bool) (o : Option Orphan) (idle : Orphan) → cond (not recovering && long_ago && room) o None ≡ Some idle → recovering ≡ false
 is_serving true long_ago room o idle h = cc
 is_serving false long_ago room o idle h = refl
+
+-- ---- who goes
+
+ended_not_live : (live : Bool) → live ≡ false → standing_so live ≡ Live → ⊥
+ended_not_live true h k = cc
+ended_not_live false h k = cc
+
+not_alive : (late : Bool) (found : Option (Session Reply)) → (seen_of found).live ≡ false → standing_of late (option_map row_of found) ≡ Live → ⊥
+not_alive late None ended live = late_not_live late live
+not_alive late (Some session) ended live = ended_not_live session.live ended live
+
+pub one_goes : (client q : ℕ) → Some client ≡ Some q → client ≡ q
+one_goes client q is = cc
+
+pub is_below : (a b : ℕ) → a < b → nat_lt a b ≡ true
+is_below a b h = grind (arith, nat_tests, h)
+
+pub below_next : (a n : ℕ) → n < max a (n + 1)
+below_next a n = omega arith
 
 -- ---- every sweep
 
@@ -224,23 +250,23 @@ module _ (x : List ℕ) (w : WorldState) (s : MasterState) (knows : IsKnown w s)
       (behind c rows t sent (here c x w s) (ap (λ m. view_at m x) beside.map) is_session beside.epoch beside.secret is_lease is_recovering is_seen (ap (starts_of c) is_waiting) refl is_right (ap (touching x) is_waiting) refl is_offers is_grants)
 
   same_rows : IsBeside w.rows w.rows
-  same_rows = record { map = refl; secret = refl; epoch = refl }
+  same_rows = record { map = refl; secret = refl; epoch = refl; ended_below = refl }
 
   -- ---- a recovery ends
 
   heard_of : (c : ℕ) (session : Session Reply) → all_heard s.sessions ≡ true → session_of s c ≡ Some session → session.live ≡ true → nat_le 1 session.newest_beat ≡ true
   heard_of c session heard found = beaten_if_heard session.live (events_of session).acknowledged session.newest_beat (all_found c (λ entry. has_heard entry.1) s.sessions.sessions session heard found) (knows.by_beats c session found)
 
-  recovers_by : (c : ℕ) (found : Option (Session Reply)) → session_of s c ≡ found → (standing_of (option_map row_of found) ≡ Live → heard_from s.recovering (seen_of found) ≡ true) → heard_from false (seen_of found) ≡ heard_from s.recovering (seen_of found) → Goes c x w s w.rows (record s { recovering = false; serving_from = s.clock }) []
+  recovers_by : (c : ℕ) (found : Option (Session Reply)) → session_of s c ≡ found → (standing_of (is_late w.rows c) (option_map row_of found) ≡ Live → heard_from s.recovering (seen_of found) ≡ true) → heard_from false (seen_of found) ≡ heard_from s.recovering (seen_of found) → Goes c x w s w.rows (record s { recovering = false; serving_from = s.clock }) []
   recovers_by c found is heard same =
       let p : UpParts = with_found c x w s found in
       let q : UpParts = record p { recovering = false } in
       goes c x w s w.rows (record s { recovering = false; serving_from = s.clock }) [] (EndRecovery ∷ []) p q (is_found c x w s found knows.sessions knows.epoch is)
-      (behind c w.rows (record s { recovering = false; serving_from = s.clock }) [] q refl (standing_kept c x w s knows.sessions ∙ ap (λ o. standing_of (option_map row_of o)) is) (sym knows.epoch) refl refl refl (ap seen_of is) refl same refl refl refl refl refl)
+      (behind c w.rows (record s { recovering = false; serving_from = s.clock }) [] q refl (standing_kept c x w s knows.sessions ∙ ap (λ o. standing_of (is_late w.rows c) (option_map row_of o)) is) (sym knows.epoch) refl refl refl (ap seen_of is) refl same refl refl refl refl refl)
       (record { allowed = record { first = record { up = refl; heard_from = heard }; rest = tt }; leads_there = refl })
 
   recovers : (c : ℕ) (found : Option (Session Reply)) → session_of s c ≡ found → all_heard s.sessions ≡ true → Goes c x w s w.rows (record s { recovering = false; serving_from = s.clock }) []
-  recovers c None found heard = recovers_by c None found (λ live. absurd (cc)) refl
+  recovers c None found heard = recovers_by c None found (λ live. absurd (late_not_live (is_late w.rows c) live)) refl
   recovers c (Some session) found heard = recovers_by c (Some session) found
       (live_heard session.live (nat_le 1 session.newest_beat) s.recovering (heard_of c session heard found))
       (heard_both session.live (nat_le 1 session.newest_beat) s.recovering (heard_of c session heard found))
@@ -277,7 +303,7 @@ module _ (x : List ℕ) (w : WorldState) (s : MasterState) (knows : IsKnown w s)
         goes client x w s ended_rows without_session (sent answers) (Expire ∷ []) p q (is_found client x w s (Some session) knows.sessions knows.epoch due.found)
         (behind client ended_rows without_session (sent answers) q
         (ap (λ m. view_at m x) has_row.beside.map)
-        (standing_by client ended_rows (insert_entry nat_cmp w.rows.sessions client ended_row) has_row.sessions ∙ ap standing_of (lookup_put client w.rows.sessions ended_row))
+        (standing_by client w.rows ended_rows (insert_entry nat_cmp w.rows.sessions client ended_row) has_row.beside.ended_below has_row.sessions ∙ ap (standing_of (is_late w.rows client)) (lookup_put client w.rows.sessions ended_row))
         (has_row.beside.epoch ∙ sym knows.epoch)
         has_row.beside.secret
         (told_lease (with_session s.sessions client of_session.ended) (kept_puts answers) ∙ lease_stays s.sessions client of_session.ended)
@@ -290,7 +316,7 @@ module _ (x : List ℕ) (w : WorldState) (s : MasterState) (knows : IsKnown w s)
 
     other_expiry : (c : ℕ) → (c == client) ≡ false → Goes c x w s ended_rows without_session (sent answers)
     other_expiry c other = unseen_behind c ended_rows without_session (sent answers) has_row.beside
-        (standing_by c ended_rows (insert_entry nat_cmp w.rows.sessions client ended_row) has_row.sessions ∙ ap standing_of (lookup_put_apart client c (is_other c client other) w.rows.sessions ended_row))
+        (standing_by c w.rows ended_rows (insert_entry nat_cmp w.rows.sessions client ended_row) has_row.beside.ended_below has_row.sessions ∙ ap (standing_of (is_late w.rows c)) (lookup_put_apart client c (is_other c client other) w.rows.sessions ended_row))
         (told_lease (with_session s.sessions client of_session.ended) (kept_puts answers) ∙ lease_stays s.sessions client of_session.ended)
         refl
         (told_seen (with_session s.sessions client of_session.ended) (kept_puts answers) c ∙ ap seen_of (other_session s.sessions client of_session.ended c (is_other c client other)))
@@ -309,7 +335,7 @@ module _ (x : List ℕ) (w : WorldState) (s : MasterState) (knows : IsKnown w s)
       let relocked = relocked_rows w.rows changes in
       let silent = replies_silent c answers (application_unstamped s turn) in
       unseen_behind c (changed_rows w.rows (locks_edits changes)) (told (with_locks s (puts_of s instance turn.lock)) answers) (sent answers) relocked.beside
-      (standing_by c (changed_rows w.rows (locks_edits changes)) w.rows.sessions relocked.sessions)
+      (standing_by c w.rows (changed_rows w.rows (locks_edits changes)) w.rows.sessions relocked.beside.ended_below relocked.sessions)
       (told_lease s.sessions (kept_puts answers))
       refl
       (told_seen s.sessions (kept_puts answers) c)
@@ -373,7 +399,7 @@ module _ (x : List ℕ) (w : WorldState) (s : MasterState) (knows : IsKnown w s)
         goes client x w s w.rows answers_beat alive answer_events p q (is_found client x w s (Some with_beat) knows.sessions knows.epoch found_with_beat)
         (behind client w.rows answers_beat alive q
         refl
-        (standing_kept client x w s knows.sessions ∙ ap (λ o. standing_of (option_map row_of o)) due.found)
+        (standing_kept client x w s knows.sessions ∙ ap (λ o. standing_of (is_late w.rows client) (option_map row_of o)) due.found)
         (sym knows.epoch)
         refl
         (lease_stays s.sessions client (answered lease s.clock))
@@ -488,7 +514,7 @@ module _ (x : List ℕ) (w : WorldState) (s : MasterState) (knows : IsKnown w s)
         let m = mapped_rows w.rows change.change change.next_instance in
         record {
           present = λ apart. ap (λ nodes. view_at nodes x) m.map ∙ view_stays (map_of w.rows) change.change x knows.in_order (other apart);
-          session = standing_by c rows w.rows.sessions m.sessions;
+          session = standing_by c w.rows rows w.rows.sessions m.ended_below m.sessions;
           secret = m.secret;
           epoch = m.epoch;
         }
@@ -499,7 +525,7 @@ module _ (x : List ℕ) (w : WorldState) (s : MasterState) (knows : IsKnown w s)
         let r = relocked_rows w.rows (lock_changes s puts) in
         record {
           present = λ apart. ap (λ nodes. view_at nodes x) r.beside.map;
-          session = standing_by c rows w.rows.sessions r.sessions;
+          session = standing_by c w.rows rows w.rows.sessions r.beside.ended_below r.sessions;
           secret = r.beside.secret;
           epoch = r.beside.epoch;
         }
@@ -557,7 +583,7 @@ module _ (x : List ℕ) (w : WorldState) (s : MasterState) (knows : IsKnown w s)
         (record { present = h.present; session = h.session; epoch = h.epoch; lease = h.lease; recovering = h.recovering; seen = h.seen; starts = h.starts; heard = h.heard; right = h.right; pending = pending_stays front back (tasks.Asked asked) turn leave_touches; beats = h.beats; offers = h.offers; grants = h.grants })
         (behind c left_rows left_master (sent left_answers) q
         (ap (λ m. view_at m x) left_is.beside.map)
-        (standing_by c left_rows (insert_entry nat_cmp w.rows.sessions c left_row) left_is.sessions ∙ ap standing_of (lookup_put c w.rows.sessions left_row))
+        (standing_by c w.rows left_rows (insert_entry nat_cmp w.rows.sessions c left_row) left_is.beside.ended_below left_is.sessions ∙ ap (standing_of (is_late w.rows c)) (lookup_put c w.rows.sessions left_row))
         (left_is.beside.epoch ∙ sym knows.epoch)
         left_is.beside.secret
         left_lease
@@ -579,7 +605,7 @@ module _ (x : List ℕ) (w : WorldState) (s : MasterState) (knows : IsKnown w s)
         (record { present = refl; session = refl; epoch = refl; lease = refl; recovering = refl; seen = refl; starts = refl; heard = refl; right = refl; pending = pending_stays front back (tasks.Asked asked) turn leave_touches; beats = refl; offers = refl; grants = refl })
         (behind c left_rows left_master (sent left_answers) q
         (ap (λ m. view_at m x) left_is.beside.map)
-        (standing_by c left_rows (insert_entry nat_cmp w.rows.sessions asked.client left_row) left_is.sessions ∙ ap standing_of (lookup_put_apart asked.client c (is_other c asked.client other) w.rows.sessions left_row))
+        (standing_by c w.rows left_rows (insert_entry nat_cmp w.rows.sessions asked.client left_row) left_is.beside.ended_below left_is.sessions ∙ ap (standing_of (is_late w.rows c)) (lookup_put_apart asked.client c (is_other c asked.client other) w.rows.sessions left_row))
         left_is.beside.epoch
         left_is.beside.secret
         left_lease
@@ -739,7 +765,7 @@ module _ (x : List ℕ) (w : WorldState) (s : MasterState) (knows : IsKnown w s)
           goes asked.client x w s w.rows again granted (again_events session) p q (start_same (with_found asked.client x w s (Some session)) (is_found asked.client x w s (Some session) knows.sessions knows.epoch found) refl)
           (behind asked.client w.rows again granted q
           refl
-          (standing_kept asked.client x w s knows.sessions ∙ ap (λ o. standing_of (option_map row_of o)) found)
+          (standing_kept asked.client x w s knows.sessions ∙ ap (λ o. standing_of (is_late w.rows asked.client) (option_map row_of o)) found)
           (sym knows.epoch)
           refl
           (lease_stays s.sessions asked.client (prolonged (s.clock + s.sessions.lease)))
@@ -772,36 +798,80 @@ module _ (x : List ℕ) (w : WorldState) (s : MasterState) (knows : IsKnown w s)
       abbrev live_row : of_rows.SessionRow
       live_row = record { principal = principal; live = true }
 
-      abbrev begun_rows : Rows
-      begun_rows = changed_rows w.rows (PutSession asked.client live_row ∷ [])
+      -- and one may go
+      abbrev begun_rows : Option ℕ → Rows
+      begun_rows gone = changed_rows w.rows (PutSession asked.client live_row ∷ retire_edits s.ended_below gone)
 
-      abbrev begun : MasterState
-      begun = rest (record s { sessions = with_new s.sessions asked.client (session_until principal true (s.clock + s.sessions.lease)) }) front back
+      abbrev new_session : Session Reply
+      new_session = session_until principal true (s.clock + s.sessions.lease)
+
+      abbrev begun : Option ℕ → MasterState
+      begun gone = rest (retired (record s { sessions = with_new s.sessions asked.client new_session }) gone) front back
 
       abbrev begun_events : List (Event Shown)
       begun_events = Admit ∷ SendOffer start_receipt 0 0 ∷ KeepReceipts (starts_of asked.client (front ++ back)) ∷ []
+
+      abbrev Begins : ℕ → Option ℕ → Type 0
+      Begins c gone = Goes c x w s (begun_rows gone) (begun gone) granted
 
       serves : (recovering : Bool) → s.recovering ≡ recovering → recovering ≡ false
       serves true is = absurd (not_empty front back (at_application front back (tasks.Asked asked) turn) (sym turn.waited ∙ knows.recovery_is_empty is))
       serves false is = refl
 
-      -- a client without a session was granted nothing
-      unowned : session_of s asked.client ≡ None → right_of asked.client x s.rights ≡ no_right
-      unowned none = unowned_right asked.client x s.rights (knows.owned asked.client none)
+      -- a client that may begin one was granted nothing
+      unowned : IsUnused s asked.client → right_of asked.client x s.rights ≡ no_right
+      unowned none = unowned_right asked.client x s.rights (knows.owned asked.client none.0 none.1)
 
-      own_begin : session_of s asked.client ≡ None → Goes asked.client x w s begun_rows begun granted
-      own_begin none =
-          let p : UpParts = record (start_parts (with_found asked.client x w s None)) { right = no_right } in
+      record IsSameCell (gone : Option ℕ) : Type 0 where
+        map : map_of (begun_rows gone) ≡ map_of w.rows
+        secret : (begun_rows gone).secret ≡ w.rows.secret
+        epoch : (begun_rows gone).epoch ≡ w.rows.epoch
+        lease : (begun gone).sessions.lease ≡ s.sessions.lease
+
+      same_cell : (gone : Option ℕ) → IsSameCell gone
+      same_cell None = record { map = refl; secret = refl; epoch = refl; lease = refl }
+      same_cell (Some client) = record { map = refl; secret = refl; epoch = refl; lease = refl }
+
+      -- of another one
+      abbrev Another : ℕ → Option ℕ → Type 0
+      Another c gone = (client : ℕ) → gone ≡ Some client → c ≢ client
+
+      nobody_else : (c : ℕ) → Another c None
+      nobody_else c client is = absurd (cc)
+
+      own_row : (gone : Option ℕ) → Another asked.client gone → lookup (is_at (nat_cmp asked.client)) (begun_rows gone).sessions ≡ Some live_row
+      own_row None another = lookup_put asked.client w.rows.sessions live_row
+      own_row (Some client) another = lookup_removed_apart client asked.client (another client refl) (insert_entry nat_cmp w.rows.sessions asked.client live_row) ∙ lookup_put asked.client w.rows.sessions live_row
+
+      own_new : (gone : Option ℕ) → Another asked.client gone → session_of (begun gone) asked.client ≡ Some new_session
+      own_new None another = lookup_put asked.client s.sessions.sessions new_session
+      own_new (Some client) another = lookup_removed_apart client asked.client (another client refl) (insert_entry nat_cmp s.sessions.sessions asked.client new_session) ∙ lookup_put asked.client s.sessions.sessions new_session
+
+      other_row : (c : ℕ) → (c == asked.client) ≡ false → (gone : Option ℕ) → Another c gone → lookup (is_at (nat_cmp c)) (begun_rows gone).sessions ≡ lookup (is_at (nat_cmp c)) w.rows.sessions
+      other_row c other None another = lookup_put_apart asked.client c (is_other c asked.client other) w.rows.sessions live_row
+      other_row c other (Some client) another =
+          lookup_removed_apart client c (another client refl) (insert_entry nat_cmp w.rows.sessions asked.client live_row) ∙ lookup_put_apart asked.client c (is_other c asked.client other) w.rows.sessions live_row
+
+      other_found : (c : ℕ) → (c == asked.client) ≡ false → (gone : Option ℕ) → Another c gone → session_of (begun gone) c ≡ session_of s c
+      other_found c other None another = lookup_put_apart asked.client c (is_other c asked.client other) s.sessions.sessions new_session
+      other_found c other (Some client) another =
+          lookup_removed_apart client c (another client refl) (insert_entry nat_cmp s.sessions.sessions asked.client new_session) ∙ lookup_put_apart asked.client c (is_other c asked.client other) s.sessions.sessions new_session
+
+      own_begin : IsUnused s asked.client → (gone : Option ℕ) → Another asked.client gone → Begins asked.client gone
+      own_begin none gone another =
+          let b = same_cell gone in
+          let p : UpParts = record (start_parts (with_found asked.client x w s None)) { session = one.Never; right = no_right } in
           let q : UpParts = record p { session = Live; seen = seen_of (Some (session_until principal true (max (w.clock + s.sessions.lease) (w.clock + s.sessions.lease)))); starts = starts_of asked.client (front ++ back); heard = true; offers = start_offer w.clock ∷ offers_of asked.client x w.messages } in
-          let h = start_same (with_found asked.client x w s None) (is_found asked.client x w s None knows.sessions knows.epoch none) refl in
-          goes asked.client x w s begun_rows begun granted begun_events p q
-          (record { present = h.present; session = h.session; epoch = h.epoch; lease = h.lease; recovering = h.recovering; seen = h.seen; starts = h.starts; heard = h.heard; right = unowned none; pending = h.pending; beats = h.beats; offers = h.offers; grants = h.grants })
-          (behind asked.client begun_rows begun granted q
-          refl
-          (ap standing_of (lookup_put asked.client w.rows.sessions live_row))
-          (sym knows.epoch)
-          refl refl refl
-          (ap seen_of (lookup_put asked.client s.sessions.sessions (session_until principal true (s.clock + s.sessions.lease)))
+          let h = start_same (with_found asked.client x w s None) (is_found asked.client x w s None knows.sessions knows.epoch none.0) refl in
+          let never : standing_late (is_late w.rows asked.client) ≡ one.Never = ap (λ n. standing_late (nat_lt asked.client n)) (sym knows.ended_below) ∙ ap standing_late none.1 in
+          goes asked.client x w s (begun_rows gone) (begun gone) granted begun_events p q
+          (record { present = h.present; session = h.session ∙ never; epoch = h.epoch; lease = h.lease; recovering = h.recovering; seen = h.seen; starts = h.starts; heard = h.heard; right = unowned none; pending = h.pending; beats = h.beats; offers = h.offers; grants = h.grants })
+          (behind asked.client (begun_rows gone) (begun gone) granted q
+          (ap (λ m. view_at m x) b.map)
+          (ap (standing_of (is_late (begun_rows gone) asked.client)) (own_row gone another))
+          (b.epoch ∙ sym knows.epoch)
+          b.secret b.lease refl
+          (ap seen_of (own_new gone another)
           ∙ ap (λ now. seen_of (Some (session_until principal true (now + s.sessions.lease)))) knows.clock
           ∙ ap (λ timeout. seen_of (Some (session_until principal true timeout))) (twice (w.clock + s.sessions.lease)))
           refl
@@ -819,19 +889,86 @@ module _ (x : List ℕ) (w : WorldState) (s : MasterState) (knows : IsKnown w s)
             leads_there = refl;
           })
 
-      other_begin : (c : ℕ) → (c == asked.client) ≡ false → Goes c x w s begun_rows begun granted
-      other_begin c other = leaves front back (tasks.Asked asked) turn c begun_rows begun granted (record {
-        present = λ apart. refl;
-        session = ap standing_of (lookup_put_apart asked.client c (is_other c asked.client other) w.rows.sessions live_row);
-        secret = refl;
-        epoch = refl;
-        lease = refl;
-        recovering = refl;
-        seen = ap seen_of (lookup_put_apart asked.client c (is_other c asked.client other) s.sessions.sessions (session_until principal true (s.clock + s.sessions.lease)));
-        right = refl;
-        waiting = refl;
-        silent = other_offer c other;
-      })
+      -- of any other client it is as it was
+      stays_so : (c : ℕ) → (c == asked.client) ≡ false → (gone : Option ℕ) → standing_in (begun_rows gone) c ≡ standing_in w.rows c → Another c gone → Begins c gone
+      stays_so c other gone session another =
+          let b = same_cell gone in
+          leaves front back (tasks.Asked asked) turn c (begun_rows gone) (begun gone) granted (record {
+            present = λ apart. ap (λ m. view_at m x) b.map;
+            session = session;
+            secret = b.secret;
+            epoch = b.epoch;
+            lease = b.lease;
+            recovering = refl;
+            seen = ap seen_of (other_found c other gone another);
+            right = refl;
+            waiting = refl;
+            silent = other_offer c other;
+          })
+
+      -- or its session isn't known any more, or never begins
+      goes_so : (c : ℕ) → (c == asked.client) ≡ false → (gone : Option ℕ) (found : Option (Session Reply)) → session_of s c ≡ found → (seen_of found).live ≡ false → standing_in (begun_rows gone) c ≡ one.Ended → session_of (begun gone) c ≡ None → Begins c gone
+      goes_so c other gone found is ended session none =
+          let b = same_cell gone in
+          let f : UpParts = with_found c x w s found in
+          let p : UpParts = record f { heard = false; pending = touching x (front ++ back) } in
+          let q : UpParts = record p { session = one.Ended; seen = seen_of None; starts = starts_of c (front ++ back) } in
+          let h = is_found c x w s found knows.sessions knows.epoch is in
+          let silent = other_offer c other in
+          goes c x w s (begun_rows gone) (begun gone) granted (one.Retire ∷ KeepReceipts (starts_of c (front ++ back)) ∷ []) p q
+          (record { present = h.present; session = h.session; epoch = h.epoch; lease = h.lease; recovering = h.recovering; seen = h.seen; starts = h.starts; heard = h.heard ∙ ap (λ live. live && (not s.recovering || (seen_of found).beaten)) ended; right = h.right; pending = pending_stays front back (tasks.Asked asked) turn no_name; beats = h.beats; offers = h.offers; grants = h.grants })
+          (behind c (begun_rows gone) (begun gone) granted q (ap (λ m. view_at m x) b.map) session (b.epoch ∙ sym knows.epoch) b.secret b.lease refl (ap seen_of none) refl refl refl refl refl silent.offers silent.grants)
+          (record {
+            allowed = record {
+              first = record { up = refl; over = not_alive (is_late w.rows c) found ended };
+              rest = record { first = λ r i. rest_kept front back (tasks.Asked asked) turn c (seen_of found).parked r (in_back r (seen_of found).parked (starts_of c (front ++ back)) i); rest = tt };
+            };
+            leads_there = refl;
+          })
+
+      -- the row of any other client
+      row_is : (c : ℕ) → lookup (is_at (nat_cmp c)) w.rows.sessions ≡ option_map row_of (session_of s c)
+      row_is c = ap (λ es. lookup (is_at (nat_cmp c)) es) (sym knows.sessions) ∙ lookup_rows row_of (is_at (nat_cmp c)) s.sessions.sessions
+
+      standing_then : (c : ℕ) → (c == asked.client) ≡ false → (gone : Option ℕ) → Another c gone → (found : Option (Session Reply)) → session_of s c ≡ found → standing_in (begun_rows gone) c ≡ standing_of (is_late (begun_rows gone) c) (option_map row_of found)
+      standing_then c other gone another found is =
+          ap (standing_of (is_late (begun_rows gone) c)) (other_row c other gone another ∙ row_is c ∙ ap (option_map row_of) is)
+
+      standing_now : (c : ℕ) (found : Option (Session Reply)) → session_of s c ≡ found → standing_in w.rows c ≡ standing_of (is_late w.rows c) (option_map row_of found)
+      standing_now c found is = ap (standing_of (is_late w.rows c)) (row_is c ∙ ap (option_map row_of) is)
+
+      -- another client, where one goes
+      other_retired : (c : ℕ) → (c == asked.client) ≡ false → (client : ℕ) → Another c (Some client) → (found : Option (Session Reply)) → session_of s c ≡ found → Begins c (Some client)
+      other_retired c other client another (Some session) is =
+          stays_so c other (Some client) (standing_then c other (Some client) another (Some session) is ∙ sym (standing_now c (Some session) is)) another
+      other_retired c other client another None is =
+          let now = standing_then c other (Some client) another None is in
+          by_test (is_late (begun_rows (Some client)) c)
+          (λ late. goes_so c other (Some client) None is refl (now ∙ ap standing_late late) (other_found c other (Some client) another ∙ is))
+          (λ early.
+          let soon : is_late w.rows c ≡ false = ap (λ n. nat_lt c n) (sym knows.ended_below) ∙ at_least c s.ended_below (above_least c s.ended_below client (not_below c (max s.ended_below (client + 1)) early)) in
+          stays_so c other (Some client) (now ∙ ap standing_late early ∙ sym (standing_now c None is ∙ ap standing_late soon)) another)
+
+      -- and the one that goes
+      own_retired : (client : ℕ) → (client == asked.client) ≡ false → IsGone s client → Begins client (Some client)
+      own_retired client other gone =
+          let entries = insert_entry nat_cmp w.rows.sessions asked.client live_row in
+          let sessions = insert_entry nat_cmp s.sessions.sessions asked.client new_session in
+          goes_so client other (Some client) (Some gone.session) gone.found gone.ended
+          (ap (standing_of (is_late (begun_rows (Some client)) client)) (lookup_removed client entries (sorted_put nat_cmp nat_cmp_total w.rows.sessions asked.client live_row knows.rows_ordered)) ∙ ap standing_late (is_below client (max s.ended_below (client + 1)) (below_next s.ended_below client)))
+          (lookup_removed client sessions (sorted_put nat_cmp nat_cmp_total s.sessions.sessions asked.client new_session knows.ordered))
+
+      other_begin : (c : ℕ) → (c == asked.client) ≡ false → Begins c (retiring s)
+      other_begin c other = by_retiring s (Begins c)
+          (stays_so c other None (ap (standing_of (is_late w.rows c)) (other_row c other None (nobody_else c))) (nobody_else c))
+          (λ client gone. by_test (c == client)
+          (λ own. subst (λ (z : ℕ). Begins z (Some client)) (sym (is_same c client own)) (own_retired client (subst (λ (z : ℕ). (z == asked.client) ≡ false) (is_same c client own) other) gone))
+          (λ apart. other_retired c other client (λ q is. subst (λ (z : ℕ). c ≢ z) (one_goes client q is) (is_other c client apart)) (session_of s c) refl))
+
+      begins : IsUnused s asked.client → Begins asked.client (retiring s)
+      begins none = by_retiring s (Begins asked.client)
+          (own_begin none None (nobody_else asked.client))
+          (λ client gone. own_begin none (Some client) (λ q is same. other_begins s client asked.client gone none.0 (one_goes client q is ∙ sym same)))
 
     -- the rows of a call that changes the map
     pub changed_rows_of : (c : ℕ) (call : Call) (sequencer : Option (List ℕ)) (change : Change) → asked.work ≡ works.Calls call sequencer → (effect (name_space s) (caller s asked.client) s.clock asked.number call sequencer).change ≡ Some change → HasRows front back (tasks.Asked asked) turn c (changed_rows w.rows (edit_of change.change ∷ NextInstance change.next_instance ∷ []))
@@ -860,7 +997,7 @@ module _ (x : List ℕ) (w : WorldState) (s : MasterState) (knows : IsKnown w s)
       (λ own. subst (λ (z : ℕ). Goes z x w s w.rows (again front back asked turn principal received work) (granted front back asked turn principal received work)) (sym (is_same c asked.client own)) (own_again front back asked turn principal received work session found live))
       (λ other. other_again front back asked turn principal received work c other)
   sweep_by off c (Started front back asked principal received turn work none) = by_test (c == asked.client)
-      (λ own. subst (λ (z : ℕ). Goes z x w s (begun_rows front back asked turn principal received work) (begun front back asked turn principal received work) (granted front back asked turn principal received work)) (sym (is_same c asked.client own)) (own_begin front back asked turn principal received work none))
+      (λ own. subst (λ (z : ℕ). Begins front back asked turn principal received work z (retiring s)) (sym (is_same c asked.client own)) (begins front back asked turn principal received work none))
       (λ other. other_begin front back asked turn principal received work c other)
   sweep_by off c (OfEnded front back asked call sequencer turn work gone) = leaves front back (tasks.Asked asked) turn c w.rows (rest s front back) [] (plain_rest front back (tasks.Asked asked) turn c [] (nothing_sent c))
   sweep_by off c (Departed front back asked call sequencer session turn work leave found live) = by_test (c == asked.client)

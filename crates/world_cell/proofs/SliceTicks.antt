@@ -25,7 +25,7 @@ use Rattle.world_steps.specs.declared.members.WorldClient.{WorldClient}
 use Rattle.world_steps.specs.declared.steps.Ticks.{Ticks}
 use Rattle.world_steps.specs.Members.{new_member, each_member, at_up, is_least, is_fair, own_step, clock_then}
 use Rattle.world_steps.specs.World.{WorldState, member_of, stays_fair, moved, ticked, are_fair, without_master}
-use Rattle.world_cell.specs.Slices.{Shown, slice, standing_so, standing_of, standing_in, seen_of, heard_from, beats_of, offers_of, grants_of, clocks_of, client_of, master_of}
+use Rattle.world_cell.specs.Slices.{Shown, slice, standing_so, standing_late, standing_of, is_late, standing_in, seen_of, heard_from, beats_of, offers_of, grants_of, clocks_of, client_of, master_of}
 use Rattle.world_cell.proofs.SliceRights.{no_right}
 use Rattle.world_cell.proofs.Slices.{LeadsTo, reached_stays, unseen, by_test, is_same, is_other, two_same, lookup_rows, lookup_each, all_found, seen_up, stepped_as}
 
@@ -110,6 +110,10 @@ not_live : (principal : List ℕ) (live : Bool) (now : ℕ) → has_heard {K = R
 not_live principal true now h k = cc
 not_live principal false now h k = cc
 
+pub late_not_live : (late : Bool) → standing_late late ≡ one.Live → ⊥
+late_not_live true h = cc
+late_not_live false h = cc
+
 -- the world after it
 abbrev pub behind_up : WorldState → ℕ → WorldState
 behind_up w now = record w {
@@ -129,7 +133,7 @@ module _ (c : ℕ) (x : List ℕ) (w : WorldState) (now : ℕ) where
   abbrev down_slice : Option of_rows.SessionRow → Option WorldClient → Slice Shown
   down_slice row member = record {
     present = view_at (map_of w.rows) x;
-    session = standing_of row;
+    session = standing_of (is_late w.rows c) row;
     epoch = w.rows.epoch;
     master = nobody;
     client = client_of x member;
@@ -142,7 +146,7 @@ module _ (c : ℕ) (x : List ℕ) (w : WorldState) (now : ℕ) where
   abbrev up_slice : Option of_rows.SessionRow → Bool → Option (Session Reply) → Option WorldClient → Bool → Slice Shown
   up_slice row recovering found member heard = seen_up now (clocks_of now member) (client_of x member) (record {
     present = view_at (map_of w.rows) x;
-    session = standing_of row;
+    session = standing_of (is_late w.rows c) row;
     epoch = w.rows.epoch + 1;
     lease = w.terms.lease;
     recovering = recovering;
@@ -163,9 +167,11 @@ module _ (c : ℕ) (x : List ℕ) (w : WorldState) (now : ℕ) where
   abbrev up_found : Option of_rows.SessionRow → Bool → Option WorldClient → Slice Shown
   up_found row recovering member = up_slice row recovering (option_map known_of row) (option_map (at_up now) member) (heard_from recovering (seen_of (option_map known_of row)))
 
-  comes_up_by : (row : Option of_rows.SessionRow) (recovering : Bool) (member : Option WorldClient) → w.terms.lease ≤ longest_lease → (standing_of row ≡ one.Live → recovering ≡ true) → Leads (down_slice row member) (comes_up row recovering ∷ []) (up_found row recovering member)
-  comes_up_by None recovering None short recovers = record { allowed = record { first = record { down = refl; lease = short; recovers = recovers; timeout = λ k. absurd (cc) }; rest = tt }; leads_there = refl }
-  comes_up_by None recovering (Some member) short recovers = record { allowed = record { first = record { down = refl; lease = short; recovers = recovers; timeout = λ k. absurd (cc) }; rest = tt }; leads_there = refl }
+  comes_up_by : (row : Option of_rows.SessionRow) (recovering : Bool) (member : Option WorldClient) → w.terms.lease ≤ longest_lease → (standing_of (is_late w.rows c) row ≡ one.Live → recovering ≡ true) → Leads (down_slice row member) (comes_up row recovering ∷ []) (up_found row recovering member)
+  comes_up_by None recovering None short recovers =
+      record { allowed = record { first = record { down = refl; lease = short; recovers = recovers; timeout = λ k. absurd (late_not_live (is_late w.rows c) k) }; rest = tt }; leads_there = refl }
+  comes_up_by None recovering (Some member) short recovers =
+      record { allowed = record { first = record { down = refl; lease = short; recovers = recovers; timeout = λ k. absurd (late_not_live (is_late w.rows c) k) }; rest = tt }; leads_there = refl }
   comes_up_by (Some row) recovering None short recovers = record {
     allowed = record { first = record { down = refl; lease = short; recovers = recovers; timeout = λ k. no_less (now + recovery_timeout) }; rest = tt };
     leads_there = ap (up_slice (Some row) recovering (Some (known_of row)) None) (unheard row.live recovering recovers);
@@ -181,8 +187,8 @@ module _ (c : ℕ) (x : List ℕ) (w : WorldState) (now : ℕ) where
   found_known : session_of new_master c ≡ option_map known_of row_here
   found_known = lookup_rows known_of (is_at (nat_cmp c)) w.rows.sessions
 
-  live_recovers : (row : Option of_rows.SessionRow) → row_here ≡ row → standing_of row ≡ one.Live → not (all_heard new_master.sessions) ≡ true
-  live_recovers None is live = absurd (cc)
+  live_recovers : (row : Option of_rows.SessionRow) → row_here ≡ row → standing_of (is_late w.rows c) row ≡ one.Live → not (all_heard new_master.sessions) ≡ true
+  live_recovers None is live = absurd (late_not_live (is_late w.rows c) live)
   live_recovers (Some row) is live = by_test (all_heard new_master.sessions)
       (λ heard. absurd (not_live row.principal row.live now (all_found c (λ entry. has_heard entry.1) new_master.sessions.sessions (known_of row) heard (found_known ∙ ap (option_map known_of) is)) live))
       (λ unheard_yet. ap not unheard_yet)

@@ -37,12 +37,13 @@ use Rattle.master_parts.specs.StoredSessions.{row_of, session_rows}
 use Rattle.master_state.specs.Lookups.{session_of, noted}
 use Rattle.client_core.specs.Invalidations.{last_number}
 use Rattle.over_core.specs.Kept.{AreByBeats, AreIssued, AreOwned, AreTouching, IsKept}
+use Rattle.over_core.proofs.KeptBySweeps.{sessions_ordered}
 use Rattle.world_steps.specs.declared.mail.Message.{Message}
 use Rattle.world_steps.specs.declared.mail.Message.TheVariants.{ToMaster, ToClient}
 use Rattle.world_steps.specs.declared.members.WorldClient.{WorldClient}
 use Rattle.world_steps.specs.Messages.{message_at, as_request, as_out, request_at, out_at}
 use Rattle.world_steps.specs.World.{WorldState, member_of}
-use Rattle.world_cell.specs.Slices.{Seen, SeenRight, Shown, Grants, GrantsSoFar, Clocks, slice, standing_of, standing_in, seen_of, heard_from, right_of, start_of, starts_of, beat_of, put_beat, beats_of, name_number, offer_of, put_offer, offers_of, put_grant, grants_of, clocks_of, client_of, master_of}
+use Rattle.world_cell.specs.Slices.{Seen, SeenRight, Shown, Grants, GrantsSoFar, Clocks, slice, standing_of, is_late, standing_in, seen_of, heard_from, right_of, start_of, starts_of, beat_of, put_beat, beats_of, name_number, offer_of, put_offer, offers_of, put_grant, grants_of, clocks_of, client_of, master_of}
 use Rattle.world_cell.proofs.GrantsSent.{granted_by, looked_at}
 
 -- to the client, and of the name, the one world leads to the other
@@ -356,17 +357,18 @@ module _ (c : ℕ) (x : List ℕ) (w : WorldState) where
   goes_unseen s rows t sent same = goes s rows t sent [] (here s) (here s) (alike (here s)) same (record { allowed = tt; leads_there = refl })
 
   -- what the rows say of the client's session, by what the master knows of it
-  pub standing_kept : (s : MasterState) → session_rows s.sessions ≡ w.rows.sessions → standing_in w.rows c ≡ standing_of (option_map row_of (session_of s c))
-  standing_kept s kept = ap (λ es. standing_of (lookup (is_at (nat_cmp c)) es)) (sym kept) ∙ ap standing_of (lookup_rows row_of (is_at (nat_cmp c)) s.sessions.sessions)
+  pub standing_kept : (s : MasterState) → session_rows s.sessions ≡ w.rows.sessions → standing_in w.rows c ≡ standing_of (is_late w.rows c) (option_map row_of (session_of s c))
+  standing_kept s kept =
+      ap (λ es. standing_of (is_late w.rows c) (lookup (is_at (nat_cmp c)) es)) (sym kept) ∙ ap (standing_of (is_late w.rows c)) (lookup_rows row_of (is_at (nat_cmp c)) s.sessions.sessions)
 
   -- before a step, where the client has this session or none
   abbrev pub with_found : MasterState → Option (Session Reply) → UpParts
-  with_found s found = record (here s) { session = standing_of (option_map row_of found); epoch = s.epoch; seen = seen_of found; heard = heard_from s.recovering (seen_of found) }
+  with_found s found = record (here s) { session = standing_of (is_late w.rows c) (option_map row_of found); epoch = s.epoch; seen = seen_of found; heard = heard_from s.recovering (seen_of found) }
 
   pub is_found : (s : MasterState) (found : Option (Session Reply)) → session_rows s.sessions ≡ w.rows.sessions → s.epoch ≡ w.rows.epoch → session_of s c ≡ found → AreSame (here s) (with_found s found)
   is_found s found kept epoch is = record {
     present = refl;
-    session = standing_kept s kept ∙ ap (λ o. standing_of (option_map row_of o)) is;
+    session = standing_kept s kept ∙ ap (λ o. standing_of (is_late w.rows c) (option_map row_of o)) is;
     epoch = sym epoch;
     lease = refl;
     recovering = refl;
@@ -429,12 +431,15 @@ pub record IsKnown (w : WorldState) (s : MasterState) : Type 0 where
   pub in_order : IsStrictlySortedBy (slice_cmp nat_cmp) (keys_of (map_of w.rows))
   pub secret : s.secret ≡ w.rows.secret
   pub sessions : session_rows s.sessions ≡ w.rows.sessions
+  pub ordered : IsStrictlySortedBy nat_cmp (keys_of s.sessions.sessions)
+  pub rows_ordered : IsStrictlySortedBy nat_cmp (keys_of w.rows.sessions)
   pub epoch : s.epoch ≡ w.rows.epoch
+  pub ended_below : s.ended_below ≡ w.rows.ended_below
   pub recovery_is_empty : s.recovering ≡ true → s.gate.waiting ≡ []
   pub by_beats : AreByBeats s.sessions
   pub recorded : IsRecorded s.rights
   pub issued : AreIssued s.sessions s.rights
-  pub owned : AreOwned s.sessions s.rights
+  pub owned : AreOwned s.sessions s.ended_below s.rights
   pub touching : AreTouching s.secret s.gate.waiting
   pub clock : s.clock ≡ w.clock
 
@@ -447,7 +452,10 @@ known w s kept early = record {
   in_order = subst (IsStrictlySortedBy (slice_cmp nat_cmp)) (sym (keys_of_nodes w.rows.nodes)) kept.names_in_order;
   secret = kept.secret;
   sessions = kept.sessions;
+  ordered = sessions_ordered w.cell w.rows s kept;
+  rows_ordered = kept.sessions_in_order;
   epoch = kept.epoch;
+  ended_below = kept.ended_below;
   recovery_is_empty = kept.recovery_is_empty;
   by_beats = kept.by_beats;
   recorded = kept.recorded;

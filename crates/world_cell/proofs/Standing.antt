@@ -45,7 +45,7 @@ use Rattle.master_parts.specs.declared.pending.Task.TheVariants as tasks
 use Rattle.master_state.specs.NameSpace.{name_space}
 use Rattle.master_state.specs.Notices.{event_if, event_here, event_on, event_for, is_noted, telling_as, telling_by}
 use Rattle.master_state.specs.State.{MasterState}
-use Rattle.master_state.specs.Updates.{with_standing, without_handle, forgets_of, new_generation, with_begun, with_put, with_locks, gone_of, session_rest, with_session_rest, with_kept, with_map, without_lock, recovered, left, done}
+use Rattle.master_state.specs.Updates.{with_standing, without_handle, retired, forgets_of, new_generation, with_begun, with_put, with_locks, gone_of, session_rest, with_session_rest, with_kept, with_map, without_lock, recovered, left, done}
 use Rattle.master_state.specs.Lookups.{holds_lock}
 use Rattle.lock_core.specs.Locks.{LockTable, lock_at}
 use Rattle.cell_core.specs.declared.effects.Effect.{Effect}
@@ -267,12 +267,12 @@ module _ (s : MasterState) (update : Update) where
   -- the map is changed so
   abbrev done_by : Mod → ℕ → MasterState
   done_by change next =
-      left (recovered (without_lock (with_map (with_kept (with_session_rest (without_handle (with_locks (with_put (with_standing (with_begun s update.session) update.note) change) update.locks) (forgets_of update.note)) (session_rest update.session)) update.kept) (Some (record { gone = gone_of change; next_instance = next }))) update.ends_lock) update.recovers) update.leaves
+      left (recovered (without_lock (with_map (with_kept (with_session_rest (retired (without_handle (with_locks (with_put (with_standing (with_begun s update.session) update.note) change) update.locks) (forgets_of update.note)) update.retires) (session_rest update.session)) update.kept) (Some (record { gone = gone_of change; next_instance = next }))) update.ends_lock) update.recovers) update.leaves
 
   put_stays : (name : List ℕ) (view : Node) (next : ℕ) → get_node (done_by (Put name view) next).nodes name ≡ Some view
   put_stays name view next =
       let begun : MasterState = with_standing (with_begun s update.session) update.note in
-      let placed : MasterState = without_handle (with_locks (with_put begun (Put name view)) update.locks) (forgets_of update.note) in
+      let placed : MasterState = retired (without_handle (with_locks (with_put begun (Put name view)) update.locks) (forgets_of update.note)) update.retires in
       let kept : MasterState = with_kept (with_session_rest placed (session_rest update.session)) update.kept in
       let mapped : MasterState = with_map kept (Some (record { gone = None; next_instance = next })) in
       let unlocked : MasterState = without_lock mapped update.ends_lock in

@@ -1,6 +1,9 @@
 -- What is carried through each step of a world; and whatever clients are to be told of contents stands, after each step of a consistent world.
 use Rattle.std.proofs.Common.{◌≡◌, ℕ, List, [], ◌∷◌, ◌++◌, Option, Some, None, refl, sym, ap, ◌∙◌, inl, inr, subst, map}
 use Rattle.std.specs.List.{AllByRecursion}
+use Rattle.std.specs.List.Sorted.{IsStrictlySortedBy}
+use Rattle.std.specs.Map.{keys_of}
+use Rattle.std.specs.Ordering.{nat_cmp}
 use Rattle.node_core.specs.declared.events.Event.{Event}
 use Rattle.node_core.specs.declared.events.Event.TheVariants as events
 use Rattle.node_core.specs.declared.lines.Line.{Line}
@@ -31,7 +34,7 @@ use Rattle.over_core.specs.declared.actions.Action.TheVariants.{Tidy}
 use Rattle.over_core.specs.Sweep.{acted}
 use Rattle.over_core.specs.Plans.{plan_of}
 use Rattle.over_core.specs.SweepCase.{swept_by, swept_edits}
-use Rattle.over_core.proofs.KeptBySweeps.{case_kept}
+use Rattle.over_core.proofs.KeptBySweeps.{sessions_ordered, case_kept}
 use Rattle.over_core.proofs.SweepCases.{action_tellings}
 use Rattle.world_steps.specs.declared.mail.Message.{Message}
 use Rattle.world_steps.specs.declared.mail.Message.TheVariants.{ToMaster, ToClient}
@@ -92,6 +95,7 @@ module _ (R : Reply → Type 0) (E : Event → Type 0) where
   -- what shows a node of the master's map, and what clients are told by a sweep
   pub record IsFed (old : WorldState) (step : Step) (new : WorldState) (printed : List Line) : Type 0 where
     pub shows : (s : MasterState) → old.master ≡ Some s → Shows R E s
+    pub ordered : (s : MasterState) → old.master ≡ Some s → IsStrictlySortedBy nat_cmp (keys_of s.sessions.sessions)
     pub tells : (t : IsSweep old step new printed) → AllByRecursion (λ (telling : SessionEvent). E telling.event) (action_tellings (noted t.master old.clock) t.action)
     pub lost : E events.Lost
     pub up : E events.FailOver
@@ -115,7 +119,7 @@ module _ (R : Reply → Type 0) (E : Event → Type 0) where
       let more = swept_outs_hold R E s t.case (fed.shows t.master t.is_up) kept in
       subst IsCarried (sym t.is) (record {
         sent = more_sent old.messages (swept_by s t.case).1.outs h.sent more;
-        master = tellings_hold R E (swept_by s t.case).0.sessions (action_tellings s t.action) (swept_hold R E s t.case kept more) (fed.tells t);
+        master = tellings_hold R E (swept_by s t.case).0.sessions (action_tellings s t.action) (swept_hold R E s (fed.ordered t.master t.is_up) t.case kept more) (fed.tells t);
       })
   case_carries old step new printed fed h (GoesDown d) = subst IsCarried (sym d.is) (record { sent = h.sent; master = tt })
   case_carries old step new printed fed h (CutsSweep k) = subst IsCarried (sym k.is) (record { sent = h.sent; master = tt })
@@ -225,6 +229,7 @@ tells_on old step new printed agrees h case =
     let before : IsCarried NoReply (IsTrue new.rows) old = record { sent = from_out old.rows new.rows stays old.messages h.sent; master = from_master old.rows new.rows stays old.master h.queued } in
     let after = case_carries NoReply (IsTrue new.rows) old step new printed (record {
       shows = λ s up reply shown. tt;
+      ordered = λ s up. sessions_ordered old.cell old.rows s (agrees_at old old.master s up agrees);
       tells = λ t. swept_true old step new printed agrees t;
       lost = tt;
       up = tt;

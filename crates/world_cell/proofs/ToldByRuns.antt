@@ -41,6 +41,7 @@ use Rattle.world_cell.specs.Told.{IsNoOlderAnswer, calls_of, ShowsNoOlder}
 use Rattle.world_cell.proofs.Carried.{IfReply, IfKept, IfQueue, OfSession, OfOut}
 use Rattle.world_cell.proofs.CarriedLines.{OfLine, OfLines, both_lines, case_tells}
 use Rattle.world_cell.proofs.ClocksByRuns.{run_consistent}
+use Rattle.over_core.proofs.KeptBySweeps.{sessions_ordered}
 use Rattle.world_cell.proofs.ConsistentSteps.{agrees_at}
 use Rattle.world_cell.proofs.EffectContents.{IsShown}
 use Rattle.world_cell.proofs.OneSession.{kept_in}
@@ -179,6 +180,7 @@ module _ (client calls instance generation : ℕ) where
   case_follows old step new printed agrees stands case h =
       case_carries Follows NoEvent old step new printed (record {
         shows = λ s up reply shown own above. result_stands old.rows s.nodes instance generation reply.result stands (agrees_at old old.master s up agrees).nodes shown;
+        ordered = λ s up. sessions_ordered old.cell old.rows s (agrees_at old old.master s up agrees);
         tells = λ t. tellings_silent (action_tellings (noted t.master old.clock) t.action);
         lost = tt;
         up = tt;

@@ -58,11 +58,13 @@ use Rattle.world_cell.specs.Consistent.{waiting, put_waiting, put_task, IsWaitin
 use Rattle.world_cell.specs.Runs.{Run}
 use Rattle.world_cell.specs.Turns.{waits_in, HaveOneTurn}
 use Rattle.world_cell.proofs.ClocksByRuns.{run_consistent}
-use Rattle.world_cell.proofs.ConsistentSteps.{case_later, noted_fits, all_first}
+use Rattle.world_cell.proofs.ConsistentSteps.{agrees_at, case_later, noted_fits, all_first}
+use Rattle.world_cell.proofs.ForgottenRows.{IsGoneIn, UnlessGone, gone_session, gone_on, settled, kept_unless}
+use Rattle.world_cell.proofs.LocksByCases.{noted_kept}
 use Rattle.world_cell.proofs.MasterFits.{call_application, WasAsked, live_note, behind_note, epoch_note, waits_as, waiting_append, waits_own, waits_other, none_waits, none_called}
 use Rattle.world_cell.proofs.MessagesGrow.{call_more, no_call}
 use Rattle.world_cell.proofs.OnceByRuns.{IsFrom, IsCounted, counted_later, AreFrom, claims_from, turn_from, lapses_from, sending_above}
-use Rattle.world_cell.proofs.OneSession.{same, other, kept_in, each_session, kept_own, kept_other, kept_stays, kept_issued, kept_begins, answered_so}
+use Rattle.world_cell.proofs.OneSession.{same, other, kept_in, each_session, kept_own, kept_other, kept_stays, kept_issued, answered_so}
 use Rattle.world_cell.proofs.OwnSteps.{sending, IsOwn, asks_own, beats_own, gives_own}
 use Rattle.world_cell.proofs.StepsHold.{does_holds}
 use Rattle.world_cell.proofs.ToldSweeps.{told_kept}
@@ -203,7 +205,7 @@ module _ (sent : List Message) (s : MasterState) (client n : ℕ) (fits : FitsMe
       let before : PastMaster sent client t n = subst (λ x. IsPast sent t.epoch client (of_sessions.kept_of x client) n) (sym same_sessions) (subst (λ e. IsPast sent e client (kept_of s client) n) (sym same_epoch) h) in
       note_past sent (recorded t asked.client kept) note client n (put_past sent t asked.client client kept n lives own before)
 
-  sweep_past : (c : SweepCase s) → PastMaster sent client (swept_by s c).0 n
+  sweep_past : (c : SweepCase s) → UnlessGone s client c (PastMaster sent client (swept_by s c).0 n)
   sweep_past (Quiet none) = h
   sweep_past (Recovers recovering heard) = h
   sweep_past (Expires whose session due) =
@@ -228,7 +230,7 @@ module _ (sent : List Message) (s : MasterState) (client n : ℕ) (fits : FitsMe
   sweep_past (StartedAgain front back asked principal received session turn work found live) =
       same_past sent s.epoch client (kept_of s client) _ n (kept_stays s.sessions asked.client (prolonged (s.clock + s.sessions.lease)) (λ session. refl) client) h
   sweep_past (StartedFirst front back asked principal received turn work none) =
-      same_past sent s.epoch client (kept_of s client) _ n (kept_begins s.sessions asked.client (session_until principal true (s.clock + s.sessions.lease)) none refl client) h
+      λ stays. same_past sent s.epoch client (kept_of s client) _ n (kept_unless s asked.client client (session_until principal true (s.clock + s.sessions.lease)) none.0 refl stays) h
   sweep_past (OfEnded front back asked call sequencer turn work gone) = h
   sweep_past (Ended front back asked call sequencer note answer turn work stays live made) =
       end_past (rest s front back) asked note answer refl refl live (turn_past front back asked call sequencer turn work)
@@ -403,6 +405,10 @@ record Beyond (w : WorldState) (client n : ℕ) : Type 0 where
   counted : IsCounted w client (Some n)
   past : PastIn w.messages client w.master n
 
+-- or nothing is known of it any more
+abbrev Lasts : WorldState → ℕ → ℕ → Type 0
+Lasts w client n = Beyond w client n ⊎ IsGoneIn w.rows client
+
 past_at : (sent : List Message) (client n : ℕ) (m : Option MasterState) (s : MasterState) → m ≡ Some s → PastIn sent client m n → PastMaster sent client s n
 past_at sent client n m s e k = rw e at k
 
@@ -425,33 +431,39 @@ module _ (client n : ℕ) (old : WorldState) (step : Step) (new : WorldState) (p
   own_past : IsOwn old new printed → PastIn new.messages client new.master n
   own_past o = same_master (sending o.sent) o.grown (ap (λ (w : WorldState). w.master) o.is) (λ number call is. sending_above old h o.number client o.member o.client o.sent (Some n) o.found o.sends b.counted number call is)
 
-  past_on : WorldCase old step new printed → PastIn new.messages client new.master n
+  past_on : WorldCase old step new printed → PastIn new.messages client new.master n ⊎ IsGoneIn new.rows client
   past_on (ComesUp u) =
-      subst (λ (x : WorldState). PastIn x.messages client x.master n) (sym u.is)
+      inl (subst (λ (x : WorldState). PastIn x.messages client x.master n) (sym u.is)
       (same_past old.messages (old.rows.epoch + 1) client None _ n (all_first u.now old.rows.sessions client).0
-      (λ number call is of. let before = (h.sent client number call is).past in absurd (omega arith)))
-  past_on (Joins j) = same_master [] (rw j.is (sym (append-nil old.messages))) (rw j.is refl) (λ number call is. cc)
-  past_on (Asks a) = own_past (asks_own old step new printed a)
-  past_on (Beats beats) = own_past (beats_own old step new printed beats)
-  past_on (Gives g) = own_past (gives_own old step new printed g)
-  past_on (Ticks t) = same_master [] (rw t.is (sym (append-nil old.messages))) (rw t.is refl) (λ number call is. cc)
+      (λ number call is of. let before = (h.sent client number call is).past in absurd (omega arith))))
+  past_on (Joins j) = inl (same_master [] (rw j.is (sym (append-nil old.messages))) (rw j.is refl) (λ number call is. cc))
+  past_on (Asks a) = inl (own_past (asks_own old step new printed a))
+  past_on (Beats beats) = inl (own_past (beats_own old step new printed beats))
+  past_on (Gives g) = inl (own_past (gives_own old step new printed g))
+  past_on (Ticks t) = inl (same_master [] (rw t.is (sym (append-nil old.messages))) (rw t.is refl) (λ number call is. cc))
   past_on (Takes t) =
       let s = noted t.master old.clock in
       let asked = λ (call : CallMessage) (e : t.request ≡ requests.Call call). h.named t.at call (t.was_sent ∙ ap (λ r. Some r) e) in
       let past = take_past old.messages s t.request t.case client n asked (past_at old.messages client n old.master t.master t.is_up b.past) in
-      subst (λ (x : WorldState). PastIn x.messages client x.master n) (sym t.is) (outs_later old.messages (taken_by s t.request t.case).1.outs client (taken_by s t.request t.case).0 n past)
+      inl (subst (λ (x : WorldState). PastIn x.messages client x.master n) (sym t.is) (outs_later old.messages (taken_by s t.request t.case).1.outs client (taken_by s t.request t.case).0 n past))
   past_on (Sweeps t) =
       let s = noted t.master old.clock in
-      let past = sweep_past old.messages s client n (noted_fits old h t.master t.is_up) (past_at old.messages client n old.master t.master t.is_up b.past) t.case in
-      let later = outs_later old.messages (swept_by s t.case).1.outs client (swept_master s t.case t.action) n (telling_past old.messages (swept_by s t.case).0 client n (action_tellings s t.action) past) in
-      subst (λ (x : WorldState). PastIn x.messages client x.master n) (sym t.is) later
-  past_on (GoesDown d) = subst (λ (x : WorldState). PastIn x.messages client x.master n) (sym d.is) tt
-  past_on (CutsSweep k) = subst (λ (x : WorldState). PastIn x.messages client x.master n) (sym k.is) tt
-  past_on (CutsUp k) = let none : new.master ≡ None = ap (λ (w : WorldState). w.master) k.is ∙ k.comes.none in rw none tt
-  past_on (LosesUp k) = let none : new.master ≡ None = ap (λ (w : WorldState). w.master) k.is ∙ k.none in rw none tt
+      let k = noted_kept old.cell old.rows t.master old.clock (agrees_at old old.master t.master t.is_up h.master) in
+      let P : Type 0 = PastMaster old.messages client (swept_by s t.case).0 n in
+      elim (settled old.cell old.rows s k client t.case P (sweep_past old.messages s client n (noted_fits old h t.master t.is_up) (past_at old.messages client n old.master t.master t.is_up b.past) t.case)) [
+        | inl past ↦ inl (subst (λ (x : WorldState). PastIn x.messages client x.master n) (sym t.is) (outs_later old.messages (swept_by s t.case).1.outs client (swept_master s t.case t.action) n (telling_past old.messages (swept_by s t.case).0 client n (action_tellings s t.action) past)))
+        | inr goes ↦ inr (subst (λ (x : WorldState). IsGoneIn x.rows client) (sym t.is) goes.gone)
+      ]
+  past_on (GoesDown d) = inl (subst (λ (x : WorldState). PastIn x.messages client x.master n) (sym d.is) tt)
+  past_on (CutsSweep k) = inl (subst (λ (x : WorldState). PastIn x.messages client x.master n) (sym k.is) tt)
+  past_on (CutsUp k) = let none : new.master ≡ None = ap (λ (w : WorldState). w.master) k.is ∙ k.comes.none in inl (rw none tt)
+  past_on (LosesUp k) = let none : new.master ≡ None = ap (λ (w : WorldState). w.master) k.is ∙ k.none in inl (rw none tt)
 
-  beyond_on : WorldCase old step new printed → Beyond new client n
-  beyond_on c = record { counted = counted_on c; past = past_on c }
+  beyond_on : WorldCase old step new printed → Lasts new client n
+  beyond_on c = elim (past_on c) [
+    | inl past ↦ inl (record { counted = counted_on c; past = past })
+    | inr goes ↦ inr goes
+  ]
 
   abbrev StaysOn : Type 0
   StaysOn = (q : ℕ) → Stays n q (waits_in old client) (waits_in new client)
@@ -489,24 +501,37 @@ module _ (client n : ℕ) (old : WorldState) (step : Step) (new : WorldState) (p
   stays_on (CutsUp k) = gone (ap (λ (w : WorldState). w.master) k.is ∙ k.comes.none)
   stays_on (LosesUp k) = gone (ap (λ (w : WorldState). w.master) k.is ∙ k.none)
 
-does_beyond : (client n : ℕ) (old : WorldView) (step : Step) (new : WorldView) (printed : List Line) → IsConsistent old.world → Beyond old.world client n → Does old step new printed → Beyond new.world client n
-does_beyond client n old step new printed h b (inl m) = beyond_on client n old.world step new.world printed h b (world_case old.world step new.world printed h.master m.is_step)
-does_beyond client n old step new printed h b (inr r) = subst (λ (x : WorldState). Beyond x client n) (sym r.left.same) b
+-- a client of which nothing is known waits for nothing
+none_waits_in : (w : WorldState) → IsConsistent w → (client : ℕ) → IsGoneIn w.rows client → (m : Option MasterState) → w.master ≡ m → waits_in w client ≡ []
+none_waits_in w h client goes None up = none_up w client up
+none_waits_in w h client goes (Some s) up =
+    let none : session_of s client ≡ None = gone_session w.cell w.rows s (agrees_at w w.master s up h.master) client goes in
+    waits_up w client s up ∙ subst (λ o. IsInTurn o (waiting client s.gate.waiting)) none ((noted_fits w h s up).turns client)
 
-does_stays : (client n : ℕ) (old : WorldView) (step : Step) (new : WorldView) (printed : List Line) → IsConsistent old.world → Beyond old.world client n → Does old step new printed → (q : ℕ) → Stays n q (waits_in old.world client) (waits_in new.world client)
-does_stays client n old step new printed h b (inl m) = stays_on client n old.world step new.world printed h b (world_case old.world step new.world printed h.master m.is_step)
-does_stays client n old step new printed h b (inr r) = as_before client n old.world step new.world printed h b (ap (λ (w : WorldState). w.master) r.left.same)
+does_beyond : (client n : ℕ) (old : WorldView) (step : Step) (new : WorldView) (printed : List Line) → IsConsistent old.world → Lasts old.world client n → Does old step new printed → Lasts new.world client n
+does_beyond client n old step new printed h (inl b) (inl m) = beyond_on client n old.world step new.world printed h b (world_case old.world step new.world printed h.master m.is_step)
+does_beyond client n old step new printed h (inr goes) (inl m) = inr (gone_on client old.world step new.world printed h.master goes (world_case old.world step new.world printed h.master m.is_step))
+does_beyond client n old step new printed h b (inr r) = subst (λ (x : WorldState). Lasts x client n) (sym r.left.same) b
+
+does_stays : (client n : ℕ) (old : WorldView) (step : Step) (new : WorldView) (printed : List Line) → IsConsistent old.world → Lasts old.world client n → Does old step new printed → (q : ℕ) → Stays n q (waits_in old.world client) (waits_in new.world client)
+does_stays client n old step new printed h (inl b) (inl m) = stays_on client n old.world step new.world printed h b (world_case old.world step new.world printed h.master m.is_step)
+does_stays client n old step new printed h (inl b) (inr r) = as_before client n old.world step new.world printed h b (ap (λ (w : WorldState). w.master) r.left.same)
+does_stays client n old step new printed h (inr goes) does = λ q is. let nobody : q ∷ [] ≡ [] = sym is ∙ none_waits_in new.world (does_holds old step new printed h does) client (rows_then does) new.world.master refl in absurd cc
+  where
+    rows_then : Does old step new printed → IsGoneIn new.world.rows client
+    rows_then (inl m) = gone_on client old.world step new.world printed h.master goes (world_case old.world step new.world printed h.master m.is_step)
+    rows_then (inr r) = subst (λ (x : WorldState). IsGoneIn x.rows client) (sym r.left.same) goes
 
 -- ---- a run
 
-run_stays_on : (client n : ℕ) (old : WorldView) (made : List Step) (printed : List Line) (new : WorldView) → IsConsistent old.world → Beyond old.world client n → Run old made printed new → (q : ℕ) → Stays n q (waits_in old.world client) (waits_in new.world client)
+run_stays_on : (client n : ℕ) (old : WorldView) (made : List Step) (printed : List Line) (new : WorldView) → IsConsistent old.world → Lasts old.world client n → Run old made printed new → (q : ℕ) → Stays n q (waits_in old.world client) (waits_in new.world client)
 run_stays_on client n old [] printed new h b run q is = inl (ap (λ (v : WorldView). waits_in v.world client) (sym run.1) ∙ is)
 run_stays_on client n old (step ∷ made) printed new h b run q is =
     ⊎_elim (λ between. does_stays client n old step run.0 run.1 h b run.3 q between) (λ later. inr later)
     (run_stays_on client n run.0 made run.2 new (does_holds old step run.0 run.1 h run.3) (does_beyond client n old step run.0 run.1 h b run.3) run.4 q is)
 
-run_beyond : (client n : ℕ) (old : WorldView) (made : List Step) (printed : List Line) (new : WorldView) → IsConsistent old.world → Beyond old.world client n → Run old made printed new → Beyond new.world client n
-run_beyond client n old [] printed new h b run = subst (λ (v : WorldView). Beyond v.world client n) (sym run.1) b
+run_beyond : (client n : ℕ) (old : WorldView) (made : List Step) (printed : List Line) (new : WorldView) → IsConsistent old.world → Lasts old.world client n → Run old made printed new → Lasts new.world client n
+run_beyond client n old [] printed new h b run = subst (λ (v : WorldView). Lasts v.world client n) (sym run.1) b
 run_beyond client n old (step ∷ made) printed new h b run =
     run_beyond client n run.0 made run.2 new (does_holds old step run.0 run.1 h run.3) (does_beyond client n old step run.0 run.1 h b run.3) run.4
 
@@ -557,6 +582,6 @@ run_turns old made new h = record {
       let k = run_consistent old front before here h first in
       let l = run_consistent here (step ∷ []) told_then next k left in
       let b = at_turn here.world k client number here.world.master refl waited in
-      let c = run_beyond client number here (step ∷ []) told_then next k b left in
+      let c = run_beyond client number here (step ∷ []) told_then next k (inl b) left in
       ⊎_elim (λ before_then. let nobody : later_number ∷ [] ≡ [] = sym before_then ∙ gone_now in absurd cc) (λ above. above) (run_stays_on client number next part between later l c onward later_number waits_then);
 }

@@ -36,10 +36,12 @@ IsLeaving w c = (member : WorldClient) × (member_of w c ≡ Some member) × (me
 abbrev pub IsFreeToChange : MasterState → List ℕ → Type 0
 IsFreeToChange s x = (0 < touching x s.gate.waiting) × ((c : ℕ) → holds c x s.rights ≡ false)
 
+-- a session may end, a new one may begin, and one that never began may be late
 abbrev pub StandsBeside : WorldState → MasterState → Rows → ℕ → Type 0
 StandsBeside w s rows c =
     (standing_in rows c ≡ standing_in w.rows c)
-    ⊎ (((standing_in rows c ≡ Ended) × (standing_in w.rows c ≡ Live) × (IsOver w.clock s c ⊎ IsLeaving w c)) ⊎ ((standing_in rows c ≡ Live) × (standing_in w.rows c ≡ Never)))
+    ⊎ (((standing_in rows c ≡ Ended) × (standing_in w.rows c ≡ Live) × (IsOver w.clock s c ⊎ IsLeaving w c))
+    ⊎ (((standing_in rows c ≡ Live) × (standing_in w.rows c ≡ Never)) ⊎ ((standing_in rows c ≡ Ended) × (standing_in w.rows c ≡ Never))))
 
 -- where the rows differ from those that stand, the master may still make the difference
 pub record GoesBeside (w : WorldState) (s : MasterState) (rows : Rows) : Type 0 where

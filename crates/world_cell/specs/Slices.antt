@@ -1,5 +1,5 @@
 -- What a world shows of one client and one name: their slice.
-use Rattle.std.specs.Prelude.{ℕ, Bool, true, false, not, ◌&&◌, ◌||◌, ◌==◌, nat_le, List, [], ◌∷◌, ◌++◌, fold, Option, Some, None, if◌then◌else◌}
+use Rattle.std.specs.Prelude.{ℕ, Bool, true, false, not, ◌&&◌, ◌||◌, ◌==◌, nat_lt, nat_le, List, [], ◌∷◌, ◌++◌, fold, Option, Some, None, if◌then◌else◌}
 use Rattle.std.specs.Option.{option_map_or}
 use Rattle.std.specs.Str.{bytes_eq}
 use Rattle.std.specs.Map.{lookup}
@@ -49,13 +49,22 @@ abbrev pub standing_so : Bool → one.Session
 standing_so true = one.Live
 standing_so false = one.Ended
 
+-- without a row: a session that has ended, or can't begin any more, where the number is late, and else none yet
+abbrev pub standing_late : Bool → one.Session
+standing_late true = one.Ended
+standing_late false = one.Never
+
 -- what the rows say of a client's session
-abbrev pub standing_of : Option of_rows.SessionRow → one.Session
-standing_of None = one.Never
-standing_of (Some session) = standing_so session.live
+abbrev pub standing_of : Bool → Option of_rows.SessionRow → one.Session
+standing_of late None = standing_late late
+standing_of late (Some session) = standing_so session.live
+
+-- a client of this number that has no session gets none any more
+abbrev pub is_late : Rows → ℕ → Bool
+is_late rows client = nat_lt client rows.ended_below
 
 abbrev pub standing_in : Rows → ℕ → one.Session
-standing_in rows client = standing_of (lookup (is_at (nat_cmp client)) rows.sessions)
+standing_in rows client = standing_of (is_late rows client) (lookup (is_at (nat_cmp client)) rows.sessions)
 
 -- ---- the master's session
 

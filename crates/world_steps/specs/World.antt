@@ -82,7 +82,7 @@ abbrev pub store_in : WorldView → Store
 store_in w = record { cell = w.world.cell; rows = w.world.rows; may_leave = w.may_leave; refusals = w.refusals; doubt = w.doubt }
 
 abbrev pub no_store : Store
-no_store = record { cell = []; rows = record { cell = []; secret = []; epoch = 0; next_instance = 0; nodes = []; sessions = []; locks = [] }; may_leave = []; refusals = 0; doubt = 0 }
+no_store = record { cell = []; rows = record { cell = []; secret = []; epoch = 0; next_instance = 0; nodes = []; sessions = []; ended_below = 0; locks = [] }; may_leave = []; refusals = 0; doubt = 0 }
 
 -- the store is with a master while one is up, and else with the records by themselves
 abbrev pub held : Option Store → Option Store → Store

@@ -114,6 +114,7 @@ pub(crate) fn rows_of(
         secret: meta.secret,
         epoch: meta.epoch,
         next_instance: meta.next_instance,
+        ended_below: meta.ended_below,
         nodes,
         sessions,
         locks,

@@ -2,7 +2,7 @@
 ghost use Rattle.std.specs.Prelude.{◌≡◌, ◌==◌, IfOk};
 ghost use Rattle.sqlite_value.specs.Order.{column, bytes};
 ghost use Rattle.sqlite.specs.Edit.{id_in};
-ghost use Rattle.rows_sql.specs.Decode.{count_of, count_in, node_with, name_in, component_in, secret_in, kind_of, life_of, live_of, lock_state_of, numbers_in, acls_in, node_in, session_in, lock_in, child_in, is_row_of, meta_as};
+ghost use Rattle.rows_sql.specs.Decode.{count_of, count_in, node_with, name_in, component_in, secret_in, kind_of, life_of, live_of, lock_state_of, numbers_in, acls_in, node_in, session_in, lock_in, child_in, none_below, above_third, ended_of, is_row_of, meta_as};
 
 use crate::schema::Version;
 use collections::{Bytes, Secret};
@@ -40,6 +40,7 @@ pub struct Meta {
     pub secret: Secret,
     pub epoch: u64,
     pub next_instance: u64,
+    pub ended_below: u64,
 }
 
 // The bytes of a text or a blob.
@@ -299,11 +300,42 @@ pub(crate) fn child_of(alloc: Global, row: &Row) -> Result<Option<(Name, Name)>,
     Ok(Some((child, parent)))
 }
 
-// Whether it is the row of a cell, with the number of this version.
-fn is_row_of(version: Version, row: &Row) -> bool
-    ensures { result ≡ is_row_of version row.now }
+// Whether it is the row of a cell.
+fn is_row_of(row: &Row) -> bool
+    ensures { result ≡ is_row_of row.now }
 {
-    number_at(row, 0) == 1 && number_at(row, 1) == version.number()
+    number_at(row, 0) == 1
+}
+
+// No session is forgotten by a store of a version before: its number is that of the version.
+fn none_below(version: Version, number: i64) -> Option<u64>
+    ensures { result ≡ none_below version number }
+{
+    if number == version.number() {
+        Some(0)
+    } else {
+        None
+    }
+}
+
+// By how much it is above the number of the version of now.
+fn above_third(count: Option<u64>) -> Option<u64>
+    ensures { result ≡ above_third count }
+{
+    let count = count?;
+    if count < 3 { None } else { Some(count - 3) }
+}
+
+// Below which number the sessions that no row names have ended.
+fn ended_of(version: Version, number: i64) -> Option<u64>
+    ensures { result ≡ ended_of version number }
+{
+    match version {
+        Version::First => none_below(version, number),
+        Version::Unindexed => none_below(version, number),
+        Version::Second => none_below(version, number),
+        Version::Third => above_third(count_of(number)),
+    }
 }
 
 /// What the row of the cell says, in a store of this version.
@@ -314,9 +346,12 @@ pub(crate) fn meta_of(
 ) -> Result<Option<Meta>, AllocError>
     ensures { IfOk result (λ meta. meta ≡ meta_as version row.now) }
 {
-    if !is_row_of(version, row) {
+    if !is_row_of(row) {
         return Ok(None);
     }
+    let Some(ended_below) = ended_of(version, number_at(row, 1)) else {
+        return Ok(None);
+    };
     let Some(epoch) = count_at(row, 4) else {
         return Ok(None);
     };
@@ -334,5 +369,6 @@ pub(crate) fn meta_of(
         secret,
         epoch,
         next_instance,
+        ended_below,
     }))
 }

@@ -7,8 +7,8 @@ ghost use Rattle.rows_sql.specs.Ongoing.{Changed, Committed, MayCommit};
 ghost use Rattle.rows_sql.specs.Overtaken.{sets_next, is_overtaken, GoesOver};
 
 use crate::writing::edits::{
-    put_lock, put_node, put_session, remove_lock, remove_node, set_epoch, set_lock_generation,
-    set_next_instance,
+    put_lock, put_node, put_session, remove_lock, remove_node, remove_session, set_ended_below,
+    set_epoch, set_lock_generation, set_next_instance,
 };
 use rows_cell::Edit;
 use sqlite::{Alter, Connection, Error, Transaction};
@@ -27,6 +27,8 @@ fn edit<S: Alter>(tx: &mut Transaction<'_, S>, edit: &Edit) -> Result<(), Error>
         Edit::LockGeneration(name, generation) => set_lock_generation(tx, name, *generation),
         Edit::RemoveNode(name) => remove_node(tx, name),
         Edit::PutSession(client, session) => put_session(tx, *client, session),
+        Edit::RemoveSession(client) => remove_session(tx, *client),
+        Edit::EndedBelow(next) => set_ended_below(tx, *next),
         Edit::PutLock(key, row) => put_lock(tx, key, row),
         Edit::RemoveLock(key) => remove_lock(tx, key),
     }

@@ -1,13 +1,13 @@
-//! The eight edits, in a transaction: each is one statement. A put of a node is one of two: which is tried first is read off the
+//! The ten edits, in a transaction: each is one statement. A put of a node is one of two: which is tried first is read off the
 //! node, and if that finds the row otherwise, the other one is made.
 ghost use Rattle.std.specs.Prelude.{◌≡◌, ◌∷◌, [], OnOk, OnErr, IfOk, IsTrue};
 ghost use Rattle.sqlite.specs.Values.{bound};
 ghost use Rattle.sqlite.specs.State.{HasCleanDisk, KeepsCommit, Survives};
 ghost use Rattle.sqlite.specs.Held.{state};
-ghost use Rattle.rows_cell.specs.declared.tables.Edit.TheVariants.{Epoch, NextInstance, PutNode, LockGeneration, RemoveNode, PutSession, PutLock, RemoveLock};
+ghost use Rattle.rows_cell.specs.declared.tables.Edit.TheVariants.{Epoch, NextInstance, PutNode, LockGeneration, RemoveNode, PutSession, RemoveSession, EndedBelow, PutLock, RemoveLock};
 ghost use Rattle.rows_sql.specs.Ongoing.{RanInside, RanCounted, Changed, Renews, IsSpared};
 
-use crate::writing::values::{kind_as, life_as, live_as, mode_as, number};
+use crate::writing::values::{kind_as, life_as, live_as, mode_as, number, version_with};
 use names_cell::Name;
 use node_core::Node;
 use rows_cell::{LockKey, LockRow, SessionRow};
@@ -71,6 +71,20 @@ pub(crate) fn set_next_instance<S: Alter>(
         "UPDATE meta SET next_instance = ?1 WHERE id = 1 AND next_instance <> ?1",
         &[next],
     )
+}
+
+/// Sets below which number the sessions that no row names have ended.
+pub(crate) fn set_ended_below<S: Alter>(
+    tx: &mut Transaction<'_, S>,
+    ended_below: u64,
+) -> Result<(), Error>
+    ensures same { tx.new.conn.ghost_name ≡ tx.old.conn.ghost_name }
+    ensures ok { HasCleanDisk (state S.Store tx.new.conn.now) → OnOk result (Changed (EndedBelow ended_below ∷ []) (state S.Store tx.old.conn.now) (state S.Store tx.new.conn.now)) }
+    ensures kept { HasCleanDisk (state S.Store tx.new.conn.now) → KeepsCommit (state S.Store tx.old.conn.now) (state S.Store tx.new.conn.now) }
+    ensures survives { Survives (state S.Store tx.old.conn.now) (state S.Store tx.new.conn.now) (λ _. ⊥) }
+{
+    let version = version_with(ended_below)?;
+    run(tx, "UPDATE meta SET version = ?1 WHERE id = 1", &[version])
 }
 
 /// Puts a node: one that is there keeps the generation of its lock.
@@ -237,6 +251,20 @@ pub(crate) fn put_session<S: Alter>(
         "INSERT INTO sessions (client, principal, live) VALUES (?1, ?2, ?3) ON CONFLICT (client) DO UPDATE SET principal = excluded.principal, live = excluded.live",
         &[client, ValueRef::Text(principal), live],
     )
+}
+
+/// Removes a session.
+pub(crate) fn remove_session<S: Alter>(
+    tx: &mut Transaction<'_, S>,
+    client: u64,
+) -> Result<(), Error>
+    ensures same { tx.new.conn.ghost_name ≡ tx.old.conn.ghost_name }
+    ensures ok { HasCleanDisk (state S.Store tx.new.conn.now) → OnOk result (Changed (RemoveSession client ∷ []) (state S.Store tx.old.conn.now) (state S.Store tx.new.conn.now)) }
+    ensures kept { HasCleanDisk (state S.Store tx.new.conn.now) → KeepsCommit (state S.Store tx.old.conn.now) (state S.Store tx.new.conn.now) }
+    ensures survives { Survives (state S.Store tx.old.conn.now) (state S.Store tx.new.conn.now) (λ _. ⊥) }
+{
+    let client = number(client)?;
+    run(tx, "DELETE FROM sessions WHERE client = ?1", &[client])
 }
 
 /// Puts a holder of a lock, or a lapsed lock.

@@ -1,5 +1,5 @@
 //! Values of a row, as SQL has them.
-ghost use Rattle.std.specs.Prelude.{IfOk};
+ghost use Rattle.std.specs.Prelude.{IfOk, ◌+◌};
 ghost use Rattle.rows_sql.specs.Decode.{kind_of, life_of, live_of, lock_state_of};
 ghost use Rattle.rows_sql.specs.Numbers.{IsNumber, IsReadAs};
 
@@ -15,6 +15,16 @@ pub(crate) fn number<'a>(x: u64) -> Result<ValueRef<'a>, Error>
     match i64::try_from(x) {
         Ok(n) => Ok(ValueRef::Int(n)),
         Err(_) => Err(Error::IntegralValueOutOfRange(0)),
+    }
+}
+
+/// The number in the row of a cell by which sessions below this one have ended: refused above 2^63-4.
+pub(crate) fn version_with<'a>(ended_below: u64) -> Result<ValueRef<'a>, Error>
+    ensures { IfOk result (λ v. IsNumber v (ended_below + 3)) }
+{
+    match ended_below.checked_add(3) {
+        Some(version) => number(version),
+        None => Err(Error::IntegralValueOutOfRange(0)),
     }
 }
 

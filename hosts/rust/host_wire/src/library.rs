@@ -108,6 +108,7 @@ pub struct OwnParts {
     pub number: u64,
     pub epoch: u64,
     pub next_instance: u64,
+    pub ended_below: u64,
     pub rows: u64,
     pub length: u64,
 }

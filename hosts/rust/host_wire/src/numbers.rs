@@ -51,6 +51,8 @@ numbers! {
     EDIT_PUT_SESSION = 6
     EDIT_PUT_LOCK = 7
     EDIT_REMOVE_LOCK = 8
+    EDIT_REMOVE_SESSION = 9
+    EDIT_ENDED_BELOW = 10
     DONE = 0
 }
 

@@ -34,6 +34,10 @@ pub enum Edit {
     PutLock(LockKey, Lock),
     /// It goes.
     RemoveLock(LockKey),
+    /// The session of a client, which has ended, isn't recorded any more.
+    RemoveSession(u64),
+    /// A client number below it that has no session gets none any more.
+    EndedBelow(u64),
 }
 
 /// A node, without the generation of its lock.
@@ -89,6 +93,8 @@ pub struct Own<'a> {
     pub epoch: u64,
     /// The instance of the next node.
     pub next_instance: u64,
+    /// A client number below it that has no session gets none any more.
+    pub ended_below: u64,
 }
 
 impl Question {
@@ -147,6 +153,8 @@ impl Edit {
             numbers::EDIT_PUT_SESSION => Edit::PutSession(parts.client, Session { principal: name, is_live: parts.live == 1 }),
             numbers::EDIT_PUT_LOCK => Edit::PutLock(key, Lock { state: parts.state, delay: parts.delay }),
             numbers::EDIT_REMOVE_LOCK => Edit::RemoveLock(key),
+            numbers::EDIT_REMOVE_SESSION => Edit::RemoveSession(parts.client),
+            numbers::EDIT_ENDED_BELOW => Edit::EndedBelow(parts.number),
             _ => return None,
         })
     }
@@ -189,8 +197,8 @@ impl Own<'_> {
     /// What goes out before so many rows, which have so many bytes together; None where that can't be told.
     #[must_use]
     pub fn before(&self, rows: usize, length: usize) -> Option<Vec<u8>> {
-        let Own { number, cell, secret, epoch, next_instance } = *self;
-        rows_front(OwnParts { number, epoch, next_instance, rows: rows as u64, length: length as u64 }, cell, secret)
+        let Own { number, cell, secret, epoch, next_instance, ended_below } = *self;
+        rows_front(OwnParts { number, epoch, next_instance, ended_below, rows: rows as u64, length: length as u64 }, cell, secret)
     }
 }
 
@@ -236,7 +244,9 @@ mod tests {
             (EditParts { live: 0, ..named(6) }, Some(Edit::PutSession(1, Session { principal: name(), is_live: false }))),
             (parts(7), Some(Edit::PutLock((4, 1, 2), Lock { state: 1, delay: 60 }))),
             (parts(8), Some(Edit::RemoveLock((4, 1, 2)))),
-            (parts(9), None),
+            (parts(9), Some(Edit::RemoveSession(1))),
+            (parts(10), Some(Edit::EndedBelow(3))),
+            (parts(11), None),
             (EditParts { name_length: 99, ..parts(5) }, None),
         ];
         for (parts, wanted) in rows {
@@ -272,7 +282,7 @@ mod tests {
         let session = |principal: &str| Session { principal: principal.to_owned(), is_live: true };
         assert_eq!([session("ann"), session("Ann")].map(|session| session.row(1).is_some()), [true, false]);
         assert_eq!([2, 3].map(|state| Lock { state, delay: 60 }.row((4, 1, 2)).is_some()), [true, false]);
-        let own = |cell, secret| Own { number: 0, cell, secret, epoch: 1, next_instance: 4 };
+        let own = |cell, secret| Own { number: 0, cell, secret, epoch: 1, next_instance: 4, ended_below: 2 };
         let rows = [
             (own("c", &[0; 32]), 0, true),
             (own("c", &[0; 31]), 0, false),

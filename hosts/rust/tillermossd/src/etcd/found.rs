@@ -20,6 +20,9 @@ const PAUSE: Duration = Duration::from_millis(100);
 /// How much higher clients' numbers go on where nobody knows the last one.
 const CLIENTS: u64 = 1 << 20;
 
+/// The number in a new store's own row. One by which sessions have ended adds below which client number.
+const VERSION: u64 = 3;
+
 /// The tables of a store, as far as they are read here.
 #[cfg(test)]
 const TABLES: &str = "
@@ -155,7 +158,11 @@ impl Found {
     /// A number that no client has, where nobody has noted the next one.
     #[must_use]
     pub fn first_client(&self) -> u64 {
-        self.sessions.keys().last().map_or(1, |last| last + CLIENTS)
+        let ended_below = self.meta.as_ref().map_or(0, |(meta, _)| meta.ended_below);
+        match self.sessions.keys().last().copied().unwrap_or(0).max(ended_below.saturating_sub(1)) {
+            0 => 1,
+            last => last + CLIENTS,
+        }
     }
 
     /// What the settings of a cell may say of it. None where no cell stands there.
@@ -227,8 +234,8 @@ impl Found {
         connection.execute_batch("DELETE FROM locks; DELETE FROM sessions; DELETE FROM nodes;")?;
         if let Some((meta, _)) = &self.meta {
             let secret = hex::decode(&meta.secret)?;
-            let set = "UPDATE meta SET cell = ?, secret = ?, epoch = ?, next_instance = ? WHERE id = 1";
-            connection.execute(set, params![meta.cell, secret, meta.epoch, meta.next_instance])?;
+            let set = "UPDATE meta SET version = ?, cell = ?, secret = ?, epoch = ?, next_instance = ? WHERE id = 1";
+            connection.execute(set, params![VERSION + meta.ended_below, meta.cell, secret, meta.epoch, meta.next_instance])?;
         }
         let mut put = connection.prepare(
             "INSERT INTO nodes (name, instance, kind, life, content_gen, acl_gen, lock_gen, acl_read, acl_write, acl_change, content)
@@ -272,9 +279,11 @@ impl Found {
         let read = |row: &rusqlite::Row| {
             let secret: Vec<u8> = row.get(1)?;
             let (cell, secret) = (row.get(0)?, hex::encode(secret));
-            Ok(Meta { cell, secret, epoch: row.get(2)?, next_instance: row.get(3)?, number: 0, by: 0, keeper: 0, turn: 0 })
+            let ended_below = row.get::<_, u64>(4)?.saturating_sub(VERSION);
+            Ok(Meta { cell, secret, epoch: row.get(2)?, next_instance: row.get(3)?, ended_below, number: 0, by: 0, keeper: 0, turn: 0 })
         };
-        found.meta = Some((connection.query_row("SELECT cell, secret, epoch, next_instance FROM meta WHERE id = 1", [], read)?, 0));
+        found.meta =
+            Some((connection.query_row("SELECT cell, secret, epoch, next_instance, version FROM meta WHERE id = 1", [], read)?, 0));
         let mut nodes = connection.prepare(
             "SELECT name, kind, instance, content_gen, acl_gen, acl_read, acl_write, acl_change, life, content, lock_gen FROM nodes",
         )?;
@@ -338,7 +347,17 @@ pub mod tests {
 
     // Two nodes, of which one is locked, and a session.
     pub fn found() -> Found {
-        let meta = Meta { cell: "c".to_owned(), secret: "00".repeat(32), epoch: 3, next_instance: 5, number: 0, by: 0, keeper: 0, turn: 0 };
+        let meta = Meta {
+            cell: "c".to_owned(),
+            secret: "00".repeat(32),
+            epoch: 3,
+            next_instance: 5,
+            ended_below: 1,
+            number: 0,
+            by: 0,
+            keeper: 0,
+            turn: 0,
+        };
         let node = |kind: &str, instance, content: &[u8]| NodeRow {
             kind: kind.to_owned(),
             instance,

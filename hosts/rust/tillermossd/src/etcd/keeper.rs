@@ -97,6 +97,8 @@ impl Change {
                 self.put(lock_key(*key), Some(serde_json::to_vec(&lock)?));
             }
             Edit::RemoveLock(key) => self.put(lock_key(*key), None),
+            Edit::RemoveSession(client) => self.put(format!("sessions/{client}"), None),
+            Edit::EndedBelow(next) => self.meta.ended_below = *next,
         }
         Ok(())
     }
@@ -377,6 +379,17 @@ mod tests {
         assert!(keeper.commit(1, &edits).unwrap());
         assert_eq!(etcd.gateway().revision("c/meta").unwrap(), before + 1);
         assert_eq!(etcd.shown().iter().filter(|(key, _)| key.starts_with("c/sessions/")).count(), edits.len());
+    }
+
+    #[test]
+    fn a_session_that_goes_is_deleted_and_its_number_noted() {
+        let etcd = Pretended::start();
+        let mut keeper = keeper(&etcd);
+        assert!(keeper.commit(1, &edits()).unwrap());
+        assert!(keeper.commit(2, &[Edit::RemoveSession(7), Edit::EndedBelow(8)]).unwrap());
+        assert_eq!(stands(&etcd), (2, false));
+        let read = Found::read(&etcd.gateway(), "c/", || Ok(())).unwrap();
+        assert_eq!((read.meta.as_ref().unwrap().0.ended_below, read.sessions.len(), read.first_client()), (8, 0, 7 + (1 << 20)));
     }
 
     #[test]

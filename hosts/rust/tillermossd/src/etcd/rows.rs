@@ -74,6 +74,9 @@ pub struct Meta {
     pub epoch: u64,
     /// The instance of the next node.
     pub next_instance: u64,
+    /// A client number below it that has no session gets none any more.
+    #[serde(default)]
+    pub ended_below: u64,
     /// The number of the last commit.
     pub number: u64,
     /// Under which mastership it was made: the revision by which that began.
@@ -207,7 +210,8 @@ impl RowsAnswer {
     /// That these are all rows: so many, and their bytes.
     pub fn rows(meta: &Meta, count: usize, rows: Vec<u8>) -> Result<RowsAnswer> {
         let secret = hex::decode(&meta.secret)?;
-        let own = Own { number: meta.number, cell: &meta.cell, secret: &secret, epoch: meta.epoch, next_instance: meta.next_instance };
+        let Meta { number, epoch, next_instance, ended_below, .. } = *meta;
+        let own = Own { number, cell: &meta.cell, secret: &secret, epoch, next_instance, ended_below };
         let front = own.before(count, rows.len()).context("the rows are more than 4 GiB, or the cell's own row is none")?;
         Ok(RowsAnswer::Rows(front, rows))
     }

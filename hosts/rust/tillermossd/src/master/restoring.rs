@@ -22,6 +22,9 @@ const FORGET: &str = "
     UPDATE nodes SET content_gen = content_gen + ?GAP WHERE kind = 0;
     UPDATE meta SET next_instance = next_instance + ?GAP, epoch = MAX(epoch, ?EPOCH);";
 
+/// The last client number that the copy knows: it has a session, or is just below those that have ended.
+const LAST: &str = "SELECT MAX((SELECT COALESCE(MAX(client), 0) FROM sessions), (SELECT version FROM meta WHERE id = 1) - 4)";
+
 /// Makes the store, which isn't there, of a copy.
 pub fn restore(copy: &Path, path: &Path) -> Result<()> {
     let _lock = take_lock(&beside(path, "lock"))?;
@@ -33,7 +36,7 @@ pub fn restore(copy: &Path, path: &Path) -> Result<()> {
     let copied = store::copied(&folder);
     let connection = store::open(&copied).with_context(at)?;
     let head = Head::read(&connection).with_context(at)?;
-    let last: u64 = connection.query_row("SELECT COALESCE(MAX(client), 0) FROM sessions", [], |row| row.get(0))?;
+    let last: u64 = connection.query_row(LAST, [], |row| row.get(0))?;
     let (mut numbers, coming) = numbers(path, last, head.coming)?;
     let script = FORGET.replace("?GAP", &GAP.to_string()).replace("?EPOCH", &coming.to_string());
     connection.execute_batch(&format!("BEGIN;{script}COMMIT;"))?;
